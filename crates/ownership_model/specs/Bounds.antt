@@ -1,0 +1,73 @@
+-- The limits of a state (profile of this project): which numbers handles, cells and objects may have, and how many
+-- fields a value may have. They bound the counts.
+use Rattle.std.specs.Prelude.{ℕ, ◌≤◌, List, [], ◌∷◌, Option, Some, None, length}
+use Rattle.std.specs.FinMap.{get}
+use Rattle.trace_types.specs.declared.slots.Slot.{Slot}
+use Rattle.trace_types.specs.declared.slots.Holding.{Holding}
+use Rattle.trace_types.specs.declared.slots.Holding.TheVariants as holding
+use Rattle.trace_types.specs.declared.slots.Entry.{Entry}
+use Rattle.trace_types.specs.declared.slots.Entry.TheVariants.{Alive, Husk}
+use Rattle.trace_types.specs.declared.slots.Change.{Change}
+use Rattle.trace_types.specs.declared.slots.Change.TheVariants.{SetHandle, EndHandle, SetCell, EndCell, SetField, Make, TurnHusk}
+use Rattle.ownership_model.specs.State.{State}
+use Rattle.ownership_model.specs.declared.plan.Plan.{Plan}
+use Rattle.ownership_model.specs.declared.plan.Plan.TheVariants.{Skip, Act}
+
+-- the greatest number of a handle or of a cell
+abbrev pub max_name : ℕ
+max_name = 999999
+
+-- the greatest number of an operation, and so of an object
+abbrev pub max_id : ℕ
+max_id = 999999999
+
+-- how many fields a value may have
+abbrev pub max_fields : ℕ
+max_fields = 16
+
+abbrev pub AreFew : List Slot → Type 0
+AreFew fields = length fields ≤ max_fields
+
+abbrev pub HoldingFits : Holding → Type 0
+HoldingFits (holding.Slot s) = Unit {0}
+HoldingFits (holding.Bare fields) = AreFew fields
+
+abbrev pub EntryFits : Entry → Type 0
+EntryFits (Alive fields) = AreFew fields
+EntryFits Husk = Unit {0}
+
+-- what stands at a handle, at a cell, for an object, if anything does
+abbrev pub HandleFits : ℕ → Option Holding → Type 0
+HandleFits h None = Unit {0}
+HandleFits h (Some x) = (h ≤ max_name) × HoldingFits x
+
+abbrev pub CellFits : ℕ → Option Slot → Type 0
+CellFits c None = Unit {0}
+CellFits c (Some s) = c ≤ max_name
+
+abbrev pub ObjectFits : ℕ → Option Entry → Type 0
+ObjectFits o None = Unit {0}
+ObjectFits o (Some e) = (o ≤ max_id) × EntryFits e
+
+pub record IsBounded (m : State) : Type 0 where
+  pub handles : (h : ℕ) → HandleFits h (get m.handles h)
+  pub cells : (c : ℕ) → CellFits c (get m.cells c)
+  pub objects : (o : ℕ) → ObjectFits o (get m.objects o)
+
+-- a change keeps the limits
+abbrev pub ChangeFits : Change → Type 0
+ChangeFits (SetHandle h x) = (h ≤ max_name) × HoldingFits x
+ChangeFits (EndHandle h) = Unit {0}
+ChangeFits (SetCell c s) = c ≤ max_name
+ChangeFits (EndCell c) = Unit {0}
+ChangeFits (SetField o i s) = Unit {0}
+ChangeFits (Make o fields) = (o ≤ max_id) × AreFew fields
+ChangeFits (TurnHusk o) = Unit {0}
+
+abbrev pub ChangesFit : List Change → Type 0
+ChangesFit [] = Unit {0}
+ChangesFit (c ∷ cs) = ChangeFits c × ChangesFit cs
+
+abbrev pub PlanFits : Plan → Type 0
+PlanFits (Skip reason) = Unit {0}
+PlanFits (Act answer changes event pending object) = ChangesFit changes

@@ -1,0 +1,14 @@
+pub mod Totals
+pub mod State
+pub mod Release
+pub mod Changes
+pub mod Bounds
+pub mod View
+pub mod Table
+pub mod Step
+pub mod Twins
+pub mod Carry
+pub mod Agrees
+pub mod Laws
+pub mod Patch
+pub mod Cascade

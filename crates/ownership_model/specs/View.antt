@@ -1,0 +1,139 @@
+-- What an operation reads of a state: what stands at its members, and at the object that its first handle names.
+use Rattle.std.specs.Prelude.{ℕ, ◌==◌, List, [], ◌∷◌, ◌++◌, Option, Some, None, if◌then◌else◌}
+use Rattle.std.specs.List.{list_any}
+use Rattle.std.specs.FinMap.{get}
+use Rattle.trace_types.specs.declared.slots.Slot.{Slot}
+use Rattle.trace_types.specs.declared.slots.Slot.TheVariants.{Nothing, Strong, Weak, Dangling}
+use Rattle.trace_types.specs.declared.slots.Holding.{Holding}
+use Rattle.trace_types.specs.declared.slots.Holding.TheVariants as holding
+use Rattle.trace_types.specs.declared.slots.Entry.{Entry}
+use Rattle.trace_types.specs.declared.kinds.Field.{Field}
+use Rattle.trace_types.specs.declared.kinds.Field.TheVariants as field
+use Rattle.trace_types.specs.declared.kinds.Kind.{Kind}
+use Rattle.trace_types.specs.declared.kinds.Kind.TheVariants as kind
+use Rattle.ownership_model.specs.State.{State, strong, weak}
+
+-- the handles and the cell that an operation names, in the order of the table; `fields` comes last
+pub record Members : Type 0 where
+  pub first : Option ℕ
+  pub second : Option ℕ
+  pub cell : Option ℕ
+  pub fields : List Field
+
+abbrev pub handles_are : Option ℕ → Option ℕ → Members
+handles_are first second = record { first = first; second = second; cell = None; fields = [] }
+
+abbrev pub cell_and : ℕ → Option ℕ → Option ℕ → Members
+cell_and c first second = record { first = first; second = second; cell = Some c; fields = [] }
+
+abbrev pub members : Kind → Members
+members (kind.New to fields) = record { first = Some to; second = None; cell = None; fields = fields }
+members (kind.NewCyclic to fields) = record { first = Some to; second = None; cell = None; fields = fields }
+members (kind.NewFrom from to) = handles_are (Some from) (Some to)
+members (kind.WeakNew to) = handles_are (Some to) None
+members (kind.Null to) = handles_are (Some to) None
+members (kind.Clone from to) = handles_are (Some from) (Some to)
+members (kind.Drop h) = handles_are (Some h) None
+members (kind.Downgrade from to) = handles_are (Some from) (Some to)
+members (kind.Upgrade from to) = handles_are (Some from) (Some to)
+members (kind.TryUnwrap h) = handles_are (Some h) None
+members (kind.IntoInner h) = handles_are (Some h) None
+members (kind.GetMut h) = handles_are (Some h) None
+members (kind.MakeMut h) = handles_are (Some h) None
+members (kind.Counts h) = handles_are (Some h) None
+members (kind.PtrEq a b) = handles_are (Some a) (Some b)
+members (kind.Set h i from) = handles_are (Some h) (Some from)
+members (kind.Take h i to) = handles_are (Some h) (Some to)
+members (kind.Get h i to) = handles_are (Some h) (Some to)
+members (kind.CellNew c from) = cell_and c (Some from) None
+members (kind.CellLoad c to) = cell_and c (Some to) None
+members (kind.CellSwap c from to) = cell_and c (Some from) to
+members (kind.CellCas c expected desired) = cell_and c (Some expected) (Some desired)
+members (kind.CellDrop c) = cell_and c None None
+
+-- an element of `fields`, with what its handle holds
+pub data Element : Type 0 where
+  Read : (h : ℕ) (held : Option Holding) → Element
+  Null : Element
+  Me : Element
+
+-- what stands for an object
+pub record Seen : Type 0 where
+  pub entry : Option Entry
+  pub strong : ℕ
+  pub weak : ℕ
+
+pub record View : Type 0 where
+  pub first : Option Holding
+  pub second : Option Holding
+  pub cell : Option Slot
+  pub elements : List Element
+  pub object : Seen
+
+abbrev pub held_by : State → Option ℕ → Option Holding
+held_by m None = None
+held_by m (Some h) = get m.handles h
+
+abbrev pub cell_of : State → Option ℕ → Option Slot
+cell_of m None = None
+cell_of m (Some c) = get m.cells c
+
+abbrev pub element_of : State → Field → Element
+element_of m (field.Held h) = Read h (get m.handles h)
+element_of m field.Null = Null
+element_of m field.Me = Me
+
+abbrev pub elements_of : State → List Field → List Element
+elements_of m [] = []
+elements_of m (f ∷ fs) = element_of m f ∷ elements_of m fs
+
+-- the object that a slot names
+abbrev pub named_by : Slot → Option ℕ
+named_by Nothing = None
+named_by (Strong o) = Some o
+named_by (Weak o) = Some o
+named_by Dangling = None
+
+abbrev pub named_in : Option Holding → Option ℕ
+named_in None = None
+named_in (Some (holding.Slot s)) = named_by s
+named_in (Some (holding.Bare fields)) = None
+
+abbrev pub seen : State → Option ℕ → Seen
+seen m None = record { entry = None; strong = 0; weak = 0 }
+seen m (Some o) = record { entry = get m.objects o; strong = strong m [] o; weak = weak m [] o }
+
+abbrev pub view_at : State → Members → View
+view_at m a = record {
+  first = held_by m a.first;
+  second = held_by m a.second;
+  cell = cell_of m a.cell;
+  elements = elements_of m a.fields;
+  object = seen m (named_in (held_by m a.first));
+}
+
+abbrev pub view_of : State → Kind → View
+view_of m k = view_at m (members k)
+
+-- the handle members in order, those of `fields` among them; `ptr_eq` may name one handle twice
+abbrev pub listed : Option ℕ → List ℕ
+listed None = []
+listed (Some h) = h ∷ []
+
+abbrev pub held_fields : List Field → List ℕ
+held_fields [] = []
+held_fields (field.Held h ∷ fs) = h ∷ held_fields fs
+held_fields (field.Null ∷ fs) = held_fields fs
+held_fields (field.Me ∷ fs) = held_fields fs
+
+abbrev pub apart_handles : Kind → List ℕ
+apart_handles (kind.PtrEq a b) = []
+apart_handles k = let a = members k in listed a.first ++ listed a.second ++ held_fields a.fields
+
+-- the first handle that repeats an earlier one
+abbrev pub repeated_in : List ℕ → List ℕ → Option ℕ
+repeated_in before [] = None
+repeated_in before (h ∷ hs) = if list_any (λ b. b == h) before then Some h else repeated_in (h ∷ before) hs
+
+abbrev pub repeated : Kind → Option ℕ
+repeated k = repeated_in [] (apart_handles k)

@@ -1,0 +1,111 @@
+//! A trace: operations with distinct numbers, in the order of the traced program.
+ghost use Rattle.std.specs.Prelude.{◌≡◌, ◌<◌, ◌++◌, [], ◌∷◌, length, slice_get, Ok, OnOk, OnErr, IfErr};
+ghost use Rattle.std.specs.Option.{option_copied};
+ghost use Rattle.trace_types.specs.Trace.{IsTrace, place_of, is_taken, IsNew, pushed, IsPushFault};
+
+use crate::ops::{Op, TraceFault};
+use std::alloc::{AllocError, Global};
+use std::collections::BTreeMap;
+use std::marker::Model;
+
+/// How many operations a trace may have.
+pub const MAX_OPS: usize = 65_536;
+
+/// Operations with distinct numbers, in order, at most `MAX_OPS`. Contracts see the list of the operations.
+#[derive(Drop)]
+pub struct Trace {
+    ops: Vec<Op>,
+    places: BTreeMap<u32, usize>,
+}
+
+impl Model for Trace {
+    ghost use Rattle.std.specs.Prelude.{◌≡◌, ℕ, List};
+    ghost use Rattle.std.specs.Ordering.{nat_cmp};
+    ghost use Rattle.std.specs.BTreeMap.{get};
+    ghost use Rattle.trace_types.specs.Operation.{Operation};
+
+    ghost Value = { List Operation };
+
+    ghost use Rattle.trace_types.specs.Trace.{IsTrace, place_of};
+
+    ghost view = { λ t. t.ops.items };
+
+    ghost invariant = { λ t. IsTrace t.ops.items × ((id : ℕ) → get nat_cmp t.places id ≡ place_of id t.ops.items) };
+}
+
+impl Trace {
+    /// The empty trace. Takes no memory.
+    pub fn new(alloc: Global) -> Trace
+        ensures { result ≡ [] }
+    {
+        Trace {
+            ops: Vec::new(alloc),
+            places: BTreeMap::new(alloc),
+        }
+    }
+
+    /// How many operations there are.
+    pub fn len(&self) -> usize
+        ensures value { result ≡ length self.now }
+        ensures is_trace { IsTrace self.now }
+    {
+        self.ops.len()
+    }
+
+    /// The operation at a place, from 0.
+    pub fn op(&self, place: usize) -> Option<&Op>
+        ensures { option_copied result ≡ slice_get self.now place }
+    {
+        self.ops.get(place)
+    }
+
+    /// All operations in order.
+    pub fn as_slice(&self) -> &[Op]
+        ensures value { result.now ≡ self.now }
+        ensures is_trace { IsTrace self.now }
+    {
+        self.ops.as_slice()
+    }
+
+    /// Where the operation with this number stands, from 0. The trace is not walked.
+    pub fn place(&self, id: u32) -> Option<usize>
+        ensures { result ≡ place_of id self.now }
+    {
+        self.places.get(&id).copied()
+    }
+
+    /// Adds an operation at the end, or leaves the trace as it is. The causes are tried in the order of `TraceFault`.
+    pub fn push(&mut self, op: Op) -> Result<(), TraceFault>
+        ensures ok { OnOk result (pushed self.old op ≡ Ok self.new) }
+        ensures fault { IfErr result (λ e. IsPushFault e (pushed self.old op)) }
+        ensures unchanged { OnErr result (self.new ≡ self.old) }
+    {
+        if self.is_taken(op.id()) {
+            return Err(TraceFault::IdTaken);
+        }
+        if self.ops.len() >= MAX_OPS {
+            return Err(TraceFault::TooMany);
+        }
+        self.append(op).map_err(|_| TraceFault::Memory)
+    }
+
+    fn is_taken(&self, id: u32) -> bool
+        ensures { result ≡ is_taken id self.now }
+    {
+        self.place(id).is_some()
+    }
+
+    // Adds an operation at the end.
+    fn append(&mut self, op: Op) -> Result<(), AllocError>
+        requires new { IsNew op.id self.old }
+        requires room { length self.old < 65536 }
+        ensures ok { OnOk result (self.new ≡ self.old ++ op ∷ []) }
+        ensures unchanged { OnErr result (self.new ≡ self.old) }
+    {
+        let place = self.ops.len();
+        self.ops.reserve(1)?;
+        self.places.insert(op.id(), place)?;
+        self.ops.push_reserved(op);
+        Ok(())
+    }
+}
