@@ -15,16 +15,16 @@ pub has-append : (o : ℕ) (xs ys : List ℕ) → has o (xs ++ ys) ≡ (has o xs
 has-append o [] ys = refl
 has-append o (x ∷ xs) ys = grind (arith, nat_tests, has-append o xs ys)
 
-or_left : (a b : Bool) → a ≡ true → (a || b) ≡ true
+pub or_left : (a b : Bool) → a ≡ true → (a || b) ≡ true
 or_left true b h = refl
 or_left false b h = absurd cc
 
-or_right : (a b : Bool) → b ≡ true → (a || b) ≡ true
+pub or_right : (a b : Bool) → b ≡ true → (a || b) ≡ true
 or_right true b h = refl
 or_right false b h = h
 
 -- what follows from either holds
-either : (P : Type 0) (a b : Bool) → (a || b) ≡ true → (a ≡ true → P) → (b ≡ true → P) → P
+pub either : (P : Type 0) (a b : Bool) → (a || b) ≡ true → (a ≡ true → P) → (b ≡ true → P) → P
 either P true b h p q = p refl
 either P false b h p q = q h
 
