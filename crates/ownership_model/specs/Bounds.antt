@@ -25,6 +25,10 @@ max_id = 999999999
 abbrev pub max_fields : ℕ
 max_fields = 16
 
+-- how many slots can stand at once: the fields of each handle's value, each cell, the fields of each object
+abbrev pub max_slots : ℕ
+max_slots = 16017000000
+
 abbrev pub AreFew : List Slot → Type 0
 AreFew fields = length fields ≤ max_fields
 

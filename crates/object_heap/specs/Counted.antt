@@ -1,0 +1,29 @@
+-- What a heap keeps beside its state: how often each object is named.
+use Rattle.std.specs.Prelude.{ℕ, ◌≡◌, List, [], Option, Some, None}
+use Rattle.std.specs.Ordering.{nat_cmp}
+use Rattle.std.specs.FinMap.{FinMap, get}
+use Rattle.trace_types.specs.declared.slots.Item.{Item}
+use Rattle.ownership_model.specs.State.{State, strong, weak, ends, IsSound}
+use Rattle.ownership_model.specs.Bounds.{IsBounded}
+use Rattle.object_heap.specs.declared.counters.Counters.{Counters}
+use Rattle.object_heap.specs.declared.draft.Draft.{Draft}
+
+-- zeros, where nothing is kept
+abbrev pub counters_at : Option Counters → Counters
+counters_at None = record { strong = 0; weak = 0; ends = 0 }
+counters_at (Some c) = c
+
+abbrev pub state_of : Draft → State
+state_of d = record { handles = d.handles; cells = d.cells; objects = d.objects }
+
+-- the counters count the slots that stand and what is pending
+pub record IsCounted (counts : FinMap nat_cmp Counters) (m : State) (pending : List Item) : Type 0 where
+  pub strong_is : (o : ℕ) → (counters_at (get counts o)).strong ≡ strong m pending o
+  pub weak_is : (o : ℕ) → (counters_at (get counts o)).weak ≡ weak m pending o
+  pub ends_is : (o : ℕ) → (counters_at (get counts o)).ends ≡ ends o pending
+
+-- what is true of each heap
+pub record IsKept (d : Draft) : Type 0 where
+  pub sound : IsSound (state_of d) []
+  pub bounded : IsBounded (state_of d)
+  pub counted : IsCounted d.counts (state_of d) []

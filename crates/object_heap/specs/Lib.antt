@@ -1,0 +1,2 @@
+pub mod StateCode
+pub mod Counted

@@ -1,0 +1,56 @@
+//! A state that is being changed, with the counts of its slots and of what is pending.
+ghost use Rattle.std.specs.Prelude.{◌≡◌, ◌↔◌, IfOk, IsTrue};
+ghost use Rattle.std.specs.FinMap as map;
+ghost use Rattle.ownership_model.specs.State.{nothing_held};
+ghost use Rattle.object_heap.specs.Counted.{state_of};
+
+use crate::counters::Counters;
+use share_tree::ShareTree;
+use std::alloc::AllocError;
+use trace_types::slots::{Entry, Holding, Slot};
+
+/// What handles and cells hold, which objects stand, and how often each object is named.
+#[derive(Drop)]
+pub struct Draft {
+    pub handles: ShareTree<Holding>,
+    pub cells: ShareTree<Slot>,
+    pub objects: ShareTree<Entry>,
+    pub counts: ShareTree<Counters>,
+}
+
+impl Draft {
+    /// Nothing is held.
+    pub fn empty() -> Draft
+        ensures state { state_of result ≡ nothing_held }
+        ensures counts { result.counts ≡ map.empty }
+    {
+        Draft {
+            handles: ShareTree::empty(),
+            cells: ShareTree::empty(),
+            objects: ShareTree::empty(),
+            counts: ShareTree::empty(),
+        }
+    }
+
+    /// The same again, whose nodes both have.
+    pub fn share(&self) -> Result<Draft, AllocError>
+        ensures state { IfOk result (λ d. state_of d ≡ state_of self.now) }
+        ensures counts { IfOk result (λ d. d.counts ≡ self.now.counts) }
+    {
+        Ok(Draft {
+            handles: self.handles.share()?,
+            cells: self.cells.share()?,
+            objects: self.objects.share()?,
+            counts: self.counts.share()?,
+        })
+    }
+
+    /// Whether both hold the same.
+    pub fn same(&self, other: &Draft) -> bool
+        ensures { IsTrue result ↔ (state_of self.now ≡ state_of other.now) }
+    {
+        self.handles.same(&other.handles)
+            && self.cells.same(&other.cells)
+            && self.objects.same(&other.objects)
+    }
+}

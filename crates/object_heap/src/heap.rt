@@ -1,0 +1,125 @@
+//! The heap of a traced program at one moment.
+ghost use Rattle.std.specs.Prelude.{◌≡◌, ◌↔◌, [], IfOk, IsTrue};
+ghost use Rattle.std.specs.Option.{option_copied};
+ghost use Rattle.std.specs.FinMap as map;
+ghost use Rattle.ownership_model.specs.State.{nothing_held, strong, weak, IsSound};
+ghost use Rattle.ownership_model.specs.Bounds.{IsBounded};
+
+use crate::counters::counters_of;
+use crate::draft::Draft;
+use std::alloc::{AllocError, Global};
+use std::marker::Model;
+use trace_types::slots::{Entry, Holding, Slot};
+
+/// What handles and cells hold and which objects stand. Contracts see a sound state within the limits.
+///
+/// It also counts how often each object is named. Two heaps share what is the same in both.
+pub struct Heap {
+    draft: Draft,
+}
+
+impl Model for Heap {
+    ghost use Rattle.ownership_model.specs.State.{State};
+    ghost use Rattle.object_heap.specs.StateCode.{state_code};
+
+    ghost Value = { State };
+
+    ghost coded = { state_code };
+
+    ghost use Rattle.object_heap.specs.Counted.{state_of, IsKept};
+
+    ghost view = { λ h. state_of h.draft };
+
+    ghost invariant = { λ h. IsKept h.draft };
+}
+
+impl Drop for Heap {
+    fn drop(self) {
+        let Heap { draft: _ } = self;
+    }
+}
+
+impl Heap {
+    /// Nothing is held. Takes no memory.
+    pub fn empty() -> Heap
+        ensures { result ≡ nothing_held }
+    {
+        Heap {
+            draft: Draft::empty(),
+        }
+    }
+
+    /// The same heap again. Takes no memory.
+    pub fn share(&self) -> Result<Heap, AllocError>
+        ensures { IfOk result (λ h. h ≡ self.now) }
+    {
+        Ok(Heap {
+            draft: self.draft.share()?,
+        })
+    }
+
+    /// What a handle holds. By its clauses a caller knows that every heap is sound and within the limits.
+    pub fn holding(&self, handle: u32) -> Option<&Holding>
+        ensures value { option_copied result ≡ map.get self.now.handles handle }
+        ensures sound { IsSound self.now [] }
+        ensures bounded { IsBounded self.now }
+    {
+        self.draft.handles.get(handle)
+    }
+
+    /// What a cell holds.
+    pub fn cell(&self, cell: u32) -> Option<Slot>
+        ensures { result ≡ map.get self.now.cells cell }
+    {
+        self.draft.cells.get(cell).copied()
+    }
+
+    /// What stands for an object.
+    pub fn object(&self, object: u32) -> Option<&Entry>
+        ensures { option_copied result ≡ map.get self.now.objects object }
+    {
+        self.draft.objects.get(object)
+    }
+
+    /// How many slots name the object strongly.
+    pub fn strong(&self, object: u32) -> u64
+        ensures { result ≡ strong self.now [] object }
+    {
+        counters_of(&self.draft.counts, object).strong
+    }
+
+    /// How many slots name the object weakly.
+    pub fn weak(&self, object: u32) -> u64
+        ensures { result ≡ weak self.now [] object }
+    {
+        counters_of(&self.draft.counts, object).weak
+    }
+
+    /// The handles that are held, rising.
+    pub fn handles(&self, alloc: Global) -> Result<Vec<u32>, AllocError>
+        ensures { IfOk result (λ v. v.items ≡ map.keys self.now.handles) }
+    {
+        self.draft.handles.keys(alloc)
+    }
+
+    /// The cells that are there, rising.
+    pub fn cells(&self, alloc: Global) -> Result<Vec<u32>, AllocError>
+        ensures { IfOk result (λ v. v.items ≡ map.keys self.now.cells) }
+    {
+        self.draft.cells.keys(alloc)
+    }
+
+    /// The objects that stand, rising.
+    pub fn objects(&self, alloc: Global) -> Result<Vec<u32>, AllocError>
+        ensures { IfOk result (λ v. v.items ≡ map.keys self.now.objects) }
+    {
+        self.draft.objects.keys(alloc)
+    }
+
+    /// Whether both hold the same.
+    pub fn same(&self, other: &Heap) -> bool
+        ensures { IsTrue result ↔ (self.now ≡ other.now) }
+    {
+        self.draft.same(&other.draft)
+    }
+}
