@@ -16,21 +16,8 @@ use Rattle.ownership_model.specs.Agrees as agreement
 use Rattle.ownership_model.specs.Agrees.{Encloses, outside}
 use Rattle.ownership_model.specs.declared.link.Link.TheVariants.{StrongOrWeak}
 use Rattle.ownership_model.specs.Reach.{IsReach, Reaches, Reaches.by_root, Reaches.by_field, has, named, slots_names, holding_names, cell_names, entry_names, handle_names, all_cell_names, root_names, field_names, is_reached}
-use Rattle.ownership_model.proofs.ReachLemmas.{has-append, has_as_any, either, or_left, or_right}
+use Rattle.ownership_model.proofs.NameLemmas.{HasAll, all_left, all_right, all_joined, only_one, all_of_each, at_each_key}
 use Rattle.ownership_model.proofs.ReachedLemmas.{reached, has_reached}
-
--- the set has all names of a list
-abbrev pub HasAll : (ℕ → Bool) → List ℕ → Type 0
-HasAll k os = (o : ℕ) → has o os ≡ true → k o ≡ true
-
-all_left : (k : ℕ → Bool) (xs ys : List ℕ) → HasAll k (xs ++ ys) → HasAll k xs
-all_left k xs ys h o is = h o (has-append o xs ys ∙ or_left (has o xs) (has o ys) is)
-
-all_right : (k : ℕ → Bool) (xs ys : List ℕ) → HasAll k (xs ++ ys) → HasAll k ys
-all_right k xs ys h o is = h o (has-append o xs ys ∙ or_right (has o xs) (has o ys) is)
-
-all_joined : (k : ℕ → Bool) (xs ys : List ℕ) → HasAll k xs → HasAll k ys → HasAll k (xs ++ ys)
-all_joined k xs ys f g o is = either (k o ≡ true) (has o xs) (has o ys) (sym (has-append o xs ys) ∙ is) (f o) (g o)
 
 not_true : (b : Bool) → b ≡ true → not b ≡ false
 not_true true h = refl
@@ -39,9 +26,6 @@ not_true false h = absurd cc
 not_false : (b : Bool) → not b ≡ false → b ≡ true
 not_false true h = refl
 not_false false h = absurd cc
-
-only_one : (k : ℕ → Bool) (p : ℕ) → k p ≡ true → HasAll k (p ∷ [])
-only_one k p h o is = let e : p ≡ o = grind (arith, nat_tests, is) in subst (λ x. k x ≡ true) e h
 
 -- names in the set are names that avoid what is outside it
 slot_avoids : (k : ℕ → Bool) (s : Slot) → HasAll k (named StrongOrWeak s) → AvoidsSlot (outside k) s
@@ -95,27 +79,6 @@ entry_names_in : (k : ℕ → Bool) (x : Option Entry) → IfThere (AvoidsEntry 
 entry_names_in k None h = λ o is. absurd cc
 entry_names_in k (Some (Alive fields)) h = slots_names_in k fields h
 entry_names_in k (Some Husk) h = λ o is. absurd cc
-
--- the names at one key are among the names of all keys
-one_of_all : (k : ℕ → Bool) (f : ℕ → List ℕ) (xs : List ℕ) (x : ℕ) → has x xs ≡ true → HasAll k (flat_map f xs) → HasAll k (f x)
-one_of_all k f [] x is h = absurd cc
-one_of_all k f (y ∷ ys) x is h = either (HasAll k (f x)) (y == x) (has x ys) is
-    (λ e. let same : y ≡ x = grind (arith, nat_tests, e) in subst (λ z. HasAll k (f z)) same (all_left k (f y) (flat_map f ys) h))
-    (λ e. one_of_all k f ys x e (all_right k (f y) (flat_map f ys) h))
-
-all_of_each : (k : ℕ → Bool) (f : ℕ → List ℕ) (xs : List ℕ) → ((x : ℕ) → HasAll k (f x)) → HasAll k (flat_map f xs)
-all_of_each k f [] h = λ o is. absurd cc
-all_of_each k f (x ∷ xs) h = all_joined k (f x) (flat_map f xs) (h x) (all_of_each k f xs h)
-
--- a key that is not there names nothing, so the keys that are there are enough
-at_each_key : {X : Type 0} (k : ℕ → Bool) (map : FinMap nat_cmp X) (f : Option X → List ℕ) → f None ≡ [] → HasAll k (flat_map (λ x. f (get map x)) (keys map)) → (x : ℕ) → HasAll k (f (get map x))
-at_each_key {X = X} k map f none h x = cases (get map x) refl
-  where
-    cases : (e : Option X) → get map x ≡ e → HasAll k (f e)
-    cases None is = λ o named. absurd (grind (arith, none, named))
-    cases (Some e) is =
-        subst (λ v. HasAll k (f v)) is
-        (one_of_all k (λ q. f (get map q)) (keys map) x (sym (has_as_any x (keys map)) ∙ sym (contains_key-keys map x) ∙ ap is_some is) h)
 
 pub encloses : (m : State) (k : ℕ → Bool) → IsReach StrongOrWeak m k → Encloses k m
 encloses m k r = record {

@@ -15,4 +15,5 @@ pub mod Cascade
 pub mod Reach
 pub mod Searching
 pub mod Leaks
+pub mod Falling
 pub mod ReachLaws

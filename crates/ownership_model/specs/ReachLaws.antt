@@ -1,16 +1,19 @@
--- What the definitions of reach, leaks and holders mean.
+-- What the definitions of reach, leaks and holders mean, and which objects a release destroys.
 use Rattle.std.specs.Prelude.{ℕ, Bool, ◌==◌, ◌&&◌, ◌≡◌, ◌↔◌, List, Some, true, slice_get}
 use Rattle.std.specs.List.{list_any}
 use Rattle.std.specs.FinMap.{get, keys}
 use Rattle.trace_types.specs.declared.slots.Slot.TheVariants.{Strong}
 use Rattle.trace_types.specs.declared.slots.Slot.{Slot}
 use Rattle.trace_types.specs.declared.slots.Entry.TheVariants.{Alive}
-use Rattle.ownership_model.specs.State.{State}
+use Rattle.trace_types.specs.declared.slots.Item.{Item}
+use Rattle.ownership_model.specs.State.{State, IsSound}
 use Rattle.ownership_model.specs.declared.link.Link.{Link}
 use Rattle.ownership_model.specs.declared.link.Link.TheVariants.{StrongOnly, StrongOrWeak}
 use Rattle.ownership_model.specs.declared.leaks.Holder.{Holder}
 use Rattle.ownership_model.specs.Reach.{Reaches, IsReach, is_reached, has}
 use Rattle.ownership_model.specs.Agrees as agreement
+use Rattle.ownership_model.specs.Release.{release}
+use Rattle.ownership_model.specs.Falling.{IsLeastClosed, is_destroyed}
 use Rattle.ownership_model.specs.Leaks.{IsLeaked, leaked_in, holders_of}
 
 -- `is_reached` finds just the objects that are reached
@@ -39,3 +42,7 @@ has_holder p i hs = list_any (λ h. h.object == p && h.field == i) hs
 -- the holders of an object are all such fields
 abbrev pub HoldersHold : Type 0
 HoldersHold = (m : State) (o p i : ℕ) → (has_holder p i (holders_of m o) ≡ true) ↔ HoldsAt m o p i
+
+-- dropping what is pending destroys the least set that has each object that falls with it
+abbrev pub DestroyedAreLeast : Type 0
+DestroyedAreLeast = (m : State) (pending : List Item) → IsSound m pending → IsLeastClosed m (is_destroyed (release m pending).events)
