@@ -12,3 +12,7 @@ pub mod Agrees
 pub mod Laws
 pub mod Patch
 pub mod Cascade
+pub mod Reach
+pub mod Searching
+pub mod Leaks
+pub mod ReachLaws

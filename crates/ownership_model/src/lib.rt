@@ -2,4 +2,7 @@
 #![tactic(auto)]
 
 pub mod laws;
+pub mod leaks;
+pub mod link;
 pub mod plan;
+pub mod reach_laws;
