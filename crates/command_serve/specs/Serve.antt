@@ -1,5 +1,5 @@
 -- What a command has read and written when it ends, for what is due for an input.
-use Rattle.std.specs.Prelude.{◌≡◌, ℕ, ◌≤◌, List, length, Bool, nat_lt, if◌then◌else◌, codes, Option}
+use Rattle.std.specs.Prelude.{◌≡◌, ℕ, ◌≤◌, List, length, Bool, true, nat_lt, if◌then◌else◌, codes, Option}
 use Rattle.std.specs.Io.KnownBytes.{Appends, Consumes, IsAtEnd}
 use Rattle.trace_types.specs.Devices.{IsInput, AppendsFront}
 use Rattle.command_serve.specs.declared.exits.Exit.{Exit}

@@ -4,5 +4,3 @@
 pub mod exits;
 pub mod input;
 pub mod replay;
-#[cfg(test)]
-mod tests;
