@@ -1,12 +1,16 @@
 //! Lines of a trace: which operations a text says, or what is wrong with its first faulty line.
 #![tactic(auto)]
 
-pub mod fault;
+mod fault;
 mod fields;
 mod kinds;
 mod lines;
 mod members;
-pub mod op;
+mod op;
 #[cfg(test)]
 mod tests;
-pub mod trace;
+mod trace;
+
+pub use fault::{LineCause, LineFault, fault_line};
+pub use op::read_op;
+pub use trace::read_trace;

@@ -1,5 +1,5 @@
-use crate::fault::fault_line;
-use crate::trace::read_trace;
+use crate::fault_line;
+use crate::read_trace;
 use std::test::Fail;
 
 // What is said of a text: its fault's line, or `read`.
