@@ -4,6 +4,5 @@
 pub mod counters;
 pub mod draft;
 pub mod heap;
-pub mod reach;
 
 pub use heap::Heap;

@@ -1,0 +1,52 @@
+-- The state in which nothing is held.
+use Rattle.std.proofs.Common.{◌≡◌, ℕ, ◌+◌, List, [], ◌∷◌, length, refl, ap, ◌∙◌, sym, subst, arith}
+use Rattle.std.specs.Prelude.{Option, Some, None}
+use Rattle.std.specs.Ordering.{nat_cmp}
+use Rattle.std.specs.FinMap.{FinMap, entries, empty, get, get-empty, len-empty, len-entries}
+use Rattle.trace_types.specs.declared.slots.Slot.{Slot}
+use Rattle.trace_types.specs.declared.slots.Slot.TheVariants.{Strong, Weak}
+use Rattle.trace_types.specs.declared.slots.Entry.{Entry}
+use Rattle.ownership_model.specs.Totals.{total, total_in}
+use Rattle.ownership_model.specs.State.{State, nothing_held, weight, holding_weight, entry_weight, hits, IsSound, IsSoundAt}
+use Rattle.ownership_model.specs.Bounds.{IsBounded}
+use Rattle.ownership_model.proofs.LimitLemmas.{nothing_bounded}
+use Rattle.object_heap.specs.declared.counters.Counters.{Counters}
+use Rattle.object_heap.specs.declared.draft.Draft.{Draft}
+use Rattle.object_heap.specs.Counted.{counters_at, state_of, IsCounted, IsKept}
+
+no_items : {A : Type 0} (xs : List A) → length xs ≡ 0 → xs ≡ []
+no_items [] h = refl
+no_items (x ∷ xs) h = absurd (omega arith)
+
+entries-empty : {X : Type 0} → ◌≡◌ {A = List (ℕ × X)} (entries {R = nat_cmp} empty) []
+entries-empty {X} = no_items _ (sym (len-entries {R = nat_cmp} empty) ∙ len-empty nat_cmp X)
+
+total-empty : {X : Type 0} (w : X → ℕ) → total w empty ≡ 0
+total-empty w = ap (total_in w) entries-empty
+
+weight-nothing : (w : Slot → ℕ) → weight w nothing_held [] ≡ 0
+weight-nothing w = omega (arith, total-empty (holding_weight w), total-empty w, total-empty (entry_weight w))
+
+absent : (s w : ℕ) (e : Option Entry) → e ≡ None → s ≡ 0 → w ≡ 0 → IsSoundAt s w 0 e
+absent s w e is a b = subst (λ (x : Option Entry). IsSoundAt s w 0 x) (sym is) (a, b, refl)
+
+sound-nothing : IsSound nothing_held []
+sound-nothing o = absent _ _ (get empty o) (get-empty nat_cmp o) (weight-nothing (hits (Strong o))) (weight-nothing (hits (Weak o)))
+
+no_counts : (o : ℕ) → counters_at (get (empty {X = Counters} {R = nat_cmp}) o) ≡ record { strong = 0; weak = 0; ends = 0 }
+no_counts o = ap counters_at (get-empty nat_cmp o)
+
+counted_nothing : IsCounted empty nothing_held []
+counted_nothing = record {
+  strong_is = λ o. ap (λ (c : Counters). c.strong) (no_counts o) ∙ sym (weight-nothing (hits (Strong o)));
+  weak_is = λ o. ap (λ (c : Counters). c.weak) (no_counts o) ∙ sym (weight-nothing (hits (Weak o)));
+  ends_is = λ o. ap (λ (c : Counters). c.ends) (no_counts o);
+}
+
+-- a draft of nothing is that of a heap
+pub kept_nothing : (d : Draft) → state_of d ≡ nothing_held → d.counts ≡ empty → IsKept d
+kept_nothing d held none = record {
+  sound = subst (λ (m : State). IsSound m []) (sym held) sound-nothing;
+  bounded = subst (λ (m : State). IsBounded m) (sym held) nothing_bounded;
+  counted = subst (λ (counts : FinMap nat_cmp Counters). IsCounted counts (state_of d) []) (sym none) (subst (λ (m : State). IsCounted empty m []) (sym held) counted_nothing);
+}
