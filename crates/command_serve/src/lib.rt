@@ -4,3 +4,5 @@
 pub mod exits;
 pub mod input;
 pub mod replay;
+#[cfg(test)]
+mod tests;

@@ -6,6 +6,10 @@ ghost use Rattle.command_serve.specs.Replay.{replay_due, report_of_replay};
 
 use crate::exits::Exit;
 use crate::input::{InputFault, read_all};
+use leak_report::line_text::text_of;
+use leak_report::report::report;
+use op_step::chunk_run::replay;
+use op_step::meter::Meter;
 use std::alloc::{AllocError, Global};
 use trace_reader::fault::{LineCause, fault_line};
 use trace_reader::trace::read_trace;
@@ -72,9 +76,11 @@ fn answer_to(alloc: Global, input: &[u8]) -> Result<(Vec<u8>, Exit), Exit>
 fn report_on(alloc: Global, trace: &Trace) -> Result<Vec<u8>, AllocError>
     ensures { IfOk result (λ text. text.items ≡ report_of_replay trace.now) }
 {
-    let _trace = trace;
-    let _alloc = alloc;
-    Err(AllocError)
+    let mut meter = Meter::new();
+    let (outcomes, end) = replay(alloc, trace, &mut meter)?;
+    let report = report(alloc, trace, outcomes.as_slice(), &end)?;
+    let text = text_of(alloc, &report)?;
+    Ok(text.into_bytes())
 }
 
 fn too_long(alloc: Global) -> Result<Vec<u8>, AllocError>
