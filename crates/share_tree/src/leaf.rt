@@ -44,6 +44,10 @@ impl<V: Drop> Level<V> for Leaf<V> {
         Ok(true)
     }
 
+    fn first_from(&self, _key: u32) -> Option<(u32, &V)> {
+        Some((0, &self.value))
+    }
+
     fn push_keys(&self, base: u32, keys: &mut Vec<u32>) -> Result<(), AllocError> {
         keys.push(base)?;
         Ok(())

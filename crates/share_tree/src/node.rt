@@ -6,7 +6,7 @@ ghost use Rattle.share_tree.specs.Levels.{branch_at};
 
 use crate::level::{Level, Same};
 use crate::slot::{
-    has_no_kids, kid_at, kid_get, kid_insert, kid_is_empty, kid_remove, kid_with, kid_without,
+    has_no_kids, kid_at, kid_first_from, kid_get, kid_insert, kid_is_empty, kid_remove, kid_with, kid_without,
     no_kids, push_kid_keys, same_kids, with_kid,
 };
 use std::alloc::{AllocError, Global};
@@ -91,6 +91,20 @@ impl<V, C: Level<V>> Level<V> for Node<C> {
     fn remove(&mut self, alloc: Global, key: u32) -> Result<bool, AllocError> {
         take_out::<V, C>(alloc, self, key)?;
         Ok(has_no_kids(&self.kids))
+    }
+
+    fn first_from(&self, key: u32) -> Option<(u32, &V)> {
+        let step = C::span();
+        let digit = (key as u64 / step) as usize;
+        for i in digit..16 {
+            let before = step * i as u64;
+            // Past the key's own child this is 0.
+            let from = (key as u64).saturating_sub(before) as u32;
+            if let Some((rest, value)) = kid_first_from::<V, C>(kid_at(&self.kids, i), from) {
+                return Some(((before + rest as u64) as u32, value));
+            }
+        }
+        None
     }
 
     fn push_keys(&self, base: u32, keys: &mut Vec<u32>) -> Result<(), AllocError> {

@@ -1,9 +1,10 @@
 // The places of a node, each with a child or with none, and what is asked of a child that may be missing.
-ghost use Rattle.std.specs.Prelude.{◌≡◌, ℕ, ◌<◌, ◌≤◌, ◌^◌, ◌↔◌, ◌+◌, ◌++◌, OnOk, OnErr, Some, None, IfOk, IsTrue, is_some};
+ghost use Rattle.std.specs.Prelude.{◌≡◌, ℕ, ◌<◌, ◌≤◌, ◌^◌, ◌↔◌, ◌+◌, ◌++◌, OnOk, OnErr, Some, None, IfSome, IfOk, IsTrue, is_some};
 ghost use Rattle.std.specs.Bool.{IsFalse};
-ghost use Rattle.std.specs.Option.{option_copied, option_map};
+ghost use Rattle.std.specs.Option.{option_copied, option_map, IfNone};
 ghost use Rattle.std.specs.Arc.{arc_value};
 ghost use Rattle.share_tree.specs.Entries.{keys_from, moved};
+ghost use Rattle.share_tree.specs.Walk.{IsNowhereFrom, IsFirstFrom};
 ghost use Rattle.share_tree.specs.Digits.{updated, nowhere, child_of, child_at, AgreesBelow};
 
 use crate::level::{Level, Same};
@@ -68,6 +69,20 @@ pub fn kid_get<V, C: Level<V>>(kid: &Option<Arc<C>>, key: u32) -> Option<&V>
     match kid {
         None => None,
         Some(child) => child.get(key),
+    }
+}
+
+// The entry of a child with the least key from `key` on.
+pub fn kid_first_from<V, C: Level<V>>(kid: &Option<Arc<C>>, key: u32) -> Option<(u32, &V)>
+    requires fits { C.SPAN ≤ 2 ^ 32 }
+    requires within { key < C.SPAN }
+    ensures none { IfNone result (IsNowhereFrom (child_at C.at (option_map arc_value kid.now)) key C.SPAN) }
+    ensures within { IfSome result (λ e. e.0 < C.SPAN) }
+    ensures first { IfSome result (λ e. IsFirstFrom (child_at C.at (option_map arc_value kid.now)) key e.0 e.1.now) }
+{
+    match kid {
+        None => None,
+        Some(child) => child.first_from(key),
     }
 }
 

@@ -1,7 +1,7 @@
 use Rattle.std.proofs.Common.{refl, rules, ◌/◌, ◌<◌, length, Some}
 use Rattle.std.proofs.lemmas.Result.{err_from_is_err_and}
 use Rattle.std.specs.Arc.{arc_value}
-use Rattle.share_tree.proofs.Kids.{node_at-write, node_at-rewrite}
+use Rattle.share_tree.proofs.KidLemmas.{node_at-write, node_at-rewrite}
 use Rattle.share_tree.proofs.node.NodeLevel.insert.Goals as goal
 
 pub returns-in_err-was-clause-err : goal.returns-in_err-was-clause-err
