@@ -1,2 +1,2 @@
 mod Served
-mod Replayed
+pub mod Replayed

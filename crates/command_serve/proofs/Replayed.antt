@@ -4,7 +4,7 @@ use Rattle.trace_types.specs.Operation.{Operation}
 use Rattle.trace_reader.specs.declared.fault.LineFault.{LineFault}
 use Rattle.trace_reader.specs.Reading.{read_trace}
 use Rattle.command_serve.specs.Replay.{answer_of, replay_due}
-use Rattle.command_serve.proofs.Served.{IsAnswer}
+use Rattle.command_serve.specs.Serve.{IsAnswer}
 
 either : (reading : Result (List Operation) LineFault) → IsAnswer (answer_of reading)
 either (Ok ops) = inl refl

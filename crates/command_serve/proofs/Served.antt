@@ -4,7 +4,7 @@ use Rattle.std.specs.Bool.{if◌then◌else◌}
 use Rattle.std.specs.Io.KnownBytes.{Appends, Consumes, IsAtEnd}
 use Rattle.std.proofs.KnownBytes.{Appends-nil}
 use Rattle.trace_types.specs.Devices.{IsInput, AppendsFront}
-use Rattle.command_serve.specs.Serve.{max_input, is_too_long, Due, too_long, due_of, IsRead, IsDone, IsServed}
+use Rattle.command_serve.specs.Serve.{max_input, is_too_long, Due, too_long, due_of, IsAnswer, IsRead, IsDone, IsServed}
 use Rattle.command_serve.specs.declared.exits.Exit.{Exit}
 use Rattle.command_serve.specs.declared.exits.Exit.TheVariants.{Fine, Trace, Device, Memory}
 
@@ -43,10 +43,6 @@ read-short left left' input l ended = (λ _. ended, λ long. let e : is_too_long
 
 pub read-long : (left left' : Option (List ℕ)) (input bytes : List ℕ) → max_input < length input → Consumes left left' bytes → length bytes ≡ 300000001 → IsRead left left' input
 read-long left left' input bytes l h n = ((λ short. absurd (omega (arith, l))), (λ _. (bytes, h, n)))
-
--- a command's answer ends Fine or Trace
-abbrev pub IsAnswer : Due → Type 0
-IsAnswer due = (due.exit ≡ Fine) ⊎ (due.exit ≡ Trace)
 
 pub due_is_answer : (answer : List ℕ → Due) (input : List ℕ) → IsAnswer (answer input) → IsAnswer (due_of answer input)
 unfolding due_of

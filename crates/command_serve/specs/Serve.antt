@@ -1,5 +1,5 @@
 -- What a command has read and written when it ends, for what is due for an input.
-use Rattle.std.specs.Prelude.{◌≡◌, ℕ, ◌≤◌, List, length, Bool, true, nat_lt, if◌then◌else◌, codes, Option}
+use Rattle.std.specs.Prelude.{◌≡◌, ◌⊎◌, ℕ, ◌≤◌, List, length, Bool, true, nat_lt, if◌then◌else◌, codes, Option}
 use Rattle.std.specs.Io.KnownBytes.{Appends, Consumes, IsAtEnd}
 use Rattle.trace_types.specs.Devices.{IsInput, AppendsFront}
 use Rattle.command_serve.specs.declared.exits.Exit.{Exit}
@@ -23,6 +23,10 @@ too_long = record { text = codes "fault input TooLong\n"; exit = Trace }
 -- what is due for an input, given what is due for one that is not too long
 unfoldable pub due_of : (List ℕ → Due) → List ℕ → Due
 due_of answer input = if is_too_long input then too_long else answer input
+
+-- a command's answer ends Fine or Trace
+abbrev pub IsAnswer : Due → Type 0
+IsAnswer due = (due.exit ≡ Fine) ⊎ (due.exit ≡ Trace)
 
 -- an input was read until a read gave no bytes, or until one byte more than is allowed
 abbrev pub IsRead : Option (List ℕ) → Option (List ℕ) → List ℕ → Type 0

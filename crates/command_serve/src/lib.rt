@@ -4,5 +4,6 @@
 pub mod exits;
 pub mod input;
 pub mod replay;
+pub mod serve;
 #[cfg(test)]
 mod tests;

@@ -1,54 +1,40 @@
 //! The command `replay`: a trace in, its report out.
-ghost use Rattle.std.specs.Prelude.{◌≡◌, ◌⊎◌, ℕ, List, true, codes, IfOk, IfErr};
-ghost use Rattle.trace_types.specs.Devices.{IsInput};
-ghost use Rattle.command_serve.specs.Serve.{Serves, IsRead, due_of};
+ghost use Rattle.std.specs.Prelude.{◌≡◌, ◌⊎◌, true, IfOk, IfErr};
+ghost use Rattle.command_serve.specs.Serve.{Serves};
 ghost use Rattle.command_serve.specs.Replay.{replay_due, report_of_replay};
 
 use crate::exits::Exit;
-use crate::input::{InputFault, read_all};
-use leak_report::line_text::text_of;
+use crate::serve::{Answers, serve};
 use leak_report::report::report;
-use op_step::chunk_run::replay;
+use leak_report::text::text_of;
 use op_step::meter::Meter;
+use op_step::replay::replay;
 use std::alloc::{AllocError, Global};
-use trace_reader::fault::{LineCause, fault_line};
-use trace_reader::trace::read_trace;
-use trace_types::devices::{Sink, Source, write_all};
+use trace_reader::{LineCause, fault_line, read_trace};
+use trace_types::devices::{Sink, Source};
 use trace_types::trace::Trace;
 
 /// Reads a trace, and writes the report of its replay, or the line that tells the first fault.
-///
-/// All input is read first and the whole text made next, so that nothing is written where the source fails or memory
-/// is wanting.
 pub fn serve_replay<S: Source, K: Sink>(alloc: Global, source: &mut S, sink: &mut K) -> Exit
     ensures served { Serves replay_due (S.left source.old) (S.left source.new) (K.held sink.old) (K.held sink.new) result }
     ensures device { result ≡ Exit.Device → ((S.failed source.new ≡ true) ⊎ (K.failed sink.new ≡ true)) }
 {
-    let (text, exit) = match answer(alloc, source) {
-        Ok(answer) => answer,
-        Err(exit) => return exit,
-    };
-    match write_all(sink, text.as_slice()) {
-        Ok(()) => exit,
-        Err(_) => Exit::Device,
-    }
+    serve::<Replay, S, K>(alloc, source, sink)
 }
 
-// Reads the input, and makes the text that is due, with the exit.
-fn answer<S: Source>(alloc: Global, source: &mut S) -> Result<(Vec<u8>, Exit), Exit>
-    ensures ok { IfOk result (λ r. (input : List ℕ) × IsInput (S.left source.old) input × IsRead (S.left source.old) (S.left source.new) input
-        × (r.0.items ≡ (due_of replay_due input).text) × (r.1 ≡ (due_of replay_due input).exit)) }
-    ensures err { IfErr result (λ e. (e ≡ Exit.Memory) ⊎ ((e ≡ Exit.Device) × (S.failed source.new ≡ true))) }
-{
-    match read_all(alloc, source) {
-        Ok(input) => answer_to(alloc, input.as_slice()),
-        Err(InputFault::TooLong) => match too_long(alloc) {
-            Ok(text) => Ok((text, Exit::Trace)),
-            Err(_) => Err(Exit::Memory),
-        },
-        Err(InputFault::Device) => Err(Exit::Device),
-        Err(InputFault::Memory) => Err(Exit::Memory),
+struct Replay;
+
+impl Answers for Replay {
+    ghost use Rattle.command_serve.specs.Replay.{replay_due};
+    ghost use Rattle.command_serve.proofs.Replayed.{replay_is_answer};
+
+    ghost due = { replay_due };
+
+    fn answer(alloc: Global, input: &[u8]) -> Result<(Vec<u8>, Exit), Exit> {
+        answer_to(alloc, input)
     }
+
+    ghost ends = { replay_is_answer };
 }
 
 // The text that is due for an input, with the exit.
@@ -72,8 +58,8 @@ fn answer_to(alloc: Global, input: &[u8]) -> Result<(Vec<u8>, Exit), Exit>
     }
 }
 
-// The text of the report of a trace's replay.
-fn report_on(alloc: Global, trace: &Trace) -> Result<Vec<u8>, AllocError>
+/// The text of the report of a trace's replay.
+pub fn report_on(alloc: Global, trace: &Trace) -> Result<Vec<u8>, AllocError>
     ensures { IfOk result (λ text. text.items ≡ report_of_replay trace.now) }
 {
     let mut meter = Meter::new();
@@ -81,10 +67,4 @@ fn report_on(alloc: Global, trace: &Trace) -> Result<Vec<u8>, AllocError>
     let report = report(alloc, trace, outcomes.as_slice(), &end)?;
     let text = text_of(alloc, &report)?;
     Ok(text.into_bytes())
-}
-
-fn too_long(alloc: Global) -> Result<Vec<u8>, AllocError>
-    ensures { IfOk result (λ text. text.items ≡ codes "fault input TooLong\n") }
-{
-    Vec::from_slice(alloc, b"fault input TooLong\n")
 }

@@ -1,0 +1,7 @@
+//! The desk: one trace in versions, and a reply to each request to edit it.
+#![tactic(auto)]
+
+pub mod desk;
+pub mod replies;
+#[cfg(test)]
+mod tests;
