@@ -26,7 +26,7 @@ use Rattle.ownership_model.specs.View.{Seen, held_by, named_by, named_in, seen, 
 use Rattle.ownership_model.specs.Step.{step, carried_out, end_from, AreNew}
 use Rattle.trace_types.specs.Operation.{Operation}
 use Rattle.ownership_model.proofs.DropLemmas.{sound-release}
-use Rattle.ownership_model.proofs.EndingLemmas.{new_ok}
+use Rattle.ownership_model.proofs.EndingLemmas.{new_carriable}
 use Rattle.ownership_model.specs.Table.{row, row_of, upgraded, unwrapped, made_unique, dropped, swapped, exchanged, set_field, take_field, copy_field, write_field, fields_of, is_alive, same_pointer, make, act}
 use Rattle.ownership_model.proofs.WalkLemmas as walk
 use Rattle.ownership_model.proofs.MapLemmas.{get_inserted}
@@ -79,57 +79,57 @@ module _ (m : State) (sound : IsSound m []) where
   held_strong h o is = omega (arith, held_within (hits (Strong o)) m h (holding.Slot (Strong o)) is, self_strong o)
 
   -- a handle that is free gets a slot
-  add_ok : (to : ℕ) (s : Slot) (a : Answer) (o : Option ℕ) → get m.handles to ≡ None → Stands s → P (act a (SetHandle to (holding.Slot s) ∷ []) [] o)
-  add_ok to s a o free c = (
+  add_carriable : (to : ℕ) (s : Slot) (a : Answer) (o : Option ℕ) → get m.handles to ≡ None → Stands s → P (act a (SetHandle to (holding.Slot s) ∷ []) [] o)
+  add_carriable to s a o free c = (
     (tt, tt),
     copies_sound m (changed m (SetHandle to (holding.Slot s) ∷ [])) [] sound (λ t. hits t s)
         (λ t. omega (arith, total-set (holding_weight (hits t)) m.handles to (holding.Slot s) None free)) c.strongly c.weakly (λ q. refl) (λ q. refl),
   )
 
-  idle_ok : (a : Answer) (o : Option ℕ) → P (act a [] [] o)
-  idle_ok a o = (tt, sound)
+  idle_carriable : (a : Answer) (o : Option ℕ) → P (act a [] [] o)
+  idle_carriable a o = (tt, sound)
 
   alive_strong : (s w e : ℕ) (g : Option Entry) → IsSoundAt s w e g → is_alive g ≡ true → 0 < s
   alive_strong s w e None h is = absurd cc
   alive_strong s w e (Some (Alive fields)) h is = h.0
   alive_strong s w e (Some Husk) h is = absurd cc
 
-  upgraded_ok : (to o : ℕ) → get m.handles to ≡ None → P (upgraded to (get m.objects o) (Some o))
-  upgraded_ok to o free =
+  upgraded_carriable : (to o : ℕ) → get m.handles to ≡ None → P (upgraded to (get m.objects o) (Some o))
+  upgraded_carriable to o free =
       walk.at_test P (λ _. tt) (is_alive (get m.objects o)) _ _
-      (λ t. add_ok to (Strong o) answer.Yes (Some o) free (strong_stands o (alive_strong (strong m [] o) (weak m [] o) 0 (get m.objects o) (sound o) t)))
-      (λ t. add_ok to Nothing answer.No (Some o) free nothing_stands)
+      (λ t. add_carriable to (Strong o) answer.Yes (Some o) free (strong_stands o (alive_strong (strong m [] o) (weak m [] o) 0 (get m.objects o) (sound o) t)))
+      (λ t. add_carriable to Nothing answer.No (Some o) free nothing_stands)
 
-  dropped_ok : (h : ℕ) (x : Holding) → get m.handles h ≡ Some x → P (dropped h x)
-  dropped_ok h (holding.Slot s) is = (
+  dropped_carriable : (h : ℕ) (x : Holding) → get m.handles h ≡ Some x → P (dropped h x)
+  dropped_carriable h (holding.Slot s) is = (
     (there _ _ is, tt),
     moves_sound m (changed m (EndHandle h ∷ [])) (item.Slot s ∷ []) sound
         (λ t. omega (arith, total-cut (holding_weight (hits t)) m.handles h (Some (holding.Slot s)) is)) (λ q. refl) (λ q. refl),
   )
-  dropped_ok h (holding.Bare fields) is = (
+  dropped_carriable h (holding.Bare fields) is = (
     (there _ _ is, tt),
     moves_sound m (changed m (EndHandle h ∷ [])) (drops fields []) sound
         (λ t. omega (arith, total-cut (holding_weight (hits t)) m.handles h (Some (holding.Bare fields)) is, items_weight-drops (hits t) fields [])) (λ q. ends-drops q fields []) (λ q. refl),
   )
 
-  cell_new_ok : (c from : ℕ) (s : Slot) → get m.handles from ≡ Some (holding.Slot s) → get m.cells c ≡ None → P (act answer.Done (EndHandle from ∷ SetCell c s ∷ []) [] (named_by s))
-  cell_new_ok c from s is free = (
+  cell_new_carriable : (c from : ℕ) (s : Slot) → get m.handles from ≡ Some (holding.Slot s) → get m.cells c ≡ None → P (act answer.Done (EndHandle from ∷ SetCell c s ∷ []) [] (named_by s))
+  cell_new_carriable c from s is free = (
     (there _ _ is, (tt, tt)),
     moves_sound m (changed m (EndHandle from ∷ SetCell c s ∷ [])) [] sound
         (λ t. omega (arith, total-cut (holding_weight (hits t)) m.handles from (Some (holding.Slot s)) is, total-set (hits t) m.cells c s None free)) (λ q. refl) (λ q. refl),
   )
 
   -- a handle's slot goes into a cell, and the old one is dropped
-  store_ok : (c from : ℕ) (a : Answer) (old s : Slot) → get m.cells c ≡ Some old → get m.handles from ≡ Some (holding.Slot s) → P (act a (EndHandle from ∷ SetCell c s ∷ []) (item.Slot old ∷ []) (named_by s))
-  store_ok c from a old s had is = (
+  store_carriable : (c from : ℕ) (a : Answer) (old s : Slot) → get m.cells c ≡ Some old → get m.handles from ≡ Some (holding.Slot s) → P (act a (EndHandle from ∷ SetCell c s ∷ []) (item.Slot old ∷ []) (named_by s))
+  store_carriable c from a old s had is = (
     (there _ _ is, (tt, tt)),
     moves_sound m (changed m (EndHandle from ∷ SetCell c s ∷ [])) (item.Slot old ∷ []) sound
         (λ t. omega (arith, total-cut (holding_weight (hits t)) m.handles from (Some (holding.Slot s)) is, total-set (hits t) m.cells c s (Some old) had)) (λ q. refl) (λ q. refl),
   )
 
-  swapped_ok : (c from : ℕ) (to : Option ℕ) (it : Option Holding) (old s : Slot) → ((k : ℕ) → to ≡ Some k → it ≡ get m.handles k) → get m.cells c ≡ Some old → get m.handles from ≡ Some (holding.Slot s) → P (swapped c from to it old s)
-  swapped_ok c from None it old s at had is = store_ok c from answer.Done old s had is
-  swapped_ok c from (Some to) it old s at had is = walk.at_free P (λ _. tt) to it _ (λ none.
+  swapped_carriable : (c from : ℕ) (to : Option ℕ) (it : Option Holding) (old s : Slot) → ((k : ℕ) → to ≡ Some k → it ≡ get m.handles k) → get m.cells c ≡ Some old → get m.handles from ≡ Some (holding.Slot s) → P (swapped c from to it old s)
+  swapped_carriable c from None it old s at had is = store_carriable c from answer.Done old s had is
+  swapped_carriable c from (Some to) it old s at had is = walk.at_free P (λ _. tt) to it _ (λ none.
       let free : get m.handles to ≡ None = sym (at to refl) ∙ none in (
         (there _ _ is, (tt, (tt, tt))),
         moves_sound m (changed m (EndHandle from ∷ SetCell c s ∷ SetHandle to (holding.Slot old) ∷ [])) [] sound
@@ -141,10 +141,10 @@ module _ (m : State) (sound : IsSound m []) where
             )) (λ q. refl) (λ q. refl),
       ))
 
-  exchanged_ok : (c expected desired : ℕ) (old e d : Slot) → (expected == desired) ≡ false → get m.cells c ≡ Some old → get m.handles expected ≡ Some (holding.Slot e) → get m.handles desired ≡ Some (holding.Slot d) → P (exchanged c expected desired old e d)
-  exchanged_ok c expected desired old e d apart had is is_too =
+  exchanged_carriable : (c expected desired : ℕ) (old e d : Slot) → (expected == desired) ≡ false → get m.cells c ≡ Some old → get m.handles expected ≡ Some (holding.Slot e) → get m.handles desired ≡ Some (holding.Slot d) → P (exchanged c expected desired old e d)
+  exchanged_carriable c expected desired old e d apart had is is_too =
       walk.at_test P (λ _. tt) (same_pointer old e) _ _
-      (λ _. store_ok c desired answer.Yes old d had is_too)
+      (λ _. store_carriable c desired answer.Yes old d had is_too)
       (λ _.
       let still : get (insert m.handles expected (holding.Slot old)) desired ≡ Some (holding.Slot d) = get_set_other m.handles expected (holding.Slot old) desired apart ∙ is_too in
       let c : Stands old = cell_stands c old had in (
@@ -154,11 +154,11 @@ module _ (m : State) (sound : IsSound m []) where
             c.strongly c.weakly (λ q. refl) (λ q. refl),
       ))
 
-  cell_drop_ok : (c : ℕ) (s : Slot) → get m.cells c ≡ Some s → P (act answer.Done (EndCell c ∷ []) (item.Slot s ∷ []) (named_by s))
-  cell_drop_ok c s is = ((there _ _ is, tt), moves_sound m (changed m (EndCell c ∷ [])) (item.Slot s ∷ []) sound (λ t. omega (arith, total-cut (hits t) m.cells c (Some s) is)) (λ q. refl) (λ q. refl))
+  cell_drop_carriable : (c : ℕ) (s : Slot) → get m.cells c ≡ Some s → P (act answer.Done (EndCell c ∷ []) (item.Slot s ∷ []) (named_by s))
+  cell_drop_carriable c s is = ((there _ _ is, tt), moves_sound m (changed m (EndCell c ∷ [])) (item.Slot s ∷ []) sound (λ t. omega (arith, total-cut (hits t) m.cells c (Some s) is)) (λ q. refl) (λ q. refl))
 
-  not_unwrapped_ok : (h o : ℕ) → get m.handles h ≡ Some (holding.Slot (Strong o)) → P (act answer.No (SetHandle h (holding.Slot Nothing) ∷ []) (item.Slot (Strong o) ∷ []) (Some o))
-  not_unwrapped_ok h o is = (
+  not_unwrapped_carriable : (h o : ℕ) → get m.handles h ≡ Some (holding.Slot (Strong o)) → P (act answer.No (SetHandle h (holding.Slot Nothing) ∷ []) (item.Slot (Strong o) ∷ []) (Some o))
+  not_unwrapped_carriable h o is = (
     (tt, tt),
     moves_sound m (changed m (SetHandle h (holding.Slot Nothing) ∷ [])) (item.Slot (Strong o) ∷ []) sound
         (λ t. omega (arith, nothing_hit t, total-set (holding_weight (hits t)) m.handles h (holding.Slot Nothing) (Some (holding.Slot (Strong o))) is)) (λ q. refl) (λ q. refl),
@@ -176,10 +176,10 @@ module _ (m : State) (sound : IsSound m []) where
   is_alive_at : (o : ℕ) (fields : List Slot) → get m.objects o ≡ Some (Alive fields) → IsAlive (get m.objects o)
   is_alive_at o fields is = subst (λ (x : Option Entry). IsAlive x) (sym is) tt
 
-  unwrapped_ok : (h o : ℕ) (e : Option Entry) → get m.objects o ≡ e → get m.handles h ≡ Some (holding.Slot (Strong o)) → strong m [] o ≡ 1 → P (unwrapped h o (fields_of e))
-  unwrapped_ok h o None is hold one = absurd (let a : IsSoundAt (strong m [] o) (weak m [] o) 0 None = here o None is in omega (arith, a.0, one))
-  unwrapped_ok h o (Some Husk) is hold one = absurd (let a : IsSoundAt (strong m [] o) (weak m [] o) 0 (Some Husk) = here o (Some Husk) is in omega (arith, a.0, one))
-  unwrapped_ok h o (Some (Alive fields)) is hold one = (
+  unwrapped_carriable : (h o : ℕ) (e : Option Entry) → get m.objects o ≡ e → get m.handles h ≡ Some (holding.Slot (Strong o)) → strong m [] o ≡ 1 → P (unwrapped h o (fields_of e))
+  unwrapped_carriable h o None is hold one = absurd (let a : IsSoundAt (strong m [] o) (weak m [] o) 0 None = here o None is in omega (arith, a.0, one))
+  unwrapped_carriable h o (Some Husk) is hold one = absurd (let a : IsSoundAt (strong m [] o) (weak m [] o) 0 (Some Husk) = here o (Some Husk) is in omega (arith, a.0, one))
+  unwrapped_carriable h o (Some (Alive fields)) is hold one = (
     (is_alive_at o fields is, (tt, tt)),
     turns_sound m (changed m (TurnHusk o ∷ SetHandle h (holding.Bare fields) ∷ [])) (item.End o ∷ []) sound o one
         (λ t. omega (arith, total-set (entry_weight (hits t)) m.objects o Husk (Some (Alive fields)) is, total-set (holding_weight (hits t)) m.handles h (holding.Bare fields) (Some (holding.Slot (Strong o))) hold))
@@ -193,14 +193,14 @@ module _ (m : State) (sound : IsSound m []) where
   shape_made : (id : ℕ) (fields : List Slot) (q : ℕ) → shape (get (insert m.objects id (Alive fields)) q) ≡ (if id == q then 1 else shape (get m.objects q))
   shape_made id fields q = ap shape (get_inserted m.objects id (Alive fields) q) ∙ made_shape id q fields (get m.objects q) (id == q)
 
-  unique_ok : (id h o : ℕ) (e : Option Entry) → get m.objects id ≡ None → get m.objects o ≡ e → get m.handles h ≡ Some (holding.Slot (Strong o)) → P (made_unique id h o (record { entry = e; strong = strong m [] o; weak = weak m [] o }))
-  unique_ok id h o None new is hold = absurd (let a : IsSoundAt (strong m [] o) (weak m [] o) 0 None = here o None is in omega (arith, a.0, held_strong h o hold))
-  unique_ok id h o (Some Husk) new is hold = absurd (let a : IsSoundAt (strong m [] o) (weak m [] o) 0 (Some Husk) = here o (Some Husk) is in omega (arith, a.0, held_strong h o hold))
-  unique_ok id h o (Some (Alive fields)) new is hold =
+  unique_carriable : (id h o : ℕ) (e : Option Entry) → get m.objects id ≡ None → get m.objects o ≡ e → get m.handles h ≡ Some (holding.Slot (Strong o)) → P (made_unique id h o (record { entry = e; strong = strong m [] o; weak = weak m [] o }))
+  unique_carriable id h o None new is hold = absurd (let a : IsSoundAt (strong m [] o) (weak m [] o) 0 None = here o None is in omega (arith, a.0, held_strong h o hold))
+  unique_carriable id h o (Some Husk) new is hold = absurd (let a : IsSoundAt (strong m [] o) (weak m [] o) 0 (Some Husk) = here o (Some Husk) is in omega (arith, a.0, held_strong h o hold))
+  unique_carriable id h o (Some (Alive fields)) new is hold =
       let apart : (o == id) ≡ false = apart_of m.objects o id (Alive fields) is new in
       walk.at_test P (λ _. tt) (strong m [] o == 1) _ _
       (λ one. walk.at_test P (λ _. tt) (weak m [] o == 0) _ _
-      (λ _. idle_ok answer.Unique (Some o))
+      (λ _. idle_carriable answer.Unique (Some o))
       (λ some.
       let free : get (insert m.objects o Husk) id ≡ None = get_set_other m.objects o Husk id apart ∙ new in (
         (is_alive_at o fields is, (free, (tt, tt))),
@@ -221,8 +221,8 @@ module _ (m : State) (sound : IsSound m []) where
             (λ q _ p. omega (arith, p, fields_within (hits (Strong q)) m o fields is)) (λ q _ p. omega (arith, p, fields_within (hits (Weak q)) m o fields is)) (λ q. refl) (shape_made id fields),
       ))
 
-  new_from_ok : (id from to : ℕ) (fields : List Slot) → get m.objects id ≡ None → get m.handles from ≡ Some (holding.Bare fields) → get m.handles to ≡ None → P (act answer.Made (EndHandle from ∷ make id fields to) [] (Some id))
-  new_from_ok id from to fields new is free = (
+  new_from_carriable : (id from to : ℕ) (fields : List Slot) → get m.objects id ≡ None → get m.handles from ≡ Some (holding.Bare fields) → get m.handles to ≡ None → P (act answer.Made (EndHandle from ∷ make id fields to) [] (Some id))
+  new_from_carriable id from to fields new is free = (
     (there _ _ is, (new, (tt, tt))),
     makes_sound m (changed m (EndHandle from ∷ make id fields to)) [] sound id (λ _. 0)
         (λ t. omega (
@@ -262,11 +262,11 @@ module _ (m : State) (sound : IsSound m []) where
       let new : entry_weight w (with_field (get m.objects o) i s) ≡ slots_weight w (slice_set fields i s) = ap (λ x. entry_weight w (with_field x i s)) is in
       omega (arith, total-set (entry_weight w) m.objects o (with_field (get m.objects o) i s) (Some (Alive fields)) is, new, slots_weight-set w fields i old s got)
 
-  set_object_ok : (h i from o : ℕ) (s old : Slot) (e : Option Entry) → get m.objects o ≡ e → get m.handles from ≡ Some (holding.Slot s) → slice_get (fields_of e) i ≡ Some old
+  set_object_carriable : (h i from o : ℕ) (s old : Slot) (e : Option Entry) → get m.objects o ≡ e → get m.handles from ≡ Some (holding.Slot s) → slice_get (fields_of e) i ≡ Some old
       → P (act answer.Done (EndHandle from ∷ write_field h (Some o) (fields_of e) i s ∷ []) (item.Slot old ∷ []) (Some o))
-  set_object_ok h i from o s old None at is got = absurd cc
-  set_object_ok h i from o s old (Some Husk) at is got = absurd cc
-  set_object_ok h i from o s old (Some (Alive fields)) at is got = (
+  set_object_carriable h i from o s old None at is got = absurd cc
+  set_object_carriable h i from o s old (Some Husk) at is got = absurd cc
+  set_object_carriable h i from o s old (Some (Alive fields)) at is got = (
     (there _ _ is, (has_field o fields i old at got, tt)),
     moves_sound m (changed m (EndHandle from ∷ SetField o i s ∷ [])) (item.Slot old ∷ []) sound
         (λ t. omega (arith, total-cut (holding_weight (hits t)) m.handles from (Some (holding.Slot s)) is, object_set (hits t) o fields i old s at got)) (λ q. refl) (shape_set o fields i s at),
@@ -281,42 +281,42 @@ module _ (m : State) (sound : IsSound m []) where
   turned_apart : (a b : ℕ) → (a == b) ≡ false → (b == a) ≡ false
   turned_apart a b f = grind (arith, nat_tests, f)
 
-  set_bare_ok : (h i from : ℕ) (s old : Slot) (fields : List Slot) → get m.handles h ≡ Some (holding.Bare fields) → get m.handles from ≡ Some (holding.Slot s) → slice_get fields i ≡ Some old
+  set_bare_carriable : (h i from : ℕ) (s old : Slot) (fields : List Slot) → get m.handles h ≡ Some (holding.Bare fields) → get m.handles from ≡ Some (holding.Slot s) → slice_get fields i ≡ Some old
       → P (act answer.Done (EndHandle from ∷ write_field h None fields i s ∷ []) (item.Slot old ∷ []) None)
-  set_bare_ok h i from s old fields bare is got =
+  set_bare_carriable h i from s old fields bare is got =
       let still : get (remove m.handles from) h ≡ Some (holding.Bare fields) = get_cut_other m.handles from h (apart_slot from h s fields is bare) ∙ bare in (
         (there _ _ is, (tt, tt)),
         moves_sound m (changed m (EndHandle from ∷ SetHandle h (holding.Bare (slice_set fields i s)) ∷ [])) (item.Slot old ∷ []) sound
             (λ t. omega (arith, total-cut (holding_weight (hits t)) m.handles from (Some (holding.Slot s)) is, total-set (holding_weight (hits t)) (remove m.handles from) h (holding.Bare (slice_set fields i s)) (Some (holding.Bare fields)) still, slots_weight-set (hits t) fields i old s got)) (λ q. refl) (λ q. refl),
       )
 
-  take_object_ok : (h i to o : ℕ) (s : Slot) (e : Option Entry) → get m.objects o ≡ e → get m.handles to ≡ None → slice_get (fields_of e) i ≡ Some s
+  take_object_carriable : (h i to o : ℕ) (s : Slot) (e : Option Entry) → get m.objects o ≡ e → get m.handles to ≡ None → slice_get (fields_of e) i ≡ Some s
       → P (act answer.Done (SetHandle to (holding.Slot s) ∷ write_field h (Some o) (fields_of e) i Nothing ∷ []) [] (Some o))
-  take_object_ok h i to o s None at free got = absurd cc
-  take_object_ok h i to o s (Some Husk) at free got = absurd cc
-  take_object_ok h i to o s (Some (Alive fields)) at free got = (
+  take_object_carriable h i to o s None at free got = absurd cc
+  take_object_carriable h i to o s (Some Husk) at free got = absurd cc
+  take_object_carriable h i to o s (Some (Alive fields)) at free got = (
     (tt, (has_field o fields i s at got, tt)),
     moves_sound m (changed m (SetHandle to (holding.Slot s) ∷ SetField o i Nothing ∷ [])) [] sound
         (λ t. omega (arith, total-set (holding_weight (hits t)) m.handles to (holding.Slot s) None free, object_set (hits t) o fields i s Nothing at got, nothing_hits t)) (λ q. refl) (shape_set o fields i Nothing at),
   )
 
-  take_bare_ok : (h i to : ℕ) (s : Slot) (fields : List Slot) → get m.handles h ≡ Some (holding.Bare fields) → get m.handles to ≡ None → slice_get fields i ≡ Some s
+  take_bare_carriable : (h i to : ℕ) (s : Slot) (fields : List Slot) → get m.handles h ≡ Some (holding.Bare fields) → get m.handles to ≡ None → slice_get fields i ≡ Some s
       → P (act answer.Done (SetHandle to (holding.Slot s) ∷ write_field h None fields i Nothing ∷ []) [] None)
-  take_bare_ok h i to s fields bare free got =
+  take_bare_carriable h i to s fields bare free got =
       let still : get (insert m.handles to (holding.Slot s)) h ≡ Some (holding.Bare fields) = get_set_other m.handles to (holding.Slot s) h (turned_apart h to (apart_of m.handles h to (holding.Bare fields) bare free)) ∙ bare in (
         (tt, (tt, tt)),
         moves_sound m (changed m (SetHandle to (holding.Slot s) ∷ SetHandle h (holding.Bare (slice_set fields i Nothing)) ∷ [])) [] sound
             (λ t. omega (arith, total-set (holding_weight (hits t)) m.handles to (holding.Slot s) None free, total-set (holding_weight (hits t)) (insert m.handles to (holding.Slot s)) h (holding.Bare (slice_set fields i Nothing)) (Some (holding.Bare fields)) still, slots_weight-set (hits t) fields i s Nothing got, nothing_hits t)) (λ q. refl) (λ q. refl),
       )
 
-  get_object_ok : (i to o : ℕ) (s : Slot) (e : Option Entry) → get m.objects o ≡ e → get m.handles to ≡ None → slice_get (fields_of e) i ≡ Some s → P (act answer.Done (SetHandle to (holding.Slot s) ∷ []) [] (Some o))
-  get_object_ok i to o s None at free got = absurd cc
-  get_object_ok i to o s (Some Husk) at free got = absurd cc
-  get_object_ok i to o s (Some (Alive fields)) at free got = add_ok to s answer.Done (Some o) free
+  get_object_carriable : (i to o : ℕ) (s : Slot) (e : Option Entry) → get m.objects o ≡ e → get m.handles to ≡ None → slice_get (fields_of e) i ≡ Some s → P (act answer.Done (SetHandle to (holding.Slot s) ∷ []) [] (Some o))
+  get_object_carriable i to o s None at free got = absurd cc
+  get_object_carriable i to o s (Some Husk) at free got = absurd cc
+  get_object_carriable i to o s (Some (Alive fields)) at free got = add_carriable to s answer.Done (Some o) free
       (counted_stands s (λ w. omega (arith, slots_weight-get w fields i s got, fields_within w m o fields at)))
 
-  get_bare_ok : (h i to : ℕ) (s : Slot) (fields : List Slot) → get m.handles h ≡ Some (holding.Bare fields) → get m.handles to ≡ None → slice_get fields i ≡ Some s → P (act answer.Done (SetHandle to (holding.Slot s) ∷ []) [] None)
-  get_bare_ok h i to s fields bare free got = add_ok to s answer.Done None free
+  get_bare_carriable : (h i to : ℕ) (s : Slot) (fields : List Slot) → get m.handles h ≡ Some (holding.Bare fields) → get m.handles to ≡ None → slice_get fields i ≡ Some s → P (act answer.Done (SetHandle to (holding.Slot s) ∷ []) [] None)
+  get_bare_carriable h i to s fields bare free got = add_carriable to s answer.Done None free
       (counted_stands s (λ w. omega (arith, slots_weight-get w fields i s got, held_within w m h (holding.Bare fields) bare)))
 
   -- ---- the rows
@@ -333,93 +333,93 @@ module _ (m : State) (sound : IsSound m []) where
       test true e = absurd cc
       test false e = refl
 
-  set_field_ok : (h i from : ℕ) (y : Holding) (owner : Option ℕ) (fields : List Slot) → get m.handles from ≡ Some y
+  set_field_carriable : (h i from : ℕ) (y : Holding) (owner : Option ℕ) (fields : List Slot) → get m.handles from ≡ Some y
       → ((s old : Slot) → get m.handles from ≡ Some (holding.Slot s) → slice_get fields i ≡ Some old → P (act answer.Done (EndHandle from ∷ write_field h owner fields i s ∷ []) (item.Slot old ∷ []) owner)) → P (set_field h i from y owner fields)
-  set_field_ok h i from y owner fields is f =
+  set_field_carriable h i from y owner fields is f =
       walk.at_slot P (λ _. tt) from y _ (λ s was. walk.at_field P (λ _. tt) i (slice_get fields i) _ (λ old got. f s old (is ∙ ap Some was) got))
 
-  take_field_ok : (h i to : ℕ) (owner : Option ℕ) (fields : List Slot)
+  take_field_carriable : (h i to : ℕ) (owner : Option ℕ) (fields : List Slot)
       → ((s : Slot) → get m.handles to ≡ None → slice_get fields i ≡ Some s → P (act answer.Done (SetHandle to (holding.Slot s) ∷ write_field h owner fields i Nothing ∷ []) [] owner)) → P (take_field h i to (get m.handles to) owner fields)
-  take_field_ok h i to owner fields f =
+  take_field_carriable h i to owner fields f =
       walk.at_field P (λ _. tt) i (slice_get fields i) _ (λ s got. walk.at_free P (λ _. tt) to (get m.handles to) _ (λ free. f s free got))
 
-  copy_field_ok : (i to : ℕ) (owner : Option ℕ) (fields : List Slot)
+  copy_field_carriable : (i to : ℕ) (owner : Option ℕ) (fields : List Slot)
       → ((s : Slot) → get m.handles to ≡ None → slice_get fields i ≡ Some s → P (act answer.Done (SetHandle to (holding.Slot s) ∷ []) [] owner)) → P (copy_field i to (get m.handles to) owner fields)
-  copy_field_ok i to owner fields f =
+  copy_field_carriable i to owner fields f =
       walk.at_field P (λ _. tt) i (slice_get fields i) _ (λ s got. walk.at_free P (λ _. tt) to (get m.handles to) _ (λ free. f s free got))
 
   at_to : (to : Option ℕ) (k : ℕ) → to ≡ Some k → held_by m to ≡ get m.handles k
   at_to to k e = ap (held_by m) e
 
-  pub row_ok : (id : ℕ) (k : Kind) → get m.objects id ≡ None → repeated k ≡ None → P (row_of id k (view_of m k))
-  row_ok id (kind.New to fields) new apart = new_ok m id to fields sound new apart
-  row_ok id (kind.NewCyclic to fields) new apart = new_ok m id to fields sound new apart
-  row_ok id (kind.NewFrom from to) new apart =
+  pub row_of_carriable : (id : ℕ) (k : Kind) → get m.objects id ≡ None → repeated k ≡ None → P (row_of id k (view_of m k))
+  row_of_carriable id (kind.New to fields) new apart = new_carriable m id to fields sound new apart
+  row_of_carriable id (kind.NewCyclic to fields) new apart = new_carriable m id to fields sound new apart
+  row_of_carriable id (kind.NewFrom from to) new apart =
       walk.at_held P (λ _. tt) from (get m.handles from) _ (λ x is. walk.at_bare P (λ _. tt) from x _ (λ fields was. walk.at_free P (λ _. tt) to (get m.handles to) _ (λ free.
-      new_from_ok id from to fields new (is ∙ ap Some was) free)))
-  row_ok id (kind.WeakNew to) new apart = walk.at_free P (λ _. tt) to (get m.handles to) _ (λ free. add_ok to Dangling answer.Done None free dangling_stands)
-  row_ok id (kind.Null to) new apart = walk.at_free P (λ _. tt) to (get m.handles to) _ (λ free. add_ok to Nothing answer.Done None free nothing_stands)
-  row_ok id (kind.Clone from to) new apart =
+      new_from_carriable id from to fields new (is ∙ ap Some was) free)))
+  row_of_carriable id (kind.WeakNew to) new apart = walk.at_free P (λ _. tt) to (get m.handles to) _ (λ free. add_carriable to Dangling answer.Done None free dangling_stands)
+  row_of_carriable id (kind.Null to) new apart = walk.at_free P (λ _. tt) to (get m.handles to) _ (λ free. add_carriable to Nothing answer.Done None free nothing_stands)
+  row_of_carriable id (kind.Clone from to) new apart =
       walk.at_held P (λ _. tt) from (get m.handles from) _ (λ x is. walk.at_slot P (λ _. tt) from x _ (λ s was. walk.at_free P (λ _. tt) to (get m.handles to) _ (λ free.
-      add_ok to s answer.Done (named_by s) free (held_stands from s (is ∙ ap Some was)))))
-  row_ok id (kind.Drop h) new apart = walk.at_held P (λ _. tt) h (get m.handles h) _ (λ x is. dropped_ok h x is)
-  row_ok id (kind.Downgrade from to) new apart =
+      add_carriable to s answer.Done (named_by s) free (held_stands from s (is ∙ ap Some was)))))
+  row_of_carriable id (kind.Drop h) new apart = walk.at_held P (λ _. tt) h (get m.handles h) _ (λ x is. dropped_carriable h x is)
+  row_of_carriable id (kind.Downgrade from to) new apart =
       walk.at_held P (λ _. tt) from (get m.handles from) _ (λ x is. walk.at_strong P (λ _. tt) from x _ (λ o was. walk.at_free P (λ _. tt) to (get m.handles to) _ (λ free.
-      add_ok to (Weak o) answer.Done (Some o) free (weak_stands o (held_strong from o (is ∙ ap Some was))))))
-  row_ok id (kind.Upgrade from to) new apart =
+      add_carriable to (Weak o) answer.Done (Some o) free (weak_stands o (held_strong from o (is ∙ ap Some was))))))
+  row_of_carriable id (kind.Upgrade from to) new apart =
       walk.at_held P (λ _. tt) from (get m.handles from) _ (λ x is. walk.at_weak P (λ _. tt) from x _
       (λ o was. walk.at_free P (λ _. tt) to (get m.handles to) _ (λ free.
-      subst (λ (it : Seen). P (upgraded to it.entry (Some o))) (sym (seen_weak from o x is was)) (upgraded_ok to o free)))
-      (walk.at_free P (λ _. tt) to (get m.handles to) _ (λ free. add_ok to Nothing answer.No None free nothing_stands)))
-  row_ok id (kind.TryUnwrap h) new apart =
+      subst (λ (it : Seen). P (upgraded to it.entry (Some o))) (sym (seen_weak from o x is was)) (upgraded_carriable to o free)))
+      (walk.at_free P (λ _. tt) to (get m.handles to) _ (λ free. add_carriable to Nothing answer.No None free nothing_stands)))
+  row_of_carriable id (kind.TryUnwrap h) new apart =
       walk.at_held P (λ _. tt) h (get m.handles h) _ (λ x is. walk.at_strong P (λ _. tt) h x _ (λ o was.
       subst (λ (it : Seen). P (if it.strong == 1 then unwrapped h o (fields_of it.entry) else act answer.No [] [] (Some o))) (sym (seen_is h o x is was))
-      (walk.at_test P (λ _. tt) (strong m [] o == 1) _ _ (λ one. unwrapped_ok h o (get m.objects o) refl (is ∙ ap Some was) (same_number (strong m [] o) 1 one)) (λ _. idle_ok answer.No (Some o)))))
-  row_ok id (kind.IntoInner h) new apart =
+      (walk.at_test P (λ _. tt) (strong m [] o == 1) _ _ (λ one. unwrapped_carriable h o (get m.objects o) refl (is ∙ ap Some was) (same_number (strong m [] o) 1 one)) (λ _. idle_carriable answer.No (Some o)))))
+  row_of_carriable id (kind.IntoInner h) new apart =
       walk.at_held P (λ _. tt) h (get m.handles h) _ (λ x is. walk.at_strong P (λ _. tt) h x _ (λ o was.
       subst (λ (it : Seen). P (if it.strong == 1 then unwrapped h o (fields_of it.entry) else act answer.No (SetHandle h (holding.Slot Nothing) ∷ []) (item.Slot (Strong o) ∷ []) (Some o))) (sym (seen_is h o x is was))
-      (walk.at_test P (λ _. tt) (strong m [] o == 1) _ _ (λ one. unwrapped_ok h o (get m.objects o) refl (is ∙ ap Some was) (same_number (strong m [] o) 1 one)) (λ _. not_unwrapped_ok h o (is ∙ ap Some was)))))
-  row_ok id (kind.GetMut h) new apart =
+      (walk.at_test P (λ _. tt) (strong m [] o == 1) _ _ (λ one. unwrapped_carriable h o (get m.objects o) refl (is ∙ ap Some was) (same_number (strong m [] o) 1 one)) (λ _. not_unwrapped_carriable h o (is ∙ ap Some was)))))
+  row_of_carriable id (kind.GetMut h) new apart =
       walk.at_held P (λ _. tt) h (get m.handles h) _ (λ x is. walk.at_strong P (λ _. tt) h x _ (λ o was. (tt, sound)))
-  row_ok id (kind.MakeMut h) new apart =
+  row_of_carriable id (kind.MakeMut h) new apart =
       walk.at_held P (λ _. tt) h (get m.handles h) _ (λ x is. walk.at_strong P (λ _. tt) h x _ (λ o was.
-      subst (λ (it : Seen). P (made_unique id h o it)) (sym (seen_is h o x is was)) (unique_ok id h o (get m.objects o) new refl (is ∙ ap Some was))))
-  row_ok id (kind.Counts h) new apart =
-      walk.at_held P (λ _. tt) h (get m.handles h) _ (λ x is. walk.at_counted P (λ _. tt) h x _ (λ o was. idle_ok answer.Done (Some o)) (λ o was. idle_ok answer.Done (Some o)) (idle_ok answer.Done None))
-  row_ok id (kind.PtrEq a b) new apart =
+      subst (λ (it : Seen). P (made_unique id h o it)) (sym (seen_is h o x is was)) (unique_carriable id h o (get m.objects o) new refl (is ∙ ap Some was))))
+  row_of_carriable id (kind.Counts h) new apart =
+      walk.at_held P (λ _. tt) h (get m.handles h) _ (λ x is. walk.at_counted P (λ _. tt) h x _ (λ o was. idle_carriable answer.Done (Some o)) (λ o was. idle_carriable answer.Done (Some o)) (idle_carriable answer.Done None))
+  row_of_carriable id (kind.PtrEq a b) new apart =
       walk.at_held P (λ _. tt) a (get m.handles a) _ (λ x is. walk.at_held P (λ _. tt) b (get m.handles b) _ (λ y is_too. walk.at_strong P (λ _. tt) a x _ (λ o was. walk.at_strong P (λ _. tt) b y _ (λ p _. (tt, sound)))))
-  row_ok id (kind.Set h i from) new apart =
+  row_of_carriable id (kind.Set h i from) new apart =
       walk.at_held P (λ _. tt) h (get m.handles h) _ (λ x is. walk.at_held P (λ _. tt) from (get m.handles from) _ (λ y is_too. walk.at_fields P (λ _. tt) h x _ _
       (λ o was. subst (λ (it : Seen). P (set_field h i from y (Some o) (fields_of it.entry))) (sym (seen_is h o x is was))
-      (set_field_ok h i from y (Some o) (fields_of (get m.objects o)) is_too (λ s old slot got. set_object_ok h i from o s old (get m.objects o) refl slot got)))
-      (λ fields was. set_field_ok h i from y None fields is_too (λ s old slot got. set_bare_ok h i from s old fields (is ∙ ap Some was) slot got))))
-  row_ok id (kind.Take h i to) new apart =
+      (set_field_carriable h i from y (Some o) (fields_of (get m.objects o)) is_too (λ s old slot got. set_object_carriable h i from o s old (get m.objects o) refl slot got)))
+      (λ fields was. set_field_carriable h i from y None fields is_too (λ s old slot got. set_bare_carriable h i from s old fields (is ∙ ap Some was) slot got))))
+  row_of_carriable id (kind.Take h i to) new apart =
       walk.at_held P (λ _. tt) h (get m.handles h) _ (λ x is. walk.at_fields P (λ _. tt) h x _ _
       (λ o was. subst (λ (it : Seen). P (take_field h i to (get m.handles to) (Some o) (fields_of it.entry))) (sym (seen_is h o x is was))
-      (take_field_ok h i to (Some o) (fields_of (get m.objects o)) (λ s free got. take_object_ok h i to o s (get m.objects o) refl free got)))
-      (λ fields was. take_field_ok h i to None fields (λ s free got. take_bare_ok h i to s fields (is ∙ ap Some was) free got)))
-  row_ok id (kind.Get h i to) new apart =
+      (take_field_carriable h i to (Some o) (fields_of (get m.objects o)) (λ s free got. take_object_carriable h i to o s (get m.objects o) refl free got)))
+      (λ fields was. take_field_carriable h i to None fields (λ s free got. take_bare_carriable h i to s fields (is ∙ ap Some was) free got)))
+  row_of_carriable id (kind.Get h i to) new apart =
       walk.at_held P (λ _. tt) h (get m.handles h) _ (λ x is. walk.at_fields P (λ _. tt) h x _ _
       (λ o was. subst (λ (it : Seen). P (copy_field i to (get m.handles to) (Some o) (fields_of it.entry))) (sym (seen_is h o x is was))
-      (copy_field_ok i to (Some o) (fields_of (get m.objects o)) (λ s free got. get_object_ok i to o s (get m.objects o) refl free got)))
-      (λ fields was. copy_field_ok i to None fields (λ s free got. get_bare_ok h i to s fields (is ∙ ap Some was) free got)))
-  row_ok id (kind.CellNew c from) new apart =
+      (copy_field_carriable i to (Some o) (fields_of (get m.objects o)) (λ s free got. get_object_carriable i to o s (get m.objects o) refl free got)))
+      (λ fields was. copy_field_carriable i to None fields (λ s free got. get_bare_carriable h i to s fields (is ∙ ap Some was) free got)))
+  row_of_carriable id (kind.CellNew c from) new apart =
       walk.at_held P (λ _. tt) from (get m.handles from) _ (λ x is. walk.at_pointer P (λ _. tt) from x _ (λ s was. walk.at_free_cell P (λ _. tt) c (get m.cells c) _ (λ free.
-      cell_new_ok c from s (is ∙ ap Some was) free)))
-  row_ok id (kind.CellLoad c to) new apart =
-      walk.at_cell P (λ _. tt) c (get m.cells c) _ (λ s is. walk.at_free P (λ _. tt) to (get m.handles to) _ (λ free. add_ok to s answer.Done (named_by s) free (cell_stands c s is)))
-  row_ok id (kind.CellSwap c from to) new apart =
+      cell_new_carriable c from s (is ∙ ap Some was) free)))
+  row_of_carriable id (kind.CellLoad c to) new apart =
+      walk.at_cell P (λ _. tt) c (get m.cells c) _ (λ s is. walk.at_free P (λ _. tt) to (get m.handles to) _ (λ free. add_carriable to s answer.Done (named_by s) free (cell_stands c s is)))
+  row_of_carriable id (kind.CellSwap c from to) new apart =
       walk.at_cell P (λ _. tt) c (get m.cells c) _ (λ old had. walk.at_held P (λ _. tt) from (get m.handles from) _ (λ x is. walk.at_pointer P (λ _. tt) from x _ (λ s was.
-      swapped_ok c from to (held_by m to) old s (at_to to) had (is ∙ ap Some was))))
-  row_ok id (kind.CellCas c expected desired) new apart =
+      swapped_carriable c from to (held_by m to) old s (at_to to) had (is ∙ ap Some was))))
+  row_of_carriable id (kind.CellCas c expected desired) new apart =
       walk.at_cell P (λ _. tt) c (get m.cells c) _ (λ old had. walk.at_held P (λ _. tt) expected (get m.handles expected) _ (λ x is. walk.at_held P (λ _. tt) desired (get m.handles desired) _ (λ y is_too.
       walk.at_pointer P (λ _. tt) expected x _ (λ e was. walk.at_pointer P (λ _. tt) desired y _ (λ d was_too.
-      exchanged_ok c expected desired old e d (cas_apart expected desired apart) had (is ∙ ap Some was) (is_too ∙ ap Some was_too))))))
-  row_ok id (kind.CellDrop c) new apart = walk.at_cell P (λ _. tt) c (get m.cells c) _ (λ s is. cell_drop_ok c s is)
+      exchanged_carriable c expected desired old e d (cas_apart expected desired apart) had (is ∙ ap Some was) (is_too ∙ ap Some was_too))))))
+  row_of_carriable id (kind.CellDrop c) new apart = walk.at_cell P (λ _. tt) c (get m.cells c) _ (λ s is. cell_drop_carriable c s is)
 
 -- each row can be carried out
 pub row_carriable : (m : State) (op : Operation) → IsSound m [] → get m.objects op.id ≡ None → IsCarriable m (row op (view_of m op.kind))
-row_carriable m op sound new = walk.at_repeated (IsCarriable m) (λ _. tt) (repeated op.kind) _ (λ apart. row_ok m sound op.id op.kind new apart)
+row_carriable m op sound new = walk.at_repeated (IsCarriable m) (λ _. tt) (repeated op.kind) _ (λ apart. row_of_carriable m sound op.id op.kind new apart)
 
 carried_sound : (m : State) (id : ℕ) (p : Plan) → IsSound m [] → IsCarriable m p → IsSound (carried_out m id p).state []
 carried_sound m id (Skip why) sound c = sound

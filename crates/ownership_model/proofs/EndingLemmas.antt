@@ -127,8 +127,8 @@ made_shape : (fields : List Slot) (x : Option Entry) (b : Bool) → shape (if b 
 made_shape fields x true = refl
 made_shape fields x false = refl
 
-pub new_ok : (m : State) (id to : ℕ) (fs : List Field) → IsSound m [] → get m.objects id ≡ None → repeated_in (to ∷ []) (held_fields fs) ≡ None → IsCarriable m (new_row id to (elements_of m fs) (get m.handles to))
-new_ok m id to fs sound new apart =
+pub new_carriable : (m : State) (id to : ℕ) (fs : List Field) → IsSound m [] → get m.objects id ≡ None → repeated_in (to ∷ []) (held_fields fs) ≡ None → IsCarriable m (new_row id to (elements_of m fs) (get m.handles to))
+new_carriable m id to fs sound new apart =
     walk.at_all_held (IsCarriable m) (λ _. tt) (first_unheld (elements_of m fs)) _ (λ held. walk.at_all_slots (IsCarriable m) (λ _. tt) (first_bare (elements_of m fs)) _ (λ slots. walk.at_free (IsCarriable m) (λ _. tt) to (get m.handles to) _ (λ free.
     let es : List Element = elements_of m fs in
     let fields : List Slot = made_fields id es in

@@ -1,4 +1,5 @@
--- The same machine over plain lists, which computes: by it the table is tried on whole traces.
+-- A replay over plain lists in place of finite maps, since these compute: so outcomes of whole traces are found by
+-- computation. `ListedLemmas` shows that it is the replay.
 use Rattle.std.specs.Prelude.{ℕ, zero, suc, ◌+◌, ◌==◌, List, [], ◌∷◌, ◌++◌, length, Option, Some, None, ◌&&◌, if◌then◌else◌}
 use Rattle.trace_types.specs.declared.slots.Slot.{Slot}
 use Rattle.trace_types.specs.declared.slots.Slot.TheVariants.{Nothing, Strong, Weak, Dangling}
@@ -11,6 +12,7 @@ use Rattle.trace_types.specs.declared.slots.Change.{Change}
 use Rattle.trace_types.specs.declared.slots.Change.TheVariants.{SetHandle, EndHandle, SetCell, EndCell, SetField, Make, TurnHusk}
 use Rattle.trace_types.specs.declared.kinds.Field.{Field}
 use Rattle.trace_types.specs.declared.kinds.Field.TheVariants as field
+use Rattle.trace_types.specs.declared.outcomes.Answer.{Answer}
 use Rattle.trace_types.specs.declared.outcomes.Event.{Event}
 use Rattle.trace_types.specs.declared.outcomes.Event.TheVariants as event
 use Rattle.trace_types.specs.declared.outcomes.Outcome.{Outcome}
@@ -70,6 +72,7 @@ pub record Ended : Type 0 where
 abbrev pub more_events : List Event → Ended → Ended
 more_events es x = record { state = x.state; events = es ++ x.events }
 
+-- the events es come first
 abbrev pub dropped_in : ℕ → Lists → List Event → List Item → Ended
 dropped_in n m es [] = record { state = m; events = es }
 dropped_in zero m es (x ∷ xs) = record { state = m; events = es }
@@ -119,22 +122,26 @@ pub record Stepped : Type 0 where
   pub state : Lists
   pub outcome : Outcome
 
-abbrev pub finished : ℕ → Option Event → ℕ → Option ℕ → Ended → Plan → Stepped
-finished id e n object x (Skip reason) = record { state = x.state; outcome = record { id = id; verdict = Skipped reason; events = []; counts = None } }
-finished id e n object x (Act answer changes event pending o) = record { state = x.state; outcome = record { id = id; verdict = Did answer; events = named_event event ++ x.events; counts = counts_in x.state o } }
+abbrev pub finished : ℕ → Answer → Option Event → Option ℕ → Ended → Stepped
+finished id answer event object x = record { state = x.state; outcome = record { id = id; verdict = Did answer; events = named_event event ++ x.events; counts = counts_in x.state object } }
+
+abbrev pub cascade_in : Lists → List Item → Ended
+cascade_in m pending = dropped_in (total_in alive_size m.objects + length pending) m [] pending
 
 abbrev pub carried_in : Lists → ℕ → Plan → Stepped
-carried_in m id (Skip reason) = finished id None 0 None (record { state = m; events = [] }) (Skip reason)
-carried_in m id (Act answer changes event pending object) =
-    finished id event 0 object (dropped_in (total_in alive_size m.objects + length pending + 40) (changes_in m changes) [] pending) (Act answer changes event pending object)
+carried_in m id (Skip reason) = record { state = m; outcome = record { id = id; verdict = Skipped reason; events = []; counts = None } }
+carried_in m id (Act answer changes event pending object) = finished id answer event object (cascade_in (changes_in m changes) pending)
 
 abbrev pub step_in : Lists → Operation → Stepped
 step_in m op = carried_in m op.id (row op (view_in m (members op.kind)))
 
--- the outcomes, and the objects in the end
-abbrev pub told_after : List Outcome → Lists → List Operation → List Outcome × List (ℕ × Entry)
-told_after done m [] = (done, m.objects)
+-- the outcomes done so far, and those of the operations
+abbrev pub told_after : List Outcome → Lists → List Operation → List Outcome
+told_after done m [] = done
 told_after done m (op ∷ ops) = let s = step_in m op in told_after (done ++ s.outcome ∷ []) s.state ops
 
+abbrev pub nothing_listed : Lists
+nothing_listed = record { handles = []; cells = []; objects = [] }
+
 abbrev pub told : List Operation → List Outcome
-told ops = (told_after [] (record { handles = []; cells = []; objects = [] }) ops).0
+told ops = told_after [] nothing_listed ops

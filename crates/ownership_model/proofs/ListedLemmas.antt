@@ -1,0 +1,262 @@
+-- The replay over plain lists is the replay.
+use Rattle.std.proofs.Common.{◌≡◌, ℕ, zero, suc, ◌+◌, List, [], ◌∷◌, ◌++◌, length, refl, ap, ◌∙◌, sym, subst, arith, append_assoc, Bool, true, false}
+use Rattle.std.specs.Prelude.{Option, Some, None, ◌==◌, ◌&&◌, if◌then◌else◌}
+use Rattle.std.proofs.lemmas.Bool.Decides.{nat_tests}
+use Rattle.std.proofs.lemmas.List.{append-nil}
+use Rattle.std.specs.Ordering.{nat_cmp}
+use Rattle.std.specs.Cmp.{nat_cmp_total}
+use Rattle.std.specs.FinMap.{FinMap, get, insert, remove, get-empty, from_entries, same_map, nat_cmp-IsAntisymmetric}
+use Rattle.trace_types.specs.declared.slots.Slot.{Slot}
+use Rattle.trace_types.specs.declared.slots.Slot.TheVariants.{Nothing, Strong, Weak, Dangling}
+use Rattle.trace_types.specs.declared.slots.Holding.{Holding}
+use Rattle.trace_types.specs.declared.slots.Entry.{Entry}
+use Rattle.trace_types.specs.declared.slots.Entry.TheVariants.{Alive, Husk}
+use Rattle.trace_types.specs.declared.slots.Item.{Item}
+use Rattle.trace_types.specs.declared.slots.Item.TheVariants as item
+use Rattle.trace_types.specs.declared.slots.Change.{Change}
+use Rattle.trace_types.specs.declared.slots.Change.TheVariants.{SetHandle, EndHandle, SetCell, EndCell, SetField, Make, TurnHusk}
+use Rattle.trace_types.specs.declared.kinds.Field.{Field}
+use Rattle.trace_types.specs.declared.kinds.Field.TheVariants as field
+use Rattle.trace_types.specs.declared.outcomes.Event.{Event}
+use Rattle.trace_types.specs.declared.outcomes.Event.TheVariants as event
+use Rattle.trace_types.specs.declared.outcomes.Outcome.{Outcome}
+use Rattle.trace_types.specs.declared.outcomes.Verdict.TheVariants.{Did, Skipped}
+use Rattle.trace_types.specs.Operation.{Operation}
+use Rattle.ownership_model.specs.Totals.{total_in, total, weight_at}
+use Rattle.ownership_model.specs.State.{State, nothing_held, weight, strong, weak, holding_weight, entry_weight, hits, ends}
+use Rattle.ownership_model.specs.Release.{Fate, Stays, Falls, Goes, fate, fall, is_husk, drops, Dropped, meet, drop_first, Released, after, release_within, release, work, alive_size}
+use Rattle.ownership_model.specs.Changes.{with_field, changed_by, changed}
+use Rattle.ownership_model.specs.View.{Members, members, Element, Read, Null, Me, Seen, View, held_by, cell_of, element_of, elements_of, named_in, seen, view_at, view_of}
+use Rattle.ownership_model.specs.Table.{row}
+use Rattle.ownership_model.specs.Step.{step, carried_out, counts_of, named_event, outcomes_from}
+use Rattle.ownership_model.specs.Step as real
+use Rattle.ownership_model.specs.declared.plan.Plan.{Plan}
+use Rattle.ownership_model.specs.declared.plan.Plan.TheVariants.{Skip, Act}
+use Rattle.ownership_model.proofs.TotalLemmas.{total-insert, total-zero}
+use Rattle.ownership_model.proofs.MapLemmas.{get_inserted, get_removed}
+use Rattle.ownership_model.proofs.ReleaseLemmas.{release-enough}
+use Rattle.ownership_model.proofs.Listed.{Lists, look, cut, set, count, fate_in, Left, meet_in, Ended, more_events, dropped_in, change_in, changes_in, look_if, elements_in, seen_in, view_in, counts_in, Stepped, finished, cascade_in, carried_in, step_in, told_after, nothing_listed, told}
+
+-- no key stands twice
+abbrev pub AreApart : {X : Type 0} → List (ℕ × X) → Type 0
+AreApart [] = Unit {0}
+AreApart (e ∷ es) = (look e.0 es ≡ None) × AreApart es
+
+pub record IsApart (m : Lists) : Type 0 where
+  pub handles : AreApart m.handles
+  pub cells : AreApart m.cells
+  pub objects : AreApart m.objects
+
+-- the state that the lists show
+abbrev pub shown : Lists → State
+shown m = record { handles = from_entries m.handles; cells = from_entries m.cells; objects = from_entries m.objects }
+
+module _ {X : Type 0} where
+  abbrev map_of : List (ℕ × X) → FinMap nat_cmp X
+  map_of es = from_entries es
+
+  get-map_of : (es : List (ℕ × X)) (q : ℕ) → get (map_of es) q ≡ look q es
+  get-map_of [] q = get-empty nat_cmp q
+  get-map_of (e ∷ es) q = get_inserted (map_of es) e.0 e.1 q ∙ ap (λ r. if e.0 == q then Some e.1 else r) (get-map_of es q)
+
+  either_none : (b : Bool) (x : Option X) → x ≡ None → (if b then None else x) ≡ None
+  either_none true x is = refl
+  either_none false x is = is
+
+  asked_twice : (b : Bool) (x y : Option X) → (if b then x else (if b then None else y)) ≡ (if b then x else y)
+  asked_twice true x y = refl
+  asked_twice false x y = refl
+
+  no_key : (b : Bool) (x : Option X) → b ≡ true → (if b then None else x) ≡ None
+  no_key true x t = refl
+  no_key false x t = absurd cc
+
+  look-cut : (k q : ℕ) (es : List (ℕ × X)) → look q (cut k es) ≡ (if k == q then None else look q es)
+  look-cut k q [] = sym (either_none (k == q) None refl)
+  look-cut k q (e ∷ es) = grind (arith, nat_tests, look-cut k q es)
+
+  set-map_of : (k : ℕ) (x : X) (es : List (ℕ × X)) → map_of (set k x es) ≡ insert (map_of es) k x
+  set-map_of k x es = same_map nat_cmp_total nat_cmp-IsAntisymmetric (map_of (set k x es)) (insert (map_of es) k x) (λ q.
+      get-map_of (set k x es) q ∙ ap (λ r. if k == q then Some x else r) (look-cut k q es) ∙ asked_twice (k == q) (Some x) (look q es)
+      ∙ ap (λ r. if k == q then Some x else r) (sym (get-map_of es q)) ∙ sym (get_inserted (map_of es) k x q))
+
+  cut-map_of : (k : ℕ) (es : List (ℕ × X)) → map_of (cut k es) ≡ remove (map_of es) k
+  cut-map_of k es = same_map nat_cmp_total nat_cmp-IsAntisymmetric (map_of (cut k es)) (remove (map_of es) k) (λ q.
+      get-map_of (cut k es) q ∙ look-cut k q es ∙ ap (λ r. if k == q then None else r) (sym (get-map_of es q)) ∙ sym (get_removed (map_of es) k q))
+
+  cut_none : (k q : ℕ) (es : List (ℕ × X)) → look q es ≡ None → look q (cut k es) ≡ None
+  cut_none k q es none = look-cut k q es ∙ either_none (k == q) (look q es) none
+
+  cut_apart : (k : ℕ) (es : List (ℕ × X)) → AreApart es → AreApart (cut k es)
+  cut_apart k [] apart = tt
+  cut_apart k (e ∷ es) apart = elim (e.0 == k) as (λ b. AreApart (if b then cut k es else e ∷ cut k es)) [
+    | true ↦ cut_apart k es apart.1
+    | false ↦ (cut_none k e.0 es apart.0, cut_apart k es apart.1)
+  ]
+
+  set_apart : (k : ℕ) (x : X) (es : List (ℕ × X)) → AreApart es → AreApart (set k x es)
+  set_apart k x es apart = (look-cut k k es ∙ no_key (k == k) (look k es) (grind (arith, nat_tests)), cut_apart k es apart)
+
+  total-map_of : (w : X → ℕ) (es : List (ℕ × X)) → AreApart es → total w (map_of es) ≡ total_in w es
+  total-map_of w [] apart = total-zero w (map_of []) (λ q. ap (weight_at w) (get-empty nat_cmp q))
+  total-map_of w (e ∷ es) apart =
+      let more : total w (insert (map_of es) e.0 e.1) + 0 ≡ total w (map_of es) + w e.1 =
+      subst (λ (r : Option X). total w (insert (map_of es) e.0 e.1) + weight_at w r ≡ total w (map_of es) + w e.1) (get-map_of es e.0 ∙ apart.0) (total-insert w (map_of es) e.0 e.1) in
+      omega (arith, more, total-map_of w es apart.1)
+
+count-shown : (s : Slot) (m : Lists) (pending : List Item) → IsApart m → weight (hits s) (shown m) pending ≡ count s m pending
+count-shown s m pending apart = omega (arith, total-map_of (holding_weight (hits s)) m.handles apart.handles, total-map_of (hits s) m.cells apart.cells, total-map_of (entry_weight (hits s)) m.objects apart.objects)
+
+work-shown : (m : Lists) (pending : List Item) → IsApart m → work (shown m) pending ≡ total_in alive_size m.objects + length pending
+work-shown m pending apart = omega (arith, total-map_of alive_size m.objects apart.objects)
+
+-- ---- changes
+change_apart : (m : Lists) (c : Change) → IsApart m → IsApart (change_in m c)
+change_apart m (SetHandle h x) a = record { handles = set_apart h x m.handles a.handles; cells = a.cells; objects = a.objects }
+change_apart m (EndHandle h) a = record { handles = cut_apart h m.handles a.handles; cells = a.cells; objects = a.objects }
+change_apart m (SetCell c s) a = record { handles = a.handles; cells = set_apart c s m.cells a.cells; objects = a.objects }
+change_apart m (EndCell c) a = record { handles = a.handles; cells = cut_apart c m.cells a.cells; objects = a.objects }
+change_apart m (SetField o i s) a = record { handles = a.handles; cells = a.cells; objects = set_apart o (with_field (look o m.objects) i s) m.objects a.objects }
+change_apart m (Make o fields) a = record { handles = a.handles; cells = a.cells; objects = set_apart o (Alive fields) m.objects a.objects }
+change_apart m (TurnHusk o) a = record { handles = a.handles; cells = a.cells; objects = set_apart o Husk m.objects a.objects }
+
+objects-shown : (m : Lists) (x : List (ℕ × Entry)) (y : FinMap nat_cmp Entry) → from_entries x ≡ y → shown (record m { objects = x }) ≡ record (shown m) { objects = y }
+objects-shown m x y e = λ i. record { handles = from_entries m.handles; cells = from_entries m.cells; objects = e i }
+
+change-shown : (m : Lists) (c : Change) → shown (change_in m c) ≡ changed_by (shown m) c
+change-shown m (SetHandle h x) = λ i. record { handles = set-map_of h x m.handles i; cells = from_entries m.cells; objects = from_entries m.objects }
+change-shown m (EndHandle h) = λ i. record { handles = cut-map_of h m.handles i; cells = from_entries m.cells; objects = from_entries m.objects }
+change-shown m (SetCell c s) = λ i. record { handles = from_entries m.handles; cells = set-map_of c s m.cells i; objects = from_entries m.objects }
+change-shown m (EndCell c) = λ i. record { handles = from_entries m.handles; cells = cut-map_of c m.cells i; objects = from_entries m.objects }
+change-shown m (SetField o i s) =
+    objects-shown m (set o (with_field (look o m.objects) i s) m.objects) (insert (from_entries m.objects) o (with_field (get (from_entries m.objects) o) i s))
+    (set-map_of o (with_field (look o m.objects) i s) m.objects ∙ ap (λ e. insert (from_entries m.objects) o (with_field e i s)) (sym (get-map_of m.objects o)))
+change-shown m (Make o fields) = objects-shown m (set o (Alive fields) m.objects) (insert (from_entries m.objects) o (Alive fields)) (set-map_of o (Alive fields) m.objects)
+change-shown m (TurnHusk o) = objects-shown m (set o Husk m.objects) (insert (from_entries m.objects) o Husk) (set-map_of o Husk m.objects)
+
+changes_apart : (changes : List Change) (m : Lists) → IsApart m → IsApart (changes_in m changes)
+changes_apart [] m a = a
+changes_apart (c ∷ changes) m a = changes_apart changes (change_in m c) (change_apart m c a)
+
+changes-shown : (changes : List Change) (m : Lists) → shown (changes_in m changes) ≡ changed (shown m) changes
+changes-shown [] m = refl
+changes-shown (c ∷ changes) m = changes-shown changes (change_in m c) ∙ ap (λ s. changed s changes) (change-shown m c)
+
+-- ---- a cascade
+fate-shown : (m : Lists) (x : Item) (rest : List Item) → IsApart m → fate_in m x rest ≡ fate (shown m) x rest
+fate-shown m (item.Slot Nothing) rest a = refl
+fate-shown m (item.Slot Dangling) rest a = refl
+fate-shown m (item.Slot (Strong o)) rest a = λ i. if sym (count-shown (Strong o) m rest a) i == 0 then fall o (sym (get-map_of m.objects o) i) else Stays
+fate-shown m (item.Slot (Weak o)) rest a =
+    λ i. if sym (count-shown (Weak o) m rest a) i == 0 && (is_husk (sym (get-map_of m.objects o) i) && (ends o rest == 0)) then Goes o else Stays
+fate-shown m (item.End o) rest a = λ i. if sym (count-shown (Weak o) m rest a) i == 0 then Goes o else Stays
+
+record Leaves (x : Left) (d : Dropped) : Type 0 where
+  state : shown x.state ≡ d.state
+  events : x.events ≡ d.events
+  pending : x.pending ≡ d.pending
+  apart : IsApart x.state
+
+meet-shown : (m : Lists) (rest : List Item) (f : Fate) → IsApart m → Leaves (meet_in m rest f) (meet (shown m) rest f)
+meet-shown m rest Stays a = record { state = refl; events = refl; pending = refl; apart = a }
+meet-shown m rest (Falls o fields) a = record { state = change-shown m (TurnHusk o); events = refl; pending = refl; apart = change_apart m (TurnHusk o) a }
+meet-shown m rest (Goes o) a = record { state = objects-shown m (cut o m.objects) (remove (from_entries m.objects) o) (cut-map_of o m.objects); events = refl; pending = refl; apart = record { handles = a.handles; cells = a.cells; objects = cut_apart o m.objects a.objects } }
+
+drop-shown : (m : Lists) (x : Item) (rest : List Item) → IsApart m → Leaves (meet_in m rest (fate_in m x rest)) (drop_first (shown m) x rest)
+drop-shown m x rest a = subst (λ f. Leaves (meet_in m rest (fate_in m x rest)) (meet (shown m) rest f)) (fate-shown m x rest a) (meet-shown m rest (fate_in m x rest) a)
+
+record Ends (x : Ended) (es : List Event) (r : Released) : Type 0 where
+  state : shown x.state ≡ r.state
+  events : x.events ≡ es ++ r.events
+  apart : IsApart x.state
+
+within-shown : (n : ℕ) (m : Lists) (es : List Event) (pending : List Item) → IsApart m → Ends (dropped_in n m es pending) es (release_within n (shown m) pending)
+within-shown n m es [] a = record { state = refl; events = sym (append-nil es); apart = a }
+within-shown zero m es (x ∷ pending) a = record { state = refl; events = sym (append-nil es); apart = a }
+within-shown (suc n) m es (x ∷ pending) a =
+    let d : Left = meet_in m pending (fate_in m x pending) in
+    let r : Dropped = drop_first (shown m) x pending in
+    let one : Leaves d r = drop-shown m x pending a in
+    let rest : Ends (dropped_in n d.state d.events d.pending) d.events (release_within n (shown d.state) d.pending) = within-shown n d.state d.events d.pending one.apart in
+    let same : release_within n (shown d.state) d.pending ≡ release_within n r.state r.pending = λ i. release_within n (one.state i) (one.pending i) in
+    record {
+      state = rest.state ∙ ap (λ (y : Released). y.state) same;
+      events = ap (λ ys. es ++ ys) (rest.events ∙ (λ i. one.events i ++ (same i).events));
+      apart = rest.apart;
+    }
+
+cascade-shown : (m : Lists) (pending : List Item) → IsApart m → Ends (cascade_in m pending) [] (release (shown m) pending)
+cascade-shown m pending a =
+    let n : ℕ = total_in alive_size m.objects + length pending in
+    subst (λ r. Ends (cascade_in m pending) [] r) (sym (release-enough n (shown m) pending (omega (arith, work-shown m pending a)))) (within-shown n m [] pending a)
+
+-- ---- what an operation reads
+elements-shown : (m : Lists) (fields : List Field) → elements_in m fields ≡ elements_of (shown m) fields
+elements-shown m [] = refl
+elements-shown m (field.Held h ∷ fields) = λ i. Read h (sym (get-map_of m.handles h) i) ∷ elements-shown m fields i
+elements-shown m (field.Null ∷ fields) = ap (λ es. Null ∷ es) (elements-shown m fields)
+elements-shown m (field.Me ∷ fields) = ap (λ es. Me ∷ es) (elements-shown m fields)
+
+held-shown : (m : Lists) (h : Option ℕ) → look_if h m.handles ≡ held_by (shown m) h
+held-shown m None = refl
+held-shown m (Some h) = sym (get-map_of m.handles h)
+
+cell-shown : (m : Lists) (c : Option ℕ) → look_if c m.cells ≡ cell_of (shown m) c
+cell-shown m None = refl
+cell-shown m (Some c) = sym (get-map_of m.cells c)
+
+seen-shown : (m : Lists) (o : Option ℕ) → IsApart m → seen_in m o ≡ seen (shown m) o
+seen-shown m None a = refl
+seen-shown m (Some o) a = λ i. record { entry = sym (get-map_of m.objects o) i; strong = sym (count-shown (Strong o) m [] a) i; weak = sym (count-shown (Weak o) m [] a) i }
+
+view-shown : (m : Lists) (k : Members) → IsApart m → view_in m k ≡ view_at (shown m) k
+view-shown m k a =
+    let object : seen_in m (named_in (look_if k.first m.handles)) ≡ seen (shown m) (named_in (held_by (shown m) k.first)) =
+    seen-shown m (named_in (look_if k.first m.handles)) a ∙ ap (λ h. seen (shown m) (named_in h)) (held-shown m k.first) in
+    λ i. record {
+      first = held-shown m k.first i;
+      second = held-shown m k.second i;
+      cell = cell-shown m k.cell i;
+      elements = elements-shown m k.fields i;
+      object = object i;
+    }
+
+-- ---- an operation, and all of them
+counts-shown : (m : Lists) (o : Option ℕ) → IsApart m → counts_in m o ≡ counts_of (shown m) o
+counts-shown m None a = refl
+counts-shown m (Some o) a = λ i. Some (record { object = o; strong = sym (count-shown (Strong o) m [] a) i; weak = sym (count-shown (Weak o) m [] a) i })
+
+record Steps (x : Stepped) (y : real.Stepped) : Type 0 where
+  state : shown x.state ≡ y.state
+  outcome : x.outcome ≡ y.outcome
+  apart : IsApart x.state
+
+carried-shown : (m : Lists) (id : ℕ) (p : Plan) → IsApart m → Steps (carried_in m id p) (carried_out (shown m) id p)
+carried-shown m id (Skip why) a = record { state = refl; outcome = refl; apart = a }
+carried-shown m id (Act answer changes event pending object) a =
+    let n : Lists = changes_in m changes in
+    let x : Ended = cascade_in n pending in
+    let r : Released = release (changed (shown m) changes) pending in
+    let e : Ends x [] r = subst (λ s. Ends x [] (release s pending)) (changes-shown changes m) (cascade-shown n pending (changes_apart changes m a)) in
+    let told_counts : counts_in x.state object ≡ counts_of r.state object = counts-shown x.state object e.apart ∙ ap (λ s. counts_of s object) e.state in
+    record {
+      state = e.state;
+      outcome = λ i. record { id = id; verdict = Did answer; events = named_event event ++ e.events i; counts = told_counts i };
+      apart = e.apart;
+    }
+
+step-shown : (m : Lists) (op : Operation) → IsApart m → Steps (step_in m op) (step (shown m) op)
+unfolding step
+step-shown m op a = subst (λ (v : View). Steps (step_in m op) (carried_out (shown m) op.id (row op v))) (view-shown m (members op.kind) a) (carried-shown m op.id (row op (view_in m (members op.kind))) a)
+
+told-shown : (ops : List Operation) (done : List Outcome) (m : Lists) → IsApart m → told_after done m ops ≡ done ++ outcomes_from (shown m) ops
+told-shown [] done m a = sym (append-nil done)
+told-shown (op ∷ ops) done m a =
+    let s : Steps (step_in m op) (step (shown m) op) = step-shown m op a in
+    told-shown ops (done ++ (step_in m op).outcome ∷ []) (step_in m op).state s.apart
+    ∙ append_assoc done ((step_in m op).outcome ∷ []) (outcomes_from (shown (step_in m op).state) ops)
+    ∙ (λ i. done ++ s.outcome i ∷ outcomes_from (s.state i) ops)
+
+-- so the replay of a trace is found by computation
+pub replayed : (ops : List Operation) → outcomes_from nothing_held ops ≡ told ops
+replayed ops = sym (told-shown ops [] nothing_listed (record { handles = tt; cells = tt; objects = tt }))
