@@ -4,5 +4,6 @@
 pub mod counters;
 pub mod draft;
 pub mod heap;
+pub mod reach;
 
 pub use heap::Heap;
