@@ -1,1 +1,5 @@
+
 pub mod NothingLemmas
+pub mod GainLemmas
+pub mod PendingLemmas
+pub mod DropLemmas

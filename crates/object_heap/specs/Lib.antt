@@ -1,2 +1,4 @@
 pub mod StateCode
 pub mod Counted
+pub mod Gains
+pub mod Drops

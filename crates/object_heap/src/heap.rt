@@ -3,13 +3,18 @@ ghost use Rattle.std.specs.Prelude.{◌≡◌, ◌↔◌, [], IfOk, IsTrue};
 ghost use Rattle.std.specs.Option.{option_copied};
 ghost use Rattle.std.specs.FinMap as map;
 ghost use Rattle.ownership_model.specs.State.{nothing_held, strong, weak, IsSound};
-ghost use Rattle.ownership_model.specs.Bounds.{IsBounded};
+ghost use Rattle.ownership_model.specs.Bounds.{IsBounded, ChangesFit};
+ghost use Rattle.ownership_model.specs.Changes.{changed, CanChange};
+ghost use Rattle.ownership_model.specs.Release.{release};
 
 use crate::counters::counters_of;
 use crate::draft::Draft;
 use std::alloc::{AllocError, Global};
+use std::collections::VecDeque;
 use std::marker::Model;
-use trace_types::slots::{Entry, Holding, Slot};
+use trace_types::outcomes::Event;
+use trace_types::sequence::Sequence;
+use trace_types::slots::{Change, Entry, Holding, Item, Slot};
 
 /// What handles and cells hold and which objects stand. Contracts see a sound state within the limits.
 ///
@@ -121,5 +126,45 @@ impl Heap {
         ensures { IsTrue result ↔ (self.now ≡ other.now) }
     {
         self.draft.same(&other.draft)
+    }
+
+    /// The heap after the changes, when all that is then pending was dropped, and what became of objects, in order.
+    ///
+    /// The heap itself is kept as it was: what both have in common they share. May take memory.
+    pub fn release(
+        &self,
+        alloc: Global,
+        changes: &[Change],
+        pending: &[Item],
+    ) -> Result<(Heap, Sequence<Event>), AllocError>
+        requires can { CanChange self.now changes.now }
+        requires fits { ChangesFit changes.now }
+        requires sound { IsSound (changed self.now changes.now) pending.now }
+        ensures state { IfOk result (λ r. r.0 ≡ (release (changed self.now changes.now) pending.now).state) }
+        ensures events { IfOk result (λ r. r.1 ≡ (release (changed self.now changes.now) pending.now).events) }
+    {
+        self.share()?.released(alloc, changes, pending)
+    }
+
+    /// As `release`, of a heap that is used up: what it alone holds is changed in place.
+    pub fn released(
+        self,
+        alloc: Global,
+        changes: &[Change],
+        pending: &[Item],
+    ) -> Result<(Heap, Sequence<Event>), AllocError>
+        requires can { CanChange self changes.now }
+        requires fits { ChangesFit changes.now }
+        requires sound { IsSound (changed self changes.now) pending.now }
+        ensures state { IfOk result (λ r. r.0 ≡ (release (changed self changes.now) pending.now).state) }
+        ensures events { IfOk result (λ r. r.1 ≡ (release (changed self changes.now) pending.now).events) }
+    {
+        let Heap { mut draft } = self;
+        draft.apply(alloc, changes)?;
+        let mut list = VecDeque::new(alloc);
+        draft.add_all(alloc, pending, &mut list)?;
+        let mut events = Vec::new(alloc);
+        draft.release(alloc, &mut list, &mut events)?;
+        Ok((Heap { draft }, Sequence::from_vec(events)))
     }
 }

@@ -72,8 +72,7 @@ module _ {X : Type 0} (o : ℕ) (w : X → ℕ) (names : Option X → List ℕ) 
 -- no root names the object just where no handle and no cell counts for it
 pub roots_unnamed : (m : State) (o : ℕ) → has o (root_names StrongOnly m) ≡ false → (total (holding_weight (hits (Strong o))) m.handles ≡ 0) × (total (hits (Strong o)) m.cells ≡ 0)
 roots_unnamed m o h =
-    let split : (has o (handle_names StrongOnly m (keys m.handles)) || has o (all_cell_names StrongOnly m (keys m.cells))) ≡ false = sym (has-append o (handle_names StrongOnly m (keys m.handles)) (all_cell_names StrongOnly m (keys m.cells))) ∙ h in
-    (
+    let split : (has o (handle_names StrongOnly m (keys m.handles)) || has o (all_cell_names StrongOnly m (keys m.cells))) ≡ false = sym (has-append o (handle_names StrongOnly m (keys m.handles)) (all_cell_names StrongOnly m (keys m.cells))) ∙ h in (
       total_unnamed o (holding_weight (hits (Strong o))) (holding_names StrongOnly) m.handles (named_holding o) refl (grind (arith, split)),
       total_unnamed o (hits (Strong o)) (cell_names StrongOnly) m.cells (named_cell o) refl (grind (arith, split)),
     )

@@ -29,13 +29,16 @@ max_fields = 16
 abbrev pub max_slots : ℕ
 max_slots = 16017000000
 
+-- the fields of a value are within the limit
 abbrev pub AreFew : List Slot → Type 0
 AreFew fields = length fields ≤ max_fields
 
+-- so are those of a value outside any allocation
 abbrev pub HoldingFits : Holding → Type 0
 HoldingFits (holding.Slot s) = Unit {0}
 HoldingFits (holding.Bare fields) = AreFew fields
 
+-- and those of an object
 abbrev pub EntryFits : Entry → Type 0
 EntryFits (Alive fields) = AreFew fields
 EntryFits Husk = Unit {0}
@@ -53,12 +56,13 @@ abbrev pub ObjectFits : ℕ → Option Entry → Type 0
 ObjectFits o None = Unit {0}
 ObjectFits o (Some e) = (o ≤ max_id) × EntryFits e
 
+-- all numbers and fields of a state are within the limits
 pub record IsBounded (m : State) : Type 0 where
   pub handles : (h : ℕ) → HandleFits h (get m.handles h)
   pub cells : (c : ℕ) → CellFits c (get m.cells c)
   pub objects : (o : ℕ) → ObjectFits o (get m.objects o)
 
--- a change keeps the limits
+-- a change keeps the limits: what it sets is within them
 abbrev pub ChangeFits : Change → Type 0
 ChangeFits (SetHandle h x) = (h ≤ max_name) × HoldingFits x
 ChangeFits (EndHandle h) = Unit {0}
@@ -72,6 +76,7 @@ abbrev pub ChangesFit : List Change → Type 0
 ChangesFit [] = Unit {0}
 ChangesFit (c ∷ cs) = ChangeFits c × ChangesFit cs
 
+-- so do all changes of a plan
 abbrev pub PlanFits : Plan → Type 0
 PlanFits (Skip reason) = Unit {0}
 PlanFits (Act answer changes event pending object) = ChangesFit changes

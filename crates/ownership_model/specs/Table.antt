@@ -1,4 +1,7 @@
--- The table of operations: what each is to do, by its members and what stands there.
+-- The table of operations: by what an operation reads, why it is skipped or what it does. Its rows stand below, one for each
+-- kind, with the method that it is. That an operation that can't be done is skipped, and with which reason, is a profile of
+-- this project; what is done is std's, and for cells that of ISO/IEC 14882:2020 [util.smartptr.atomic]. Fields of values are
+-- Rust's: what is set drops what stood there, what is taken leaves an empty pointer (Rust Reference, Destructors).
 use Rattle.std.specs.Prelude.{ℕ, ◌==◌, List, [], ◌∷◌, Option, Some, None, Bool, true, false, ◌&&◌, if◌then◌else◌, slice_get, slice_set}
 use Rattle.trace_types.specs.declared.slots.Slot.{Slot}
 use Rattle.trace_types.specs.declared.slots.Slot.TheVariants.{Nothing, Strong, Weak, Dangling}
@@ -22,32 +25,41 @@ use Rattle.ownership_model.specs.declared.plan.Plan.TheVariants.{Skip, Act}
 use Rattle.ownership_model.specs.Release.{drops}
 use Rattle.ownership_model.specs.View.{View, Element, Read, Null, Me, Seen, named_by, repeated}
 
--- An operation that can't be done is skipped: what a member wants is asked, and then the rest of the row.
+-- What the members of an operation want, asked in this order: no handle twice; each handle is held and each cell is there; each
+-- handle holds the right kind of thing; the field is there; what is to be made is free. Each question has the rest of the row
+-- as its last argument, and answers with a reason or with the rest, at what it found.
 
+-- the handle is held
 abbrev pub held : ℕ → Option Holding → (Holding → Plan) → Plan
 held h None rest = Skip (NotHeld h)
 held h (Some x) rest = rest x
 
+-- the handle that is to be made is not held
 abbrev pub free : ℕ → Option Holding → Plan → Plan
 free to None rest = rest
 free to (Some x) rest = Skip (AlreadyHeld to)
 
+-- the cell is there
 abbrev pub in_cell : ℕ → Option Slot → (Slot → Plan) → Plan
 in_cell c None rest = Skip (NoCell c)
 in_cell c (Some s) rest = rest s
 
+-- the cell that is to be made is not there
 abbrev pub free_cell : ℕ → Option Slot → Plan → Plan
 free_cell c None rest = rest
 free_cell c (Some s) rest = Skip (CellHeld c)
 
+-- a pointer of any kind, and no value
 abbrev pub slot_in : ℕ → Holding → (Slot → Plan) → Plan
 slot_in h (holding.Slot s) rest = rest s
 slot_in h (holding.Bare fields) rest = Skip (WrongKind h)
 
+-- a value outside any allocation
 abbrev pub bare_in : ℕ → Holding → (List Slot → Plan) → Plan
 bare_in h (holding.Slot s) rest = Skip (WrongKind h)
 bare_in h (holding.Bare fields) rest = rest fields
 
+-- an Arc
 abbrev pub strong_in : ℕ → Holding → (ℕ → Plan) → Plan
 strong_in h (holding.Slot (Strong o)) rest = rest o
 strong_in h (holding.Slot Nothing) rest = Skip (WrongKind h)
@@ -55,7 +67,7 @@ strong_in h (holding.Slot (Weak o)) rest = Skip (WrongKind h)
 strong_in h (holding.Slot Dangling) rest = Skip (WrongKind h)
 strong_in h (holding.Bare fields) rest = Skip (WrongKind h)
 
--- a slot that a Weak may be: it names an object or none
+-- a Weak: it names an object, or none as `Weak::new` makes it
 abbrev pub weak_in : ℕ → Holding → (Option ℕ → Plan) → Plan
 weak_in h (holding.Slot (Weak o)) rest = rest (Some o)
 weak_in h (holding.Slot Dangling) rest = rest None
@@ -63,7 +75,7 @@ weak_in h (holding.Slot (Strong o)) rest = Skip (WrongKind h)
 weak_in h (holding.Slot Nothing) rest = Skip (WrongKind h)
 weak_in h (holding.Bare fields) rest = Skip (WrongKind h)
 
--- what an Arc or a Weak may be
+-- an Arc or a Weak
 abbrev pub counted_in : ℕ → Holding → (Option ℕ → Plan) → Plan
 counted_in h (holding.Slot (Strong o)) rest = rest (Some o)
 counted_in h (holding.Slot (Weak o)) rest = rest (Some o)
@@ -71,7 +83,7 @@ counted_in h (holding.Slot Dangling) rest = rest None
 counted_in h (holding.Slot Nothing) rest = Skip (WrongKind h)
 counted_in h (holding.Bare fields) rest = Skip (WrongKind h)
 
--- what a cell may hold
+-- what a cell may hold: an Arc or an empty pointer, as a shared_ptr may be
 abbrev pub pointer_in : ℕ → Holding → (Slot → Plan) → Plan
 pointer_in h (holding.Slot Nothing) rest = rest Nothing
 pointer_in h (holding.Slot (Strong o)) rest = rest (Strong o)
@@ -79,17 +91,19 @@ pointer_in h (holding.Slot (Weak o)) rest = Skip (WrongKind h)
 pointer_in h (holding.Slot Dangling) rest = Skip (WrongKind h)
 pointer_in h (holding.Bare fields) rest = Skip (WrongKind h)
 
+-- the fields of the value, where it lives
 abbrev pub fields_of : Option Entry → List Slot
 fields_of (Some (Alive fields)) = fields
 fields_of (Some Husk) = []
 fields_of None = []
 
+-- whether the value lives
 abbrev pub is_alive : Option Entry → Bool
 is_alive (Some (Alive fields)) = true
 is_alive (Some Husk) = false
 is_alive None = false
 
--- the fields of an object that is held, or of a value outside any
+-- an Arc, whose value's fields are meant, or a value outside any allocation
 abbrev pub fields_in : ℕ → Holding → Option Entry → (Option ℕ → List Slot → Plan) → Plan
 fields_in h (holding.Slot (Strong o)) entry rest = rest (Some o) (fields_of entry)
 fields_in h (holding.Bare fields) entry rest = rest None fields
@@ -97,16 +111,19 @@ fields_in h (holding.Slot Nothing) entry rest = Skip (WrongKind h)
 fields_in h (holding.Slot (Weak o)) entry rest = Skip (WrongKind h)
 fields_in h (holding.Slot Dangling) entry rest = Skip (WrongKind h)
 
+-- the value has the field, counted from 0
 abbrev pub field_at : ℕ → Option Slot → (Slot → Plan) → Plan
 field_at i None rest = Skip (NoField i)
 field_at i (Some s) rest = rest s
 
+-- the change that sets field i: of an object, or of the value that h itself holds
 abbrev pub write_field : ℕ → Option ℕ → List Slot → ℕ → Slot → Change
 write_field h (Some o) fields i s = SetField o i s
 write_field h None fields i s = SetHandle h (holding.Bare (slice_set fields i s))
 
--- The elements of `fields`, one by one.
+-- The elements of `fields` of a new object, one by one.
 
+-- the first handle that is not held
 abbrev pub first_unheld : List Element → Option ℕ
 first_unheld [] = None
 first_unheld (Read h None ∷ es) = Some h
@@ -114,6 +131,7 @@ first_unheld (Read h (Some x) ∷ es) = first_unheld es
 first_unheld (Null ∷ es) = first_unheld es
 first_unheld (Me ∷ es) = first_unheld es
 
+-- the first handle that holds no slot, but a value
 abbrev pub first_bare : List Element → Option ℕ
 first_bare [] = None
 first_bare (Read h None ∷ es) = first_bare es
@@ -122,46 +140,53 @@ first_bare (Read h (Some (holding.Bare fields)) ∷ es) = Some h
 first_bare (Null ∷ es) = first_bare es
 first_bare (Me ∷ es) = first_bare es
 
+-- no handle is one that is not held
 abbrev pub all_held : Option ℕ → Plan → Plan
 all_held None rest = rest
 all_held (Some h) rest = Skip (NotHeld h)
 
+-- no handle holds a value
 abbrev pub all_slots : Option ℕ → Plan → Plan
 all_slots None rest = rest
 all_slots (Some h) rest = Skip (WrongKind h)
 
+-- the slot that an element's handle holds
 abbrev pub slot_of : Option Holding → Slot
 slot_of None = Nothing
 slot_of (Some (holding.Slot s)) = s
 slot_of (Some (holding.Bare fields)) = Nothing
 
--- the fields of the object with that number
+-- the fields of the object with that number: what the handles hold, in order; `me` is the Weak to the object itself
 abbrev pub made_fields : ℕ → List Element → List Slot
 made_fields id [] = []
 made_fields id (Read h there ∷ es) = slot_of there ∷ made_fields id es
 made_fields id (Null ∷ es) = Nothing ∷ made_fields id es
 made_fields id (Me ∷ es) = Weak id ∷ made_fields id es
 
--- the handles that are named end, and then the rest
+-- the handles that are named end, since what they hold moves into the fields; and then the rest
 abbrev pub ending : List Element → List Change → List Change
 ending [] rest = rest
 ending (Read h there ∷ es) rest = EndHandle h ∷ ending es rest
 ending (Null ∷ es) rest = ending es rest
 ending (Me ∷ es) rest = ending es rest
 
--- The rows.
+-- What the rows do, where it takes more than a line.
 
+-- an operation that names no event itself
 abbrev pub act : Answer → List Change → List Item → Option ℕ → Plan
 act answer changes pending object = Act answer changes None pending object
 
+-- an object comes to be, and a handle holds the Arc to it
 abbrev pub make : ℕ → List Slot → ℕ → List Change
 make id fields to = Make id fields ∷ SetHandle to (holding.Slot (Strong id)) ∷ []
 
+-- Arc::new, Arc::new_cyclic
 abbrev pub new_row : ℕ → ℕ → List Element → Option Holding → Plan
 new_row id to es there =
     all_held (first_unheld es) (all_slots (first_bare es) (free to there
     (act answer.Made (ending es (make id (made_fields id es) to)) [] (Some id))))
 
+-- Weak::upgrade: an Arc while the value lives, else None; so a Weak of `Weak::new` gives None
 abbrev pub upgraded : ℕ → Option Entry → Option ℕ → Plan
 upgraded to entry None = act answer.No (SetHandle to (holding.Slot Nothing) ∷ []) [] None
 upgraded to entry (Some o) =
@@ -169,10 +194,15 @@ upgraded to entry (Some o) =
     then act answer.Yes (SetHandle to (holding.Slot (Strong o)) ∷ []) [] (Some o)
     else act answer.No (SetHandle to (holding.Slot Nothing) ∷ []) [] (Some o)
 
+-- Arc::try_unwrap, Arc::into_inner of the only Arc: the value moves out, whatever Weaks there are. The allocation is freed
+-- where there are none
 abbrev pub unwrapped : ℕ → ℕ → List Slot → Plan
 unwrapped h o fields =
     Act answer.Yes (TurnHusk o ∷ SetHandle h (holding.Bare fields) ∷ []) (Some (event.Unwrapped o)) (item.End o ∷ []) (Some o)
 
+-- Arc::make_mut: where other Arcs share the value, it is cloned into a new allocation; where only Weaks are left beside, it is
+-- moved into a new one, and the Weaks stay with the old; where nothing else names it, it stays. That the clone of a value
+-- clones its slots in order, without an event, is a profile of this project
 abbrev pub made_unique : ℕ → ℕ → ℕ → Seen → Plan
 made_unique id h o it =
     if it.strong == 1
@@ -181,94 +211,131 @@ made_unique id h o it =
     else Act answer.Moved (TurnHusk o ∷ make id (fields_of it.entry) h) (Some (event.Moved o)) [] (Some id)
     else act answer.Cloned (make id (fields_of it.entry) h) (item.Slot (Strong o) ∷ []) (Some id)
 
+-- drop of a handle: of the slot, or of all fields of the value that it holds
 abbrev pub dropped : ℕ → Holding → Plan
 dropped h (holding.Slot s) = act answer.Done (EndHandle h ∷ []) (item.Slot s ∷ []) (named_by s)
 dropped h (holding.Bare fields) = act answer.Done (EndHandle h ∷ []) (drops fields []) None
 
+-- the answer to a question
 abbrev pub yes_if : Bool → Answer
 yes_if true = answer.Yes
 yes_if false = answer.No
 
+-- whether two shared pointers are equivalent: both are empty, or both point to one object and share its ownership
+-- ([util.smartptr.atomic], compare_exchange_strong)
 abbrev pub same_pointer : Slot → Slot → Bool
 same_pointer Nothing Nothing = true
 same_pointer (Strong o) (Strong p) = o == p
 same_pointer _ _ = false
 
+-- atomic<shared_ptr<T>>: store drops what the cell held; exchange hands it out
 abbrev pub swapped : ℕ → ℕ → Option ℕ → Option Holding → Slot → Slot → Plan
 swapped c from None there old s = act answer.Done (EndHandle from ∷ SetCell c s ∷ []) (item.Slot old ∷ []) (named_by s)
 swapped c from (Some to) there old s =
     free to there (act answer.Done (EndHandle from ∷ SetCell c s ∷ SetHandle to (holding.Slot old) ∷ []) [] (named_by s))
 
+-- atomic<shared_ptr<T>>: compare_exchange_strong. Where the cell holds what was expected, it takes what is desired, and what it
+-- held is dropped. Else what was expected is dropped and becomes a copy of what the cell holds, and then what was desired is
+-- dropped, as it was moved into the call; the order of these two drops is a profile of this project
 abbrev pub exchanged : ℕ → ℕ → ℕ → Slot → Slot → Slot → Plan
 exchanged c expected desired old e d =
     if same_pointer old e
     then act answer.Yes (EndHandle desired ∷ SetCell c d ∷ []) (item.Slot old ∷ []) (named_by d)
     else act answer.No (SetHandle expected (holding.Slot old) ∷ EndHandle desired ∷ []) (item.Slot e ∷ item.Slot d ∷ []) (named_by old)
 
--- of the fields of an owner, which is an object or else the value that h holds
+-- The fields of an owner: an object, or else the value that h itself holds.
+
+-- an assignment to a field: it takes what the handle holds, which ends, and what it held is dropped
 abbrev pub set_field : ℕ → ℕ → ℕ → Holding → Option ℕ → List Slot → Plan
 set_field h i from y owner fields =
     slot_in from y (λ s. field_at i (slice_get fields i) (λ old.
     act answer.Done (EndHandle from ∷ write_field h owner fields i s ∷ []) (item.Slot old ∷ []) owner))
 
+-- a move out of a field, which leaves an empty pointer (std::mem::take)
 abbrev pub take_field : ℕ → ℕ → ℕ → Option Holding → Option ℕ → List Slot → Plan
 take_field h i to there owner fields =
     field_at i (slice_get fields i) (λ s. free to there
     (act answer.Done (SetHandle to (holding.Slot s) ∷ write_field h owner fields i Nothing ∷ []) [] owner))
 
+-- a clone of what a field holds (Arc::clone, Weak::clone)
 abbrev pub copy_field : ℕ → ℕ → Option Holding → Option ℕ → List Slot → Plan
 copy_field i to there owner fields =
     field_at i (slice_get fields i) (λ s. free to there (act answer.Done (SetHandle to (holding.Slot s) ∷ []) [] owner))
 
+-- The rows: each asks what its members want, and then says what is answered, what changes, what is then dropped, and whose counts
+-- are told.
 abbrev pub row_of : ℕ → Kind → View → Plan
+-- Arc::new: the values move in from the handles, which end
 row_of id (kind.New to fields) v = new_row id to v.elements v.first
+-- Arc::new_cyclic: as new, and a field may be the Weak to the object itself
 row_of id (kind.NewCyclic to fields) v = new_row id to v.elements v.first
+-- Arc::new of a value that Arc::try_unwrap or Arc::into_inner gave
 row_of id (kind.NewFrom from to) v =
     held from v.first (λ x. bare_in from x (λ fields. free to v.second
     (act answer.Made (EndHandle from ∷ make id fields to) [] (Some id))))
+-- Weak::new
 row_of id (kind.WeakNew to) v = free to v.first (act answer.Done (SetHandle to (holding.Slot Dangling) ∷ []) [] None)
+-- an empty pointer: None in place of an Arc, or shared_ptr's default constructor
 row_of id (kind.Null to) v = free to v.first (act answer.Done (SetHandle to (holding.Slot Nothing) ∷ []) [] None)
+-- Arc::clone, Weak::clone
 row_of id (kind.Clone from to) v =
     held from v.first (λ x. slot_in from x (λ s. free to v.second
     (act answer.Done (SetHandle to (holding.Slot s) ∷ []) [] (named_by s))))
+-- drop (std::mem::drop; std::sync::Arc, std::sync::Weak: Drop)
 row_of id (kind.Drop h) v = held h v.first (λ x. dropped h x)
+-- Arc::downgrade
 row_of id (kind.Downgrade from to) v =
     held from v.first (λ x. strong_in from x (λ o. free to v.second
     (act answer.Done (SetHandle to (holding.Slot (Weak o)) ∷ []) [] (Some o))))
+-- Weak::upgrade
 row_of id (kind.Upgrade from to) v =
     held from v.first (λ x. weak_in from x (λ o. free to v.second (upgraded to v.object.entry o)))
+-- Arc::try_unwrap: the value where this is the only Arc, else the Arc stays
 row_of id (kind.TryUnwrap h) v =
     held h v.first (λ x. strong_in h x (λ o.
     if v.object.strong == 1 then unwrapped h o (fields_of v.object.entry) else act answer.No [] [] (Some o)))
+-- Arc::into_inner: the value where this is the only Arc, else the Arc is dropped
 row_of id (kind.IntoInner h) v =
     held h v.first (λ x. strong_in h x (λ o.
     if v.object.strong == 1
     then unwrapped h o (fields_of v.object.entry)
     else act answer.No (SetHandle h (holding.Slot Nothing) ∷ []) (item.Slot (Strong o) ∷ []) (Some o)))
+-- Arc::get_mut: where no other Arc and no Weak names the object
 row_of id (kind.GetMut h) v =
     held h v.first (λ x. strong_in h x (λ o.
     act (yes_if (v.object.strong == 1 && (v.object.weak == 0))) [] [] (Some o)))
+-- Arc::make_mut
 row_of id (kind.MakeMut h) v = held h v.first (λ x. strong_in h x (λ o. made_unique id h o v.object))
+-- Arc::strong_count, Arc::weak_count, Weak::strong_count, Weak::weak_count
 row_of id (kind.Counts h) v = held h v.first (λ x. counted_in h x (λ o. act answer.Done [] [] o))
+-- Arc::ptr_eq
 row_of id (kind.PtrEq a b) v =
     held a v.first (λ x. held b v.second (λ y. strong_in a x (λ o. strong_in b y (λ p.
     act (yes_if (o == p)) [] [] (Some o)))))
+-- an assignment to a field of the value
 row_of id (kind.Set h i from) v =
     held h v.first (λ x. held from v.second (λ y. fields_in h x v.object.entry (λ owner fields. set_field h i from y owner fields)))
+-- a move out of a field of the value
 row_of id (kind.Take h i to) v =
     held h v.first (λ x. fields_in h x v.object.entry (λ owner fields. take_field h i to v.second owner fields))
+-- a clone of a field of the value
 row_of id (kind.Get h i to) v =
     held h v.first (λ x. fields_in h x v.object.entry (λ owner fields. copy_field i to v.second owner fields))
+-- atomic<shared_ptr<T>>: the constructor from a shared_ptr, which is moved in
 row_of id (kind.CellNew c from) v =
     held from v.first (λ x. pointer_in from x (λ s. free_cell c v.cell
     (act answer.Done (EndHandle from ∷ SetCell c s ∷ []) [] (named_by s))))
+-- atomic<shared_ptr<T>>::load
 row_of id (kind.CellLoad c to) v =
     in_cell c v.cell (λ s. free to v.first (act answer.Done (SetHandle to (holding.Slot s) ∷ []) [] (named_by s)))
+-- atomic<shared_ptr<T>>::exchange, store
 row_of id (kind.CellSwap c from to) v =
     in_cell c v.cell (λ old. held from v.first (λ x. pointer_in from x (λ s. swapped c from to v.second old s)))
+-- atomic<shared_ptr<T>>::compare_exchange_strong
 row_of id (kind.CellCas c expected desired) v =
     in_cell c v.cell (λ old. held expected v.first (λ x. held desired v.second (λ y.
     pointer_in expected x (λ e. pointer_in desired y (λ d. exchanged c expected desired old e d)))))
+-- atomic<shared_ptr<T>>: the destructor
 row_of id (kind.CellDrop c) v =
     in_cell c v.cell (λ s. act answer.Done (EndCell c ∷ []) (item.Slot s ∷ []) (named_by s))
 
@@ -277,5 +344,6 @@ abbrev pub unless_repeated : Option ℕ → Plan → Plan
 unless_repeated (Some h) rest = Skip (SameName h)
 unless_repeated None rest = rest
 
+-- what an operation is to do
 abbrev pub row : Operation → View → Plan
 row op v = unless_repeated (repeated op.kind) (row_of op.id op.kind v)

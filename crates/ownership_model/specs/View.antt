@@ -1,4 +1,5 @@
--- What an operation reads of a state: what stands at its members, and at the object that its first handle names.
+-- What an operation reads of a state: what stands at the handles and the cell that it names, and the object that its first
+-- handle names, with its counts. It does nothing else with the state before it is carried out (profile of this project).
 use Rattle.std.specs.Prelude.{ℕ, ◌==◌, List, [], ◌∷◌, ◌++◌, Option, Some, None, if◌then◌else◌}
 use Rattle.std.specs.List.{list_any}
 use Rattle.std.specs.FinMap.{get}
@@ -20,12 +21,15 @@ pub record Members : Type 0 where
   pub cell : Option ℕ
   pub fields : List Field
 
+-- at most two handles
 abbrev pub handles_are : Option ℕ → Option ℕ → Members
 handles_are first second = record { first = first; second = second; cell = None; fields = [] }
 
+-- a cell, and at most two handles
 abbrev pub cell_and : ℕ → Option ℕ → Option ℕ → Members
 cell_and c first second = record { first = first; second = second; cell = Some c; fields = [] }
 
+-- a handle or cell that is to be made stands among them, in its place
 abbrev pub members : Kind → Members
 members (kind.New to fields) = record { first = Some to; second = None; cell = None; fields = fields }
 members (kind.NewCyclic to fields) = record { first = Some to; second = None; cell = None; fields = fields }
@@ -51,18 +55,19 @@ members (kind.CellSwap c from to) = cell_and c (Some from) to
 members (kind.CellCas c expected desired) = cell_and c (Some expected) (Some desired)
 members (kind.CellDrop c) = cell_and c None None
 
--- an element of `fields`, with what its handle holds
+-- an element of `fields`: a handle, with what it holds; an empty pointer; in `new_cyclic` the Weak to the object itself
 pub data Element : Type 0 where
   Read : (h : ℕ) (held : Option Holding) → Element
   Null : Element
   Me : Element
 
--- what stands for an object
+-- what stands for an object, and its two counts
 pub record Seen : Type 0 where
   pub entry : Option Entry
   pub strong : ℕ
   pub weak : ℕ
 
+-- all that an operation reads
 pub record View : Type 0 where
   pub first : Option Holding
   pub second : Option Holding
@@ -70,14 +75,17 @@ pub record View : Type 0 where
   pub elements : List Element
   pub object : Seen
 
+-- what the handle holds, if one is named
 abbrev pub held_by : State → Option ℕ → Option Holding
 held_by m None = None
 held_by m (Some h) = get m.handles h
 
+-- what the cell holds, if one is named
 abbrev pub cell_of : State → Option ℕ → Option Slot
 cell_of m None = None
 cell_of m (Some c) = get m.cells c
 
+-- an element of `fields`, looked up
 abbrev pub element_of : State → Field → Element
 element_of m (field.Held h) = Read h (get m.handles h)
 element_of m field.Null = Null
@@ -87,22 +95,25 @@ abbrev pub elements_of : State → List Field → List Element
 elements_of m [] = []
 elements_of m (f ∷ fs) = element_of m f ∷ elements_of m fs
 
--- the object that a slot names
+-- the object that a slot names, strongly or weakly
 abbrev pub named_by : Slot → Option ℕ
 named_by Nothing = None
 named_by (Strong o) = Some o
 named_by (Weak o) = Some o
 named_by Dangling = None
 
+-- the object that what a handle holds names; a value outside any allocation names none
 abbrev pub named_in : Option Holding → Option ℕ
 named_in None = None
 named_in (Some (holding.Slot s)) = named_by s
 named_in (Some (holding.Bare fields)) = None
 
+-- the object with that number, if there is one; the counts are those before the operation
 abbrev pub seen : State → Option ℕ → Seen
 seen m None = record { entry = None; strong = 0; weak = 0 }
 seen m (Some o) = record { entry = get m.objects o; strong = strong m [] o; weak = weak m [] o }
 
+-- what stands at these members
 abbrev pub view_at : State → Members → View
 view_at m a = record {
   first = held_by m a.first;
@@ -112,20 +123,23 @@ view_at m a = record {
   object = seen m (named_in (held_by m a.first));
 }
 
+-- what an operation of this kind reads
 abbrev pub view_of : State → Kind → View
 view_of m k = view_at m (members k)
 
--- the handle members in order, those of `fields` among them; `ptr_eq` may name one handle twice
 abbrev pub listed : Option ℕ → List ℕ
 listed None = []
 listed (Some h) = h ∷ []
 
+-- the handles among the elements of `fields`
 abbrev pub held_fields : List Field → List ℕ
 held_fields [] = []
 held_fields (field.Held h ∷ fs) = h ∷ held_fields fs
 held_fields (field.Null ∷ fs) = held_fields fs
 held_fields (field.Me ∷ fs) = held_fields fs
 
+-- the handles that have to differ: all that an operation names, in order, also one that is to be made; `ptr_eq` alone may name
+-- one handle twice
 abbrev pub apart_handles : Kind → List ℕ
 apart_handles (kind.PtrEq a b) = []
 apart_handles k = let a = members k in listed a.first ++ listed a.second ++ held_fields a.fields

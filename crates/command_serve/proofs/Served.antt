@@ -1,0 +1,73 @@
+-- What was read and written makes a served input.
+use Rattle.std.proofs.Common.{◌≡◌, ℕ, ◌<◌, ◌≤◌, List, [], ◌++◌, length, Bool, true, false, Option, Some, None, refl, ap, ◌∙◌, sym, subst, arith, append-nil, length-append, lt-ltb, le-ltb, ◌⊎◌, inl, inr}
+use Rattle.std.specs.Bool.{if◌then◌else◌}
+use Rattle.std.specs.Io.KnownBytes.{Appends, Consumes, IsAtEnd}
+use Rattle.std.proofs.KnownBytes.{Appends-nil}
+use Rattle.trace_types.specs.Devices.{IsInput, AppendsFront}
+use Rattle.command_serve.specs.Serve.{max_input, is_too_long, Due, too_long, due_of, IsRead, IsDone, IsServed}
+use Rattle.command_serve.specs.declared.exits.Exit.{Exit}
+use Rattle.command_serve.specs.declared.exits.Exit.TheVariants.{Fine, Trace, Device, Memory}
+
+-- what a source has left, or nothing where that isn't told
+abbrev pub told : Option (List ℕ) → List ℕ
+told None = []
+told (Some xs) = xs
+
+pub IsInput-told : (left : Option (List ℕ)) → IsInput left (told left)
+IsInput-told None = tt
+IsInput-told (Some xs) = refl
+
+pub front_none : (held : Option (List ℕ)) (text : List ℕ) → AppendsFront held held text
+front_none held text = (0, Appends-nil held)
+
+pub IsInput-whole : (left left' : Option (List ℕ)) (bytes : List ℕ) → Consumes left left' bytes → IsAtEnd left' → IsInput left bytes
+IsInput-whole None left' bytes h e = tt
+IsInput-whole (Some xs) None bytes h e = absurd h
+IsInput-whole (Some xs) (Some ys) bytes h e = sym (h ∙ ap (λ l. bytes ++ l) e ∙ append-nil bytes)
+
+pub IsInput-long : (left left' : Option (List ℕ)) (bytes : List ℕ) → Consumes left left' bytes → max_input < length bytes → (input : List ℕ) × IsInput left input × (max_input < length input)
+IsInput-long None left' bytes h l = (bytes, tt, l)
+IsInput-long (Some xs) None bytes h l = absurd h
+IsInput-long (Some xs) (Some ys) bytes h l = (xs, refl, omega (arith, simp length-append at (ap length h)))
+
+pub due-long : (answer : List ℕ → Due) (input : List ℕ) → max_input < length input → due_of answer input ≡ too_long
+unfolding due_of
+due-long answer input l = let e : is_too_long input ≡ true = lt-ltb _ _ l in rw e
+
+pub due-short : (answer : List ℕ → Due) (input : List ℕ) → length input ≤ max_input → due_of answer input ≡ answer input
+unfolding due_of
+due-short answer input l = let e : is_too_long input ≡ false = le-ltb _ _ l in rw e
+
+pub read-short : (left left' : Option (List ℕ)) (input : List ℕ) → length input ≤ max_input → IsAtEnd left' → IsRead left left' input
+read-short left left' input l ended = (λ _. ended, λ long. let e : is_too_long input ≡ false = le-ltb _ _ l in absurd cc)
+
+pub read-long : (left left' : Option (List ℕ)) (input bytes : List ℕ) → max_input < length input → Consumes left left' bytes → length bytes ≡ 300000001 → IsRead left left' input
+read-long left left' input bytes l h n = ((λ short. absurd (omega (arith, l))), (λ _. (bytes, h, n)))
+
+-- a command's answer ends Fine or Trace
+abbrev pub IsAnswer : Due → Type 0
+IsAnswer due = (due.exit ≡ Fine) ⊎ (due.exit ≡ Trace)
+
+pub due_is_answer : (answer : List ℕ → Due) (input : List ℕ) → IsAnswer (answer input) → IsAnswer (due_of answer input)
+unfolding due_of
+due_is_answer answer input is = by_length (is_too_long input)
+  where
+    by_length : (b : Bool) → IsAnswer (if b then too_long else answer input)
+    by_length true = inr refl
+    by_length false = is
+
+pub served_all : (left left' held held' : Option (List ℕ)) (input : List ℕ) (due : Due) (exit : Exit) → IsAnswer due → exit ≡ due.exit → IsRead left left' input
+    → Appends held held' due.text → IsServed left left' held held' input due exit
+served_all left left' held held' input due exit is e read text = elim is [
+  | inl f ↦ subst (IsServed left left' held held' input due) (sym (e ∙ f)) (sym f, read, text)
+  | inr f ↦ subst (IsServed left left' held held' input due) (sym (e ∙ f)) (sym f, read, text)
+]
+
+pub never_device : (due : Due) → IsAnswer due → due.exit ≡ Device → ⊥
+never_device due is e = elim is [ inl f ↦ cc | inr f ↦ cc ]
+
+-- nothing was written
+pub served_none : (answer : List ℕ → Due) (left left' held : Option (List ℕ)) (exit : Exit) (F : Type 0) → (exit ≡ Memory) ⊎ ((exit ≡ Device) × F)
+    → (input : List ℕ) × IsInput left input × IsServed left left' held held input (due_of answer input) exit
+served_none answer left left' held exit F (inl e) = (told left, IsInput-told left, subst (IsServed left left' held held (told left) (due_of answer (told left))) (sym e) (front_none held _))
+served_none answer left left' held exit F (inr e) = (told left, IsInput-told left, subst (IsServed left left' held held (told left) (due_of answer (told left))) (sym e.0) (front_none held _))

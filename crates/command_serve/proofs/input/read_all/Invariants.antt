@@ -1,0 +1,12 @@
+use Rattle.std.proofs.Common.{◌≡◌, ◌-◌, ◌≤◌, vec_len}
+use Rattle.std.specs.Io.KnownBytes.{Consumes}
+use Rattle.command_serve.proofs.input.read_all.Given as goal
+
+abbrev pub invariant-reads : goal.invariant-reads
+invariant-reads g l = record {
+  within : vec_len l.all ≤ 300000001;
+  taken : Consumes (g.S.Source.left l.initial.source) (g.S.Source.left l.source) l.all.items;
+}
+
+abbrev pub decreases-reads : goal.decreases-reads
+decreases-reads g l = 300000001 - vec_len l.all

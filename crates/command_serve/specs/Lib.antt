@@ -1,0 +1,3 @@
+pub mod Exits
+pub mod Serve
+pub mod Replay

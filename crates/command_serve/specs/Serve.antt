@@ -1,0 +1,46 @@
+-- What a command has read and written when it ends, for what is due for an input.
+use Rattle.std.specs.Prelude.{◌≡◌, ℕ, ◌≤◌, List, length, Bool, true, nat_lt, if◌then◌else◌, codes, Option}
+use Rattle.std.specs.Io.KnownBytes.{Appends, Consumes, IsAtEnd}
+use Rattle.trace_types.specs.Devices.{IsInput, AppendsFront}
+use Rattle.command_serve.specs.declared.exits.Exit.{Exit}
+use Rattle.command_serve.specs.declared.exits.Exit.TheVariants.{Fine, Trace, Usage, Device, Memory}
+
+-- how many bytes an input may have
+abbrev pub max_input : ℕ
+max_input = 300000000
+
+abbrev pub is_too_long : List ℕ → Bool
+is_too_long input = nat_lt max_input (length input)
+
+-- the text that is to be written, and how the command ends
+pub record Due : Type 0 where
+  pub text : List ℕ
+  pub exit : Exit
+
+abbrev pub too_long : Due
+too_long = record { text = codes "fault input TooLong\n"; exit = Trace }
+
+-- what is due for an input, given what is due for one that is not too long
+unfoldable pub due_of : (List ℕ → Due) → List ℕ → Due
+due_of answer input = if is_too_long input then too_long else answer input
+
+-- an input was read until a read gave no bytes, or until one byte more than is allowed
+abbrev pub IsRead : Option (List ℕ) → Option (List ℕ) → List ℕ → Type 0
+IsRead left left' input = (length input ≤ max_input → IsAtEnd left')
+    × (is_too_long input ≡ true → (bytes : List ℕ) × Consumes left left' bytes × (length bytes ≡ 300000001))
+
+-- all of what is due was written, and nothing else
+abbrev pub IsDone : Option (List ℕ) → Option (List ℕ) → Option (List ℕ) → Option (List ℕ) → List ℕ → Due → Exit → Type 0
+IsDone left left' held held' input due exit = (exit ≡ due.exit) × IsRead left left' input × Appends held held' due.text
+
+-- an exit Fine or Trace says that all was done; Device and Memory that a front of what is due was written
+abbrev pub IsServed : Option (List ℕ) → Option (List ℕ) → Option (List ℕ) → Option (List ℕ) → List ℕ → Due → Exit → Type 0
+IsServed left left' held held' input due Fine = IsDone left left' held held' input due Fine
+IsServed left left' held held' input due Trace = IsDone left left' held held' input due Trace
+IsServed left left' held held' input due Usage = ⊥
+IsServed left left' held held' input due Device = AppendsFront held held' due.text
+IsServed left left' held held' input due Memory = AppendsFront held held' due.text
+
+-- there is an input, which is all that the source had left where that is told, and it was served
+abbrev pub Serves : (List ℕ → Due) → Option (List ℕ) → Option (List ℕ) → Option (List ℕ) → Option (List ℕ) → Exit → Type 0
+Serves answer left left' held held' exit = (input : List ℕ) × IsInput left input × IsServed left left' held held' input (due_of answer input) exit

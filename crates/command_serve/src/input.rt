@@ -1,0 +1,44 @@
+//! All of an input, read before any of it is parsed.
+ghost use Rattle.std.specs.Prelude.{◌≡◌, ℕ, ◌≤◌, List, length, true, IfOk, vec_len, IsErrOf};
+ghost use Rattle.std.specs.Io.KnownBytes.{Consumes, IsAtEnd};
+
+use std::alloc::Global;
+use trace_types::devices::Source;
+
+/// Why an input can't be had.
+#[derive(Clone, Copy, Debug, PartialEq, Eq)]
+pub enum InputFault {
+    /// It has more than `MAX_INPUT` bytes.
+    TooLong,
+    /// A read failed.
+    Device,
+    /// Out of memory.
+    Memory,
+}
+
+/// How many bytes an input may have.
+pub const MAX_INPUT: usize = 300_000_000;
+
+/// Reads all there is, until a read gives 0 bytes, or one byte more than is allowed.
+pub fn read_all<S: Source>(alloc: Global, source: &mut S) -> Result<Vec<u8>, InputFault>
+    ensures ok { IfOk result (λ v. Consumes (S.left source.old) (S.left source.new) v.items
+        × IsAtEnd (S.left source.new) × (vec_len v ≤ 300000000)) }
+    ensures too_long { IsErrOf result InputFault.TooLong → ((bytes : List ℕ)
+        × Consumes (S.left source.old) (S.left source.new) bytes × (length bytes ≡ 300000001)) }
+    ensures device { IsErrOf result InputFault.Device → S.failed source.new ≡ true }
+{
+    let mut all = Vec::new(alloc);
+    let mut piece = [0u8; 65_536];
+    'reads: while all.len() <= MAX_INPUT {
+        let room = (MAX_INPUT + 1 - all.len()).min(65_536);
+        let n = source
+            .read(&mut piece[..room])
+            .map_err(|_| InputFault::Device)?;
+        if n == 0 {
+            return Ok(all);
+        }
+        all.extend_from_slice(&piece[..n])
+            .map_err(|_| InputFault::Memory)?;
+    }
+    Err(InputFault::TooLong)
+}

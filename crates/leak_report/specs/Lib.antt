@@ -1,0 +1,4 @@
+pub mod Lines
+pub mod Lives
+pub mod Report
+pub mod Text

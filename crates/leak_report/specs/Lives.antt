@@ -1,0 +1,73 @@
+-- What became of each object that was made: how its value ended, and when its allocation was given up.
+use Rattle.std.specs.Prelude.{ℕ, ◌==◌, List, [], ◌∷◌, map, flat_map, Option, Some, None, Bool, true, false, if◌then◌else◌}
+use Rattle.std.specs.Ordering.{nat_cmp}
+use Rattle.std.specs.BTreeSet.{insert_key}
+use Rattle.trace_types.specs.declared.outcomes.Event.{Event}
+use Rattle.trace_types.specs.declared.outcomes.Event.TheVariants as event
+use Rattle.trace_types.specs.declared.outcomes.Answer.TheVariants as answer
+use Rattle.trace_types.specs.declared.outcomes.Verdict.{Verdict}
+use Rattle.trace_types.specs.declared.outcomes.Verdict.TheVariants.{Did, Skipped}
+use Rattle.trace_types.specs.declared.outcomes.Outcome.{Outcome}
+use Rattle.leak_report.specs.declared.lives.Ending.{Ending}
+use Rattle.leak_report.specs.declared.lives.Ending.TheVariants as ending
+use Rattle.leak_report.specs.declared.lives.Life.{Life}
+
+-- the first answer, or else the second
+abbrev pub or_later : {B : Type 0} → Option B → Option B → Option B
+or_later None later = later
+or_later (Some x) later = Some x
+
+-- the first answer along a list
+abbrev pub first_some : {A B : Type 0} → (A → Option B) → List A → Option B
+first_some f [] = None
+first_some f (x ∷ xs) = or_later (f x) (first_some f xs)
+
+-- how an operation's event ends the value of o, if it does
+abbrev pub ending_at : ℕ → ℕ × Event → Option Ending
+ending_at o (id, event.Destroyed p) = if p == o then Some (ending.Destroyed id) else None
+ending_at o (id, event.Unwrapped p) = if p == o then Some (ending.Unwrapped id) else None
+ending_at o (id, event.Moved p) = if p == o then Some (ending.Moved id) else None
+ending_at o (id, event.Freed p) = None
+
+-- the operation, where its event gives up the allocation of o
+abbrev pub freed_at : ℕ → ℕ × Event → Option ℕ
+freed_at o (id, event.Freed p) = if p == o then Some id else None
+freed_at o (id, event.Destroyed p) = None
+freed_at o (id, event.Unwrapped p) = None
+freed_at o (id, event.Moved p) = None
+
+-- the events of an operation, each with the operation's number
+abbrev pub numbered : ℕ → List Event → List (ℕ × Event)
+numbered id es = map (λ e. (id, e)) es
+
+-- all events in order
+abbrev pub events_of : List Outcome → List (ℕ × Event)
+events_of outs = flat_map (λ out. numbered out.id out.events) outs
+
+abbrev pub first_ending : ℕ → List (ℕ × Event) → Option Ending
+first_ending o es = first_some (ending_at o) es
+
+abbrev pub first_freed : ℕ → List (ℕ × Event) → Option ℕ
+first_freed o es = first_some (freed_at o) es
+
+-- whether the operation made an object, which goes by the operation's number
+abbrev pub is_making : Verdict → Bool
+is_making (Did answer.Made) = true
+is_making (Did answer.Cloned) = true
+is_making (Did answer.Moved) = true
+is_making (Did answer.Done) = false
+is_making (Did answer.Yes) = false
+is_making (Did answer.No) = false
+is_making (Did answer.Unique) = false
+is_making (Skipped reason) = false
+
+-- the objects that were made, rising, with those of os
+abbrev pub made_after : List ℕ → List Outcome → List ℕ
+made_after os [] = os
+made_after os (out ∷ outs) = made_after (if is_making out.verdict then insert_key nat_cmp os out.id else os) outs
+
+abbrev pub life_of : List Outcome → ℕ → Life
+life_of outs o = record { object = o; ending = first_ending o (events_of outs); freed = first_freed o (events_of outs) }
+
+abbrev pub lives_of : List Outcome → List Life
+lives_of outs = map (life_of outs) (made_after [] outs)

@@ -1,0 +1,166 @@
+//! The text of what a report says of objects, leaks and husks, and of its total.
+ghost use Rattle.std.specs.Prelude.{◌≡◌, ◌++◌, count_by, string_bytes, OnOk};
+ghost use Rattle.leak_report.specs.Text.{ending_text, freed_text, fate_text, life_text, lives_text, holder_text, holders_text, leak_text, leaks_text, husk_text, husks_text, is_living, total_text, total_line};
+
+use crate::lives::{Ending, Life};
+use crate::report::Report;
+use ownership_model::leaks::{Holder, HuskLeft, Leak};
+use std::alloc::AllocError;
+
+/// Adds a line for each object that was made.
+pub fn push_lives(text: &mut String, lives: &[Life]) -> Result<(), AllocError>
+    ensures { OnOk result (string_bytes text.new ≡ string_bytes text.old ++ lives_text lives.now) }
+{
+    for life in lives {
+        push_life(text, *life)?;
+    }
+    Ok(())
+}
+
+fn push_life(text: &mut String, life: Life) -> Result<(), AllocError>
+    ensures { OnOk result (string_bytes text.new ≡ string_bytes text.old ++ life_text life) }
+{
+    let object = life.object;
+    write!(text, "object {object}")?;
+    push_fate(text, life.ending, life.freed)?;
+    text.push('\n')?;
+    Ok(())
+}
+
+fn push_fate(
+    text: &mut String,
+    ending: Option<Ending>,
+    freed: Option<u32>,
+) -> Result<(), AllocError>
+    ensures { OnOk result (string_bytes text.new ≡ string_bytes text.old ++ fate_text ending freed) }
+{
+    let Some(ending) = ending else {
+        return text.push_str(" alive");
+    };
+    push_ending(text, ending)?;
+    push_freed(text, freed)
+}
+
+fn push_ending(text: &mut String, ending: Ending) -> Result<(), AllocError>
+    ensures { OnOk result (string_bytes text.new ≡ string_bytes text.old ++ ending_text ending) }
+{
+    match ending {
+        Ending::Destroyed(id) => write!(text, " destroyed {id}"),
+        Ending::Unwrapped(id) => write!(text, " unwrapped {id}"),
+        Ending::Moved(id) => write!(text, " moved {id}"),
+    }
+}
+
+fn push_freed(text: &mut String, freed: Option<u32>) -> Result<(), AllocError>
+    ensures { OnOk result (string_bytes text.new ≡ string_bytes text.old ++ freed_text freed) }
+{
+    let Some(id) = freed else {
+        return Ok(());
+    };
+    write!(text, " freed {id}")
+}
+
+/// Adds a line for each leaked object.
+pub fn push_leaks(text: &mut String, leaks: &[Leak]) -> Result<(), AllocError>
+    ensures { OnOk result (string_bytes text.new ≡ string_bytes text.old ++ leaks_text leaks.now) }
+{
+    for leak in leaks {
+        push_leak(text, leak)?;
+    }
+    Ok(())
+}
+
+fn push_leak(text: &mut String, leak: &Leak) -> Result<(), AllocError>
+    ensures { OnOk result (string_bytes text.new ≡ string_bytes text.old ++ leak_text leak.now) }
+{
+    let object = leak.object;
+    write!(text, "leak {object} held by")?;
+    push_holders(text, leak.holders.as_slice())?;
+    text.push('\n')?;
+    Ok(())
+}
+
+fn push_holders(text: &mut String, holders: &[Holder]) -> Result<(), AllocError>
+    ensures { OnOk result (string_bytes text.new ≡ string_bytes text.old ++ holders_text holders.now) }
+{
+    for holder in holders {
+        push_holder(text, *holder)?;
+    }
+    Ok(())
+}
+
+fn push_holder(text: &mut String, holder: Holder) -> Result<(), AllocError>
+    ensures { OnOk result (string_bytes text.new ≡ string_bytes text.old ++ holder_text holder) }
+{
+    let object = holder.object;
+    let field = holder.field;
+    write!(text, " {object}.{field}")
+}
+
+/// Adds a line for each husk.
+pub fn push_husks(text: &mut String, husks: &[HuskLeft]) -> Result<(), AllocError>
+    ensures { OnOk result (string_bytes text.new ≡ string_bytes text.old ++ husks_text husks.now) }
+{
+    for husk in husks {
+        push_husk(text, *husk)?;
+    }
+    Ok(())
+}
+
+fn push_husk(text: &mut String, husk: HuskLeft) -> Result<(), AllocError>
+    ensures { OnOk result (string_bytes text.new ≡ string_bytes text.old ++ husk_text husk) }
+{
+    let object = husk.object;
+    let weak = husk.weak;
+    write!(text, "husk {object} weak {weak}")?;
+    text.push('\n')?;
+    Ok(())
+}
+
+/// Adds the last line.
+pub fn push_total(text: &mut String, report: &Report) -> Result<(), AllocError>
+    ensures { OnOk result (string_bytes text.new ≡ string_bytes text.old ++ total_line report.now) }
+{
+    let leaks = report.leaks();
+    push_numbers(
+        text,
+        report.operations(),
+        report.skipped(),
+        report.lives().len(),
+        living(report.lives()),
+        leaks.leaked.len(),
+        leaks.husks.len(),
+    )
+}
+
+fn push_numbers(
+    text: &mut String,
+    operations: usize,
+    skipped: usize,
+    objects: usize,
+    alive: usize,
+    leaks: usize,
+    husks: usize,
+) -> Result<(), AllocError>
+    ensures { OnOk result (string_bytes text.new ≡ string_bytes text.old ++ total_text operations skipped objects alive leaks husks) }
+{
+    write!(
+        text,
+        "total {operations} ops {skipped} skipped {objects} objects "
+    )?;
+    write!(text, "{alive} alive {leaks} leaks {husks} husks")?;
+    text.push('\n')?;
+    Ok(())
+}
+
+fn living(lives: &[Life]) -> usize
+    ensures { result ≡ count_by is_living lives.now }
+{
+    lives.iter().filter(|life| is_alive(life)).count()
+}
+
+fn is_alive(life: &Life) -> bool
+    ensures { result ≡ is_living life.now }
+{
+    life.ending.is_none()
+}

@@ -1,0 +1,10 @@
+//! What leaked, and what the report of a replay says.
+#![tactic(auto)]
+
+mod closing_text;
+mod fates;
+mod line_text;
+pub mod lives;
+pub mod report;
+pub mod text;
+pub mod write;

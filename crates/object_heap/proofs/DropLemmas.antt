@@ -1,0 +1,266 @@
+-- The counters after one item is dropped, and what a cascade has told so far.
+use Rattle.std.proofs.Common.{◌≡◌, ℕ, ◌+◌, ◌-◌, ◌<◌, List, [], ◌∷◌, ◌++◌, refl, ap, ◌∙◌, sym, subst, arith, Bool, true, false, append_assoc}
+use Rattle.std.specs.Prelude.{Option, Some, None, ◌==◌, ◌&&◌, if◌then◌else◌}
+use Rattle.std.proofs.lemmas.Bool.Decides.{nat_tests}
+use Rattle.std.proofs.lemmas.List.{append-nil}
+use Rattle.std.specs.Ordering.{nat_cmp}
+use Rattle.std.specs.FinMap.{FinMap, get}
+use Rattle.trace_types.specs.declared.slots.Slot.{Slot}
+use Rattle.trace_types.specs.declared.slots.Slot.TheVariants.{Nothing, Strong, Weak, Dangling}
+use Rattle.trace_types.specs.declared.slots.Entry.{Entry}
+use Rattle.trace_types.specs.declared.slots.Entry.TheVariants.{Alive, Husk}
+use Rattle.trace_types.specs.declared.slots.Item.{Item}
+use Rattle.trace_types.specs.declared.slots.Item.TheVariants as item
+use Rattle.trace_types.specs.declared.outcomes.Event.{Event}
+use Rattle.ownership_model.specs.Totals.{weight_at}
+use Rattle.ownership_model.specs.State.{State, strong, weak, ends, weight, hits, entry_weight, IsSound, IsSoundAt}
+use Rattle.ownership_model.specs.Release.{Fate, Stays, Goes, fate, fall, is_husk, meet, drop_first, Released, after, release, work}
+use Rattle.ownership_model.proofs.ReleaseLemmas.{either, release-nil, release-cons, work_drops}
+use Rattle.ownership_model.proofs.CountLemmas.{total-set, total-cut, items_weight-drops, ends-drops, self_strong, self_weak, other_strong, other_weak, same_number}
+use Rattle.ownership_model.proofs.DropLemmas.{decide, sound-drop_first}
+use Rattle.object_heap.specs.declared.counters.Counters.{Counters}
+use Rattle.object_heap.specs.declared.draft.Draft.{Draft}
+use Rattle.object_heap.specs.Counted.{counters_at, state_of, IsCounted}
+use Rattle.object_heap.specs.Gains.{IsSetAt}
+use Rattle.object_heap.specs.Drops.{Becomes, DropsFirst}
+use Rattle.object_heap.proofs.GainLemmas.{chosen}
+
+-- what all slots weigh is what those of the rest weigh
+module _ (w : Slot → ℕ) (m : State) (xs : List Item) where
+  Weighs : Fate → Type 0
+  Weighs f = weight w (meet m xs f).state (meet m xs f).pending ≡ weight w m xs
+
+  weighs_stays : Weighs Stays
+  unfolding Weighs
+  weighs_stays = refl
+
+  weighs_fall : (o : ℕ) (e : Option Entry) → get m.objects o ≡ e → Weighs (fall o e)
+  unfolding Weighs
+  weighs_fall o None is = refl
+  weighs_fall o (Some Husk) is = refl
+  weighs_fall o (Some (Alive fields)) is = omega (arith, total-set (entry_weight w) m.objects o Husk (Some (Alive fields)) is, items_weight-drops w fields (item.End o ∷ xs))
+
+  husk_weighs : (e : Option Entry) → is_husk e ≡ true → weight_at (entry_weight w) e ≡ 0
+  husk_weighs None is = refl
+  husk_weighs (Some (Alive fields)) is = absurd cc
+  husk_weighs (Some Husk) is = refl
+
+  weighs_goes : (o : ℕ) → is_husk (get m.objects o) ≡ true → Weighs (Goes o)
+  unfolding Weighs
+  weighs_goes o husk = omega (arith, total-cut (entry_weight w) m.objects o (get m.objects o) refl, husk_weighs (get m.objects o) husk)
+
+middle : (a b c : Bool) → (a && (b && c)) ≡ true → b ≡ true
+middle true true c h = refl
+middle true false c h = h
+middle false b c h = absurd cc
+
+ended_husk : (s w e : ℕ) (entry : Option Entry) → IsSoundAt s w e entry → 0 < e → is_husk entry ≡ true
+ended_husk s w e None h p = absurd (omega (arith, h.2))
+ended_husk s w e (Some (Alive fields)) h p = absurd (omega (arith, h.1))
+ended_husk s w e (Some Husk) h p = refl
+
+first_end : (o : ℕ) (rest : List Item) → 0 < ends o (item.End o ∷ rest)
+first_end o rest = grind (arith, nat_tests)
+
+weight-drop_first : (w : Slot → ℕ) (m : State) (x : Item) (xs : List Item) → IsSound m (x ∷ xs) → weight w (drop_first m x xs).state (drop_first m x xs).pending ≡ weight w m xs
+unfolding Weighs
+weight-drop_first w m (item.Slot Nothing) xs sound = refl
+weight-drop_first w m (item.Slot Dangling) xs sound = refl
+weight-drop_first w m (item.Slot (Strong o)) xs sound = either (Weighs w m xs) (strong m xs o == 0) _ _ (weighs_fall w m xs o (get m.objects o) refl) (weighs_stays w m xs)
+weight-drop_first w m (item.Slot (Weak o)) xs sound =
+    decide (Weighs w m xs) (weak m xs o == 0 && (is_husk (get m.objects o) && (ends o xs == 0))) (Goes o) Stays
+    (λ t. weighs_goes w m xs o (middle (weak m xs o == 0) (is_husk (get m.objects o)) (ends o xs == 0) t)) (λ f. weighs_stays w m xs)
+weight-drop_first w m (item.End o) xs sound =
+    decide (Weighs w m xs) (weak m xs o == 0) (Goes o) Stays
+    (λ t. weighs_goes w m xs o (ended_husk _ _ _ (get m.objects o) (sound o) (first_end o xs))) (λ f. weighs_stays w m xs)
+
+-- only the object that the item names has other counts
+record NamesOnly (m : State) (x : Item) (xs : List Item) (o : ℕ) : Type 0 where
+  strong_stay : (p : ℕ) → (o == p) ≡ false → strong m (x ∷ xs) p ≡ strong m xs p
+  weak_stay : (p : ℕ) → (o == p) ≡ false → weak m (x ∷ xs) p ≡ weak m xs p
+  ends_stay : (p : ℕ) → (o == p) ≡ false → ends p (x ∷ xs) ≡ ends p (drop_first m x xs).pending
+
+counted_next : (m : State) (x : Item) (xs : List Item) (counts less : FinMap nat_cmp Counters) (o : ℕ) (c : Counters) → IsSound m (x ∷ xs) → IsCounted counts m (x ∷ xs) → NamesOnly m x xs o → IsSetAt counts less o c
+    → c.strong ≡ strong m xs o → c.weak ≡ weak m xs o → c.ends ≡ ends o (drop_first m x xs).pending → IsCounted less (drop_first m x xs).state (drop_first m x xs).pending
+counted_next m x xs counts less o c sound counted only set s w e = record {
+  strong_is = λ p. ap (λ (v : Counters). v.strong) (set p)
+      ∙ chosen (λ v. v.strong) (o == p) c (counters_at (get counts p)) (strong m xs p) (λ t. s ∙ ap (λ q. strong m xs q) (same_number o p t)) (λ f. counted.strong_is p ∙ only.strong_stay p f)
+      ∙ sym (weight-drop_first (hits (Strong p)) m x xs sound);
+  weak_is = λ p. ap (λ (v : Counters). v.weak) (set p)
+      ∙ chosen (λ v. v.weak) (o == p) c (counters_at (get counts p)) (weak m xs p) (λ t. w ∙ ap (λ q. weak m xs q) (same_number o p t)) (λ f. counted.weak_is p ∙ only.weak_stay p f)
+      ∙ sym (weight-drop_first (hits (Weak p)) m x xs sound);
+  ends_is = λ p. ap (λ (v : Counters). v.ends) (set p)
+      ∙ chosen (λ v. v.ends) (o == p) c (counters_at (get counts p)) (ends p (drop_first m x xs).pending) (λ t. e ∙ ap (λ q. ends q (drop_first m x xs).pending) (same_number o p t)) (λ f. counted.ends_is p ∙ only.ends_stay p f);
+}
+
+other_end : (o p n : ℕ) → (o == p) ≡ false → (if o == p then 1 else 0) + n ≡ n
+other_end o p n f = grind (arith, f)
+
+self_end : (o n : ℕ) → (if o == o then 1 else 0) + n ≡ 1 + n
+self_end o n = grind (arith, nat_tests)
+
+module _ (m : State) (xs : List Item) (o : ℕ) where
+  EndsAt : ℕ → ℕ → Fate → Type 0
+  EndsAt p n f = ends p (meet m xs f).pending ≡ n
+
+  fall_ends : (p : ℕ) (e : Option Entry) → (o == p) ≡ false → EndsAt p (ends p xs) (fall o e)
+  unfolding EndsAt
+  fall_ends p None f = refl
+  fall_ends p (Some Husk) f = refl
+  fall_ends p (Some (Alive fields)) f = ends-drops p fields (item.End o ∷ xs) ∙ other_end o p (ends p xs) f
+
+  strong_names_only : NamesOnly m (item.Slot (Strong o)) xs o
+  unfolding EndsAt
+  strong_names_only = record {
+    strong_stay = λ p f. omega (arith, other_strong p o f);
+    weak_stay = λ p f. omega arith;
+    ends_stay = λ p f. sym (either (EndsAt p (ends p xs)) (strong m xs o == 0) _ _ (fall_ends p (get m.objects o) f) refl);
+  }
+
+  PendsRest : Fate → Type 0
+  PendsRest f = (meet m xs f).pending ≡ xs
+
+  weak_pending : (drop_first m (item.Slot (Weak o)) xs).pending ≡ xs
+  unfolding PendsRest
+  weak_pending = either PendsRest (weak m xs o == 0 && (is_husk (get m.objects o) && (ends o xs == 0))) (Goes o) Stays refl refl
+
+  end_pending : (drop_first m (item.End o) xs).pending ≡ xs
+  unfolding PendsRest
+  end_pending = either PendsRest (weak m xs o == 0) (Goes o) Stays refl refl
+
+  weak_names_only : NamesOnly m (item.Slot (Weak o)) xs o
+  weak_names_only = record {
+    strong_stay = λ p f. omega arith;
+    weak_stay = λ p f. omega (arith, other_weak p o f);
+    ends_stay = λ p f. ap (ends p) (sym weak_pending);
+  }
+
+  end_names_only : NamesOnly m (item.End o) xs o
+  end_names_only = record {
+    strong_stay = λ p f. refl;
+    weak_stay = λ p f. refl;
+    ends_stay = λ p f. other_end o p (ends p xs) f ∙ ap (ends p) (sym end_pending);
+  }
+
+  -- a first strong slot names what is alive
+  fall_ends_self : (s w : ℕ) (e : Option Entry) → IsSoundAt (1 + s) w (ends o xs) e → EndsAt o (1 + ends o xs) (fall o e)
+  unfolding EndsAt
+  fall_ends_self s w None h = absurd (omega (arith, h.0))
+  fall_ends_self s w (Some Husk) h = absurd (omega (arith, h.0))
+  fall_ends_self s w (Some (Alive fields)) h = ends-drops o fields (item.End o ∷ xs) ∙ self_end o (ends o xs)
+
+  first_strong : IsSound m (item.Slot (Strong o) ∷ xs) → IsSoundAt (1 + strong m xs o) (weak m xs o) (ends o xs) (get m.objects o)
+  first_strong sound =
+      let same : strong m (item.Slot (Strong o) ∷ xs) o ≡ 1 + strong m xs o = omega (arith, self_strong o) in
+      let too : weak m (item.Slot (Strong o) ∷ xs) o ≡ weak m xs o = omega arith in
+      subst (λ n. IsSoundAt (1 + strong m xs o) n (ends o xs) (get m.objects o)) too (subst (λ n. IsSoundAt n (weak m (item.Slot (Strong o) ∷ xs) o) (ends o xs) (get m.objects o)) same (sound o))
+
+-- the fate of an item by a test that the code makes
+fate_by : (a b : Bool) (f g : Fate) → a ≡ b → (if b then f else g) ≡ (if a then f else g)
+fate_by a b f g same = ap (λ t. if t then f else g) (sym same)
+
+pub is_none : (n : ℕ) → n ≡ 0 → (n == 0) ≡ true
+is_none n h = grind (arith, nat_tests)
+
+pub is_some : (n : ℕ) → (n ≡ 0 → ⊥) → (n == 0) ≡ false
+is_some n h = grind (arith, nat_tests)
+
+-- an item of any kind: the counters of the object that it names, and the step
+module _ (old new : Draft) (x : Item) (o : ℕ) (xs left : List Item) (before told : List Event) (c : Counters)
+    (sound : IsSound (state_of old) (x ∷ xs)) (counted : IsCounted old.counts (state_of old) (x ∷ xs)) (only : NamesOnly (state_of old) x xs o) (set : IsSetAt old.counts new.counts o c) where
+  drops_by : (f : Fate) → fate (state_of old) x xs ≡ f → c.strong ≡ strong (state_of old) xs o → c.weak ≡ weak (state_of old) xs o → c.ends ≡ ends o (meet (state_of old) xs f).pending
+      → Becomes new left before told (meet (state_of old) xs f) → DropsFirst old new x xs left before told
+  drops_by f is s w e step =
+      let next : IsCounted new.counts (drop_first (state_of old) x xs).state (drop_first (state_of old) x xs).pending =
+      counted_next (state_of old) x xs old.counts new.counts o c sound counted only set s w (e ∙ ap (λ (g : Fate). ends o (meet (state_of old) xs g).pending) (sym is)) in
+      let here : Becomes new left before told (drop_first (state_of old) x xs) = subst (λ (g : Fate). Becomes new left before told (meet (state_of old) xs g)) (sym is) step in
+      record {
+        step = here;
+        counted = subst (λ (p : List Item). IsCounted new.counts (state_of new) p) (sym here.pending) (subst (λ (m : State). IsCounted new.counts m (drop_first (state_of old) x xs).pending) (sym here.state) next);
+      }
+
+module _ (old new : Draft) (o : ℕ) (xs left : List Item) (before told : List Event) (c : Counters)
+    (sound : IsSound (state_of old) (item.Slot (Strong o) ∷ xs)) (counted : IsCounted old.counts (state_of old) (item.Slot (Strong o) ∷ xs))
+    (set : IsSetAt old.counts new.counts o c) (less : c.strong ≡ (counters_at (get old.counts o)).strong - 1) (same : c.weak ≡ (counters_at (get old.counts o)).weak) where
+  strong_rest : c.strong ≡ strong (state_of old) xs o
+  strong_rest = omega (arith, less, counted.strong_is o, self_strong o)
+
+  weak_rest : c.weak ≡ weak (state_of old) xs o
+  weak_rest = omega (arith, same, counted.weak_is o)
+
+  -- the last strong slot
+  pub drops_last : c.strong ≡ 0 → c.ends ≡ 1 + (counters_at (get old.counts o)).ends → Becomes new left before told (meet (state_of old) xs (fall o (get old.objects o))) → DropsFirst old new (item.Slot (Strong o)) xs left before told
+  unfolding EndsAt
+  drops_last none more step =
+      let is : fate (state_of old) (item.Slot (Strong o)) xs ≡ fall o (get old.objects o) = fate_by true (strong (state_of old) xs o == 0) (fall o (get old.objects o)) Stays (sym (is_none (strong (state_of old) xs o) (sym strong_rest ∙ none))) in
+      drops_by old new (item.Slot (Strong o)) o xs left before told c sound counted (strong_names_only (state_of old) xs o) set (fall o (get old.objects o)) is strong_rest weak_rest
+      (more ∙ ap (λ n. 1 + n) (counted.ends_is o) ∙ sym (fall_ends_self (state_of old) xs o _ _ (get old.objects o) (first_strong (state_of old) xs o sound))) step
+
+  -- one of several
+  pub drops_more : (c.strong ≡ 0 → ⊥) → c.ends ≡ (counters_at (get old.counts o)).ends → Becomes new left before told (meet (state_of old) xs Stays) → DropsFirst old new (item.Slot (Strong o)) xs left before told
+  drops_more some kept step =
+      let is : fate (state_of old) (item.Slot (Strong o)) xs ≡ Stays = fate_by false (strong (state_of old) xs o == 0) (fall o (get old.objects o)) Stays (sym (is_some (strong (state_of old) xs o) (λ z. some (strong_rest ∙ z)))) in
+      drops_by old new (item.Slot (Strong o)) o xs left before told c sound counted (strong_names_only (state_of old) xs o) set Stays is strong_rest weak_rest (kept ∙ counted.ends_is o) step
+
+module _ (old new : Draft) (o : ℕ) (xs : List Item) (before told : List Event) (c : Counters)
+    (set : IsSetAt old.counts new.counts o c) (same : c.strong ≡ (counters_at (get old.counts o)).strong) where
+  pub drops_weak : (b : Bool) → IsSound (state_of old) (item.Slot (Weak o) ∷ xs) → IsCounted old.counts (state_of old) (item.Slot (Weak o) ∷ xs) → c.weak ≡ (counters_at (get old.counts o)).weak - 1 → c.ends ≡ (counters_at (get old.counts o)).ends
+      → b ≡ ((c.weak == 0) && (is_husk (get old.objects o) && (c.ends == 0))) → Becomes new xs before told (meet (state_of old) xs (if b then Goes o else Stays)) → DropsFirst old new (item.Slot (Weak o)) xs xs before told
+  drops_weak b sound counted less kept test step =
+      let s : c.strong ≡ strong (state_of old) xs o = omega (arith, same, counted.strong_is o) in
+      let w : c.weak ≡ weak (state_of old) xs o = omega (arith, less, counted.weak_is o, self_weak o) in
+      let e : c.ends ≡ ends o xs = kept ∙ counted.ends_is o in
+      let tested : b ≡ ((weak (state_of old) xs o == 0) && (is_husk (get old.objects o) && (ends o xs == 0))) = test ∙ ap (λ n. (n == 0) && (is_husk (get old.objects o) && (c.ends == 0))) w ∙ ap (λ n. (weak (state_of old) xs o == 0) && (is_husk (get old.objects o) && (n == 0))) e in
+      let is : fate (state_of old) (item.Slot (Weak o)) xs ≡ (if b then Goes o else Stays) = fate_by b ((weak (state_of old) xs o == 0) && (is_husk (get old.objects o) && (ends o xs == 0))) (Goes o) Stays tested in
+      drops_by old new (item.Slot (Weak o)) o xs xs before told c sound counted (weak_names_only (state_of old) xs o) set (if b then Goes o else Stays) is s w (e ∙ ap (ends o) (sym (weak_pending (state_of old) xs o)) ∙ ap (λ (g : Fate). ends o (meet (state_of old) xs g).pending) is) step
+
+  pub drops_end : (b : Bool) → IsSound (state_of old) (item.End o ∷ xs) → IsCounted old.counts (state_of old) (item.End o ∷ xs) → c.weak ≡ (counters_at (get old.counts o)).weak → c.ends ≡ (counters_at (get old.counts o)).ends - 1
+      → b ≡ (c.weak == 0) → Becomes new xs before told (meet (state_of old) xs (if b then Goes o else Stays)) → DropsFirst old new (item.End o) xs xs before told
+  drops_end b sound counted kept less test step =
+      let s : c.strong ≡ strong (state_of old) xs o = same ∙ counted.strong_is o in
+      let w : c.weak ≡ weak (state_of old) xs o = kept ∙ counted.weak_is o in
+      let e : c.ends ≡ ends o xs = omega (arith, less, counted.ends_is o, self_end o (ends o xs)) in
+      let tested : b ≡ (weak (state_of old) xs o == 0) = test ∙ ap (λ n. n == 0) w in
+      let is : fate (state_of old) (item.End o) xs ≡ (if b then Goes o else Stays) = fate_by b (weak (state_of old) xs o == 0) (Goes o) Stays tested in
+      drops_by old new (item.End o) o xs xs before told c sound counted (end_names_only (state_of old) xs o) set (if b then Goes o else Stays) is s w (e ∙ ap (ends o) (sym (end_pending (state_of old) xs o)) ∙ ap (λ (g : Fate). ends o (meet (state_of old) xs g).pending) is) step
+
+pub drops_nothing : (old : Draft) (s : Slot) (xs : List Item) (before : List Event) → fate (state_of old) (item.Slot s) xs ≡ Stays → ((w : ℕ) → hits (Strong w) s ≡ 0) → ((w : ℕ) → hits (Weak w) s ≡ 0) → IsCounted old.counts (state_of old) (item.Slot s ∷ xs) → DropsFirst old old (item.Slot s) xs xs before before
+drops_nothing old s xs before is a b counted = record {
+  step = subst (λ (g : Fate). Becomes old xs before before (meet (state_of old) xs g)) (sym is) (record { state = refl; pending = refl; events = sym (append-nil before) });
+  counted = record {
+    strong_is = λ o. omega (arith, counted.strong_is o, a o);
+    weak_is = λ o. omega (arith, counted.weak_is o, b o);
+    ends_is = counted.ends_is;
+  };
+}
+
+after-after : (a b : List Event) (r : Released) → after (a ++ b) r ≡ after a (after b r)
+after-after a b r = ap (λ (es : List Event). record { state = r.state; events = es }) (append_assoc a b r.events)
+
+-- one item of a release
+module _ (old new : Draft) (x : Item) (xs whole left : List Item) (before told : List Event) (first : whole ≡ x ∷ xs) (dropped : DropsFirst old new x xs left before told) where
+  pub sound_next : IsSound (state_of old) whole → IsSound (state_of new) left
+  sound_next sound =
+      let now : IsSound (drop_first (state_of old) x xs).state (drop_first (state_of old) x xs).pending = sound-drop_first (state_of old) x xs (subst (λ (p : List Item). IsSound (state_of old) p) first sound) in
+      subst (λ (p : List Item). IsSound (state_of new) p) (sym dropped.step.pending) (subst (λ (m : State). IsSound m (drop_first (state_of old) x xs).pending) (sym dropped.step.state) now)
+
+  pub work_next : work (state_of new) left < work (state_of old) whole
+  work_next =
+      let smaller : work (state_of new) left ≡ work (drop_first (state_of old) x xs).state (drop_first (state_of old) x xs).pending = ap (λ (p : List Item). work (state_of new) p) dropped.step.pending ∙ ap (λ (m : State). work m (drop_first (state_of old) x xs).pending) dropped.step.state in
+      let larger : work (state_of old) whole ≡ work (state_of old) (x ∷ xs) = ap (λ (p : List Item). work (state_of old) p) first in
+      omega (arith, smaller, larger, work_drops (state_of old) x xs)
+
+  pub release_next : after told (release (state_of new) left) ≡ after before (release (state_of old) whole)
+  release_next =
+      let d = drop_first (state_of old) x xs in
+      let same : release (state_of new) left ≡ release d.state d.pending = ap (λ (p : List Item). release (state_of new) p) dropped.step.pending ∙ ap (λ (m : State). release m d.pending) dropped.step.state in
+      ap (λ (r : Released). after told r) same
+      ∙ ap (λ (es : List Event). after es (release d.state d.pending)) dropped.step.events
+      ∙ after-after before d.events (release d.state d.pending)
+      ∙ ap (λ (r : Released). after before r) (sym (release-cons (state_of old) x xs) ∙ ap (λ (p : List Item). release (state_of old) p) (sym first))
+
+-- nothing is left
+pub release_end : (m : State) (before told : List Event) (left : List Item) (r : Released) → after told (release m left) ≡ after before r → left ≡ [] → (m ≡ r.state) × (told ≡ before ++ r.events)
+release_end m before told left r is none =
+    let same : after told (record { state = m; events = [] }) ≡ after before r = ap (λ (q : Released). after told q) (sym (release-nil m)) ∙ ap (λ (p : List Item). after told (release m p)) (sym none) ∙ is in
+    (ap (λ (q : Released). q.state) same, sym (append-nil told) ∙ ap (λ (q : Released). q.events) same)

@@ -1,0 +1,14 @@
+use Rattle.std.proofs.Common.{◌≡◌, [], drop}
+use Rattle.ownership_model.specs.Changes.{CanChange, changed}
+use Rattle.ownership_model.specs.Bounds.{IsBounded, ChangesFit}
+use Rattle.object_heap.specs.Counted.{IsCounted, state_of}
+use Rattle.object_heap.proofs.draft.Draft.apply.Given as goal
+
+abbrev pub invariant-loop-change : goal.invariant-loop-change
+invariant-loop-change l = record {
+  counted : IsCounted l.self.counts (state_of l.self) [];
+  bounded : IsBounded (state_of l.self);
+  can : CanChange (state_of l.self) (drop l.change-index l.changes);
+  fits : ChangesFit (drop l.change-index l.changes);
+  rest : changed (state_of l.self) (drop l.change-index l.changes) ≡ changed (state_of l.fn.self) l.changes;
+}

@@ -1,0 +1,35 @@
+use Rattle.std.proofs.Common.{◌-◌, refl, ap, ◌∙◌, sym, subst, true, false}
+use Rattle.std.proofs.lemmas.List.{append-nil}
+use Rattle.std.specs.Ordering.{nat_cmp}
+use Rattle.std.specs.FinMap.{FinMap}
+use Rattle.object_heap.specs.declared.counters.Counters.{Counters}
+use Rattle.object_heap.specs.declared.draft.Draft.{Draft}
+use Rattle.object_heap.specs.Gains.{IsSetAt}
+use Rattle.object_heap.proofs.GainLemmas.{on_both}
+use Rattle.object_heap.proofs.DropLemmas.{drops_weak}
+use Rattle.object_heap.proofs.draft.Draft.drop_weak.Goals as goal
+
+pub returns-then-is_last : goal.returns-then-is_last
+returns-then-is_last c =
+    let old = c.args.self.now in
+    let was = c.counters_of-was.result in
+    let less : Counters = record { strong = was.strong; weak = was.weak - 1; ends = was.ends } in
+    on_both c.free.result c.free.ensures.step c.free.ensures.counts (λ step kept.
+    drops_weak old c.free.new.self c.args.object c.args.rest.now.items c.args.events.now.items c.free.new.events.items less
+    (subst (λ (counts : FinMap nat_cmp Counters). IsSetAt old.counts counts c.args.object less) (sym kept) c.in_ok-set_counters.ensures)
+    (ap (λ (v : Counters). v.strong) c.counters_of-was.ensures) true c.requires.sound c.requires.counted
+    (ap (λ (v : Counters). v.weak - 1) c.counters_of-was.ensures) (ap (λ (v : Counters). v.ends) c.counters_of-was.ensures)
+    (sym c.if-is_last.true ∙ c.is_last.ensures)
+    (record { state = step.state; pending = refl; events = step.events }))
+
+pub returns : goal.returns
+returns c =
+    let old = c.args.self.now in
+    let was = c.counters_of-was.result in
+    let less : Counters = record { strong = was.strong; weak = was.weak - 1; ends = was.ends } in
+    let new : Draft = record { handles = old.handles; cells = old.cells; objects = old.objects; counts = c.set_counters.new.counts } in
+    drops_weak old new c.args.object c.args.rest.now.items c.args.events.now.items c.args.events.now.items less c.in_ok-set_counters.ensures
+    (ap (λ (v : Counters). v.strong) c.counters_of-was.ensures) false c.requires.sound c.requires.counted
+    (ap (λ (v : Counters). v.weak - 1) c.counters_of-was.ensures) (ap (λ (v : Counters). v.ends) c.counters_of-was.ensures)
+    (sym c.if-is_last.false ∙ c.is_last.ensures)
+    (record { state = refl; pending = refl; events = sym (append-nil c.args.events.now.items) })

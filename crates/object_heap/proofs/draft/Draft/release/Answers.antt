@@ -1,0 +1,26 @@
+use Rattle.std.proofs.Common.{◌≡◌, ◌∙◌, [], arith}
+use Rattle.std.proofs.lemmas.Grind.{common_steps}
+use Rattle.ownership_model.specs.Release.{release}
+use Rattle.object_heap.specs.Counted.{state_of}
+use Rattle.object_heap.proofs.DropLemmas.{sound_next, work_next, release_next, release_end}
+use Rattle.object_heap.proofs.draft.Draft.release.Goals as goal
+
+pub loop-item-smaller : goal.loop-item-smaller
+loop-item-smaller c = work_next c.loop-item.self c.drop_item.new.self c.in-Some.item c.pop_front.new.self.items c.loop-item.pending.items c.drop_item.new.pending.items c.loop-item.events.items c.drop_item.new.events.items c.in-Some.ensures.items c.in_ok-drop_item.ensures
+
+pub loop-item-preserved : goal.loop-item-preserved
+loop-item-preserved c = record {
+  sound = sound_next c.loop-item.self c.drop_item.new.self c.in-Some.item c.pop_front.new.self.items c.loop-item.pending.items c.drop_item.new.pending.items c.loop-item.events.items c.drop_item.new.events.items c.in-Some.ensures.items c.in_ok-drop_item.ensures c.loop-item.invariant.sound;
+  counted = c.in_ok-drop_item.ensures.counted;
+  rest = release_next c.loop-item.self c.drop_item.new.self c.in-Some.item c.pop_front.new.self.items c.loop-item.pending.items c.drop_item.new.pending.items c.loop-item.events.items c.drop_item.new.events.items c.in-Some.ensures.items c.in_ok-drop_item.ensures ∙ c.loop-item.invariant.rest;
+}
+
+pub returns-clause-state : goal.returns-clause-state
+returns-clause-state c =
+    let none : c.loop-item.pending.items ≡ [] = grind (arith, common_steps) in
+    (release_end (state_of c.loop-item.self) c.args.events.now.items c.loop-item.events.items c.loop-item.pending.items (release (state_of c.args.self.now) c.args.pending.now.items) c.loop-item.invariant.rest none).0
+
+pub returns-clause-events : goal.returns-clause-events
+returns-clause-events c =
+    let none : c.loop-item.pending.items ≡ [] = grind (arith, common_steps) in
+    (release_end (state_of c.loop-item.self) c.args.events.now.items c.loop-item.events.items c.loop-item.pending.items (release (state_of c.args.self.now) c.args.pending.now.items) c.loop-item.invariant.rest none).1

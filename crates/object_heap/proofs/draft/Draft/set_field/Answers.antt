@@ -1,0 +1,41 @@
+use Rattle.std.proofs.Common.{◌≡◌, [], refl, ap, ◌∙◌, sym, arith, List}
+use Rattle.std.specs.Prelude.{Option, Some}
+use Rattle.std.specs.Ordering.{nat_cmp}
+use Rattle.std.specs.FinMap.{FinMap, get, insert}
+use Rattle.trace_types.specs.declared.slots.Slot.{Slot}
+use Rattle.trace_types.specs.declared.slots.Entry.{Entry}
+use Rattle.trace_types.specs.declared.slots.Entry.TheVariants.{Alive}
+use Rattle.trace_types.specs.declared.slots.Change.{Change}
+use Rattle.trace_types.specs.declared.slots.Change.TheVariants.{SetField}
+use Rattle.ownership_model.specs.Changes.{with_field}
+use Rattle.object_heap.specs.declared.draft.Draft.{Draft}
+use Rattle.object_heap.specs.Counted.{state_of}
+use Rattle.object_heap.specs.Gains.{lost, CountsMore}
+use Rattle.object_heap.proofs.GainLemmas.{on_ok, lost_in, changes, room, less_room, field_in, field_gone}
+use Rattle.object_heap.proofs.draft.Draft.set_field.Goals as goal
+
+pub hold-requires : goal.hold-requires
+hold-requires c =
+    let old = c.args.self.now in
+    less_room old.counts 1 16 (omega arith) (room old.counts (state_of old) [] c.requires.bounded c.requires.counted (omega arith))
+
+pub let_go-requires : goal.let_go-requires
+let_go-requires c =
+    let old = c.args.self.now in
+    let change : Change = SetField c.args.object c.args.index c.args.slot in
+    let is : get old.objects c.args.object ≡ Some (Alive c.in-Some-Alive.fields) = cc (c.in-Some-Alive.ensures, c.in-Some-Alive.field-0-is) in
+    field_in (state_of old) c.args.object c.args.index c.args.slot c.in-Some-Alive.fields c.as_slice.result.now _ is c.requires.can c.as_slice.ensures c.hold.new.counts
+    (lost_in old.counts c.hold.new.counts (state_of old) change c.requires.can c.requires.counted c.in_ok-hold.ensures)
+
+pub returns : goal.returns
+returns c =
+    let old = c.args.self.now in
+    let new : Draft = record { handles = old.handles; cells = old.cells; objects = c.insert.new.self; counts = c.let_go.new.counts } in
+    let change : Change = SetField c.args.object c.args.index c.args.slot in
+    let is : get old.objects c.args.object ≡ Some (Alive c.in-Some-Alive.fields) = cc (c.in-Some-Alive.ensures, c.in-Some-Alive.field-0-is) in
+    let fewer : CountsMore new.counts c.hold.new.counts (lost (state_of old) change) = field_gone (state_of old) c.args.object c.args.index c.args.slot c.in-Some-Alive.fields c.as_slice.result.now _ is c.requires.can c.as_slice.ensures new.counts c.hold.new.counts c.in_ok-let_go.ensures in
+    let set : Alive c.in_ok-fields.fields ≡ with_field (get old.objects c.args.object) c.args.index c.args.slot =
+    ap (λ (l : List Slot). Alive l) c.in_ok-fields.ensures ∙ sym (ap (λ (e : Option Entry). with_field e c.args.index c.args.slot) is) in
+    on_ok c.insert.result c.insert.ensures.ok (λ put.
+    changes old.counts c.hold.new.counts (state_of old) change c.requires.can c.requires.counted c.in_ok-hold.ensures old new refl fewer
+    (ap (λ (x : FinMap nat_cmp Entry). record { handles = old.handles; cells = old.cells; objects = x }) (put ∙ ap (λ (e : Entry). insert old.objects c.args.object e) set)))

@@ -1,0 +1,231 @@
+//! What letting go sets off: what is pending is dropped, one item after another.
+ghost use Rattle.std.specs.Prelude.{◌≡◌, ◌∷◌, ◌++◌, [], OnOk, ◌<◌, ◌^◌, ◌&&◌, ◌==◌, length};
+ghost use Rattle.std.specs.FinMap as map;
+ghost use Rattle.trace_types.specs.declared.slots.Item.TheVariants as item;
+ghost use Rattle.trace_types.specs.declared.slots.Slot.TheVariants as slot;
+ghost use Rattle.ownership_model.specs.State.{IsSound};
+ghost use Rattle.ownership_model.specs.Release.{release, drops, fall, is_husk, meet, Goes};
+ghost use Rattle.ownership_model.specs.Bounds.{IsBounded};
+ghost use Rattle.object_heap.specs.Counted.{counters_at, state_of, IsCounted};
+ghost use Rattle.object_heap.specs.Drops.{Becomes, DropsFirst};
+
+use crate::counters::{Counters, counters_of, hold_item, set_counters};
+use crate::draft::Draft;
+use std::alloc::{AllocError, Global};
+use std::collections::VecDeque;
+use trace_types::outcomes::Event;
+use trace_types::slots::{Entry, Item, Slot};
+
+impl Draft {
+    /// All items are pending, in order.
+    pub fn add_all(
+        &mut self,
+        alloc: Global,
+        items: &[Item],
+        pending: &mut VecDeque<Item>,
+    ) -> Result<(), AllocError>
+        requires counted { IsCounted self.old.counts (state_of self.old) [] }
+        requires bounded { IsBounded (state_of self.old) }
+        requires none { pending.old.items ≡ [] }
+        ensures state { OnOk result (state_of self.new ≡ state_of self.old) }
+        ensures pending { OnOk result (pending.new.items ≡ items.now) }
+        ensures counted { OnOk result (IsCounted self.new.counts (state_of self.new) items.now) }
+    {
+        for item in items {
+            self.add(alloc, *item, pending)?;
+        }
+        Ok(())
+    }
+
+    // One item more is pending, after the others.
+    fn add(
+        &mut self,
+        alloc: Global,
+        item: Item,
+        pending: &mut VecDeque<Item>,
+    ) -> Result<(), AllocError>
+        requires counted { IsCounted self.old.counts (state_of self.old) pending.old.items }
+        requires bounded { IsBounded (state_of self.old) }
+        requires short { length pending.old.items < 2 ^ 63 }
+        ensures state { OnOk result (state_of self.new ≡ state_of self.old) }
+        ensures pending { OnOk result (pending.new.items ≡ pending.old.items ++ item ∷ []) }
+        ensures counted { OnOk result (IsCounted self.new.counts (state_of self.new) pending.new.items) }
+    {
+        hold_item(alloc, &mut self.counts, item)?;
+        Ok(pending.push_back(item)?)
+    }
+
+    /// Drops what is pending, one item after another.
+    pub fn release(
+        &mut self,
+        alloc: Global,
+        pending: &mut VecDeque<Item>,
+        events: &mut Vec<Event>,
+    ) -> Result<(), AllocError>
+        requires sound { IsSound (state_of self.old) pending.old.items }
+        requires counted { IsCounted self.old.counts (state_of self.old) pending.old.items }
+        ensures state { OnOk result (state_of self.new ≡ (release (state_of self.old) pending.old.items).state) }
+        ensures events { OnOk result (events.new.items ≡ events.old.items ++ (release (state_of self.old) pending.old.items).events) }
+        ensures sound { OnOk result (IsSound (state_of self.new) []) }
+        ensures counted { OnOk result (IsCounted self.new.counts (state_of self.new) []) }
+    {
+        while let Some(item) = pending.pop_front() {
+            self.drop_item(alloc, item, pending, events)?;
+        }
+        Ok(())
+    }
+
+    fn drop_item(
+        &mut self,
+        alloc: Global,
+        item: Item,
+        pending: &mut VecDeque<Item>,
+        events: &mut Vec<Event>,
+    ) -> Result<(), AllocError>
+        requires sound { IsSound (state_of self.old) (item ∷ pending.old.items) }
+        requires counted { IsCounted self.old.counts (state_of self.old) (item ∷ pending.old.items) }
+        ensures { OnOk result (DropsFirst self.old self.new item pending.old.items pending.new.items events.old.items events.new.items) }
+    {
+        match item {
+            Item::Slot(Slot::Strong(object)) => self.drop_strong(alloc, object, pending, events),
+            Item::Slot(Slot::Weak(object)) => self.drop_weak(alloc, object, pending, events),
+            Item::End(object) => self.drop_end(alloc, object, pending, events),
+            Item::Slot(Slot::Nothing | Slot::Dangling) => Ok(()),
+        }
+    }
+
+    fn drop_strong(
+        &mut self,
+        alloc: Global,
+        object: u32,
+        pending: &mut VecDeque<Item>,
+        events: &mut Vec<Event>,
+    ) -> Result<(), AllocError>
+        requires sound { IsSound (state_of self.old) (item.Slot (slot.Strong object) ∷ pending.old.items) }
+        requires counted { IsCounted self.old.counts (state_of self.old) (item.Slot (slot.Strong object) ∷ pending.old.items) }
+        ensures { OnOk result (DropsFirst self.old self.new (item.Slot (slot.Strong object)) pending.old.items pending.new.items events.old.items events.new.items) }
+    {
+        let was = counters_of(&self.counts, object);
+        let strong = was.strong - 1;
+        if strong == 0 {
+            self.destroy(alloc, object, pending, events)?;
+            let last = Counters {
+                strong,
+                weak: was.weak,
+                ends: was.ends + 1,
+            };
+            return set_counters(alloc, &mut self.counts, object, last);
+        }
+        let less = Counters {
+            strong,
+            weak: was.weak,
+            ends: was.ends,
+        };
+        set_counters(alloc, &mut self.counts, object, less)
+    }
+
+    fn drop_weak(
+        &mut self,
+        alloc: Global,
+        object: u32,
+        rest: &VecDeque<Item>,
+        events: &mut Vec<Event>,
+    ) -> Result<(), AllocError>
+        requires sound { IsSound (state_of self.old) (item.Slot (slot.Weak object) ∷ rest.now.items) }
+        requires counted { IsCounted self.old.counts (state_of self.old) (item.Slot (slot.Weak object) ∷ rest.now.items) }
+        ensures { OnOk result (DropsFirst self.old self.new (item.Slot (slot.Weak object)) rest.now.items rest.now.items events.old.items events.new.items) }
+    {
+        let was = counters_of(&self.counts, object);
+        let less = Counters {
+            strong: was.strong,
+            weak: was.weak - 1,
+            ends: was.ends,
+        };
+        set_counters(alloc, &mut self.counts, object, less)?;
+        if self.is_last(object, less) {
+            return self.free(alloc, object, events);
+        }
+        Ok(())
+    }
+
+    fn drop_end(
+        &mut self,
+        alloc: Global,
+        object: u32,
+        rest: &VecDeque<Item>,
+        events: &mut Vec<Event>,
+    ) -> Result<(), AllocError>
+        requires sound { IsSound (state_of self.old) (item.End object ∷ rest.now.items) }
+        requires counted { IsCounted self.old.counts (state_of self.old) (item.End object ∷ rest.now.items) }
+        ensures { OnOk result (DropsFirst self.old self.new (item.End object) rest.now.items rest.now.items events.old.items events.new.items) }
+    {
+        let was = counters_of(&self.counts, object);
+        let less = Counters {
+            strong: was.strong,
+            weak: was.weak,
+            ends: was.ends - 1,
+        };
+        set_counters(alloc, &mut self.counts, object, less)?;
+        if less.weak == 0 {
+            return self.free(alloc, object, events);
+        }
+        Ok(())
+    }
+
+    // The value of the object is gone, where it was there: its fields, and then its end, are dropped next.
+    fn destroy(
+        &mut self,
+        alloc: Global,
+        object: u32,
+        pending: &mut VecDeque<Item>,
+        events: &mut Vec<Event>,
+    ) -> Result<(), AllocError>
+        ensures step { OnOk result (Becomes self.new pending.new.items events.old.items events.new.items (meet (state_of self.old) pending.old.items (fall object (map.get self.old.objects object)))) }
+        ensures counts { OnOk result (self.new.counts ≡ self.old.counts) }
+    {
+        match self.objects.get(object) {
+            Some(Entry::Alive(fields)) => {
+                push_fields(fields.as_slice(), object, pending)?;
+                events.push(Event::Destroyed(object))?;
+                self.objects.insert(alloc, object, Entry::Husk)
+            }
+            Some(Entry::Husk) | None => Ok(()),
+        }
+    }
+
+    // The allocation of the object is gone.
+    fn free(
+        &mut self,
+        alloc: Global,
+        object: u32,
+        events: &mut Vec<Event>,
+    ) -> Result<(), AllocError>
+        ensures step { OnOk result (Becomes self.new [] events.old.items events.new.items (meet (state_of self.old) [] (Goes object))) }
+        ensures counts { OnOk result (self.new.counts ≡ self.old.counts) }
+    {
+        events.push(Event::Freed(object))?;
+        self.objects.remove(alloc, object)
+    }
+
+    // Whether nothing names a husk any more.
+    fn is_last(&self, object: u32, counters: Counters) -> bool
+        ensures { result ≡ ((counters.weak == 0) && (is_husk (map.get self.now.objects object) && (counters.ends == 0))) }
+    {
+        counters.weak == 0
+            && matches!(self.objects.get(object), Some(Entry::Husk))
+            && counters.ends == 0
+    }
+}
+
+// The fields in order, and then the end of the object, go before what is pending.
+fn push_fields(fields: &[Slot], object: u32, pending: &mut VecDeque<Item>) -> Result<(), AllocError>
+    ensures { OnOk result (pending.new.items ≡ drops fields.now (item.End object ∷ pending.old.items)) }
+{
+    pending.push_front(Item::End(object))?;
+    let mut left = fields.len();
+    while left > 0 {
+        left -= 1;
+        pending.push_front(Item::Slot(fields[left]))?;
+    }
+    Ok(())
+}

@@ -1,0 +1,199 @@
+//! The changes of a state, with the counts of its slots.
+ghost use Rattle.std.specs.Prelude.{◌≡◌, ◌<◌, OnOk, IfOk, [], length, slice_set};
+ghost use Rattle.std.specs.FinMap as map;
+ghost use Rattle.trace_types.specs.declared.slots.Change.TheVariants as change;
+ghost use Rattle.ownership_model.specs.Totals.{weight_at};
+ghost use Rattle.ownership_model.specs.State.{holding_weight, entry_weight};
+ghost use Rattle.ownership_model.specs.Changes.{HasField, IsAlive, CanBeDone, CanChange, changed};
+ghost use Rattle.ownership_model.specs.Bounds.{IsBounded, HoldingFits, AreFew, ChangeFits, ChangesFit, max_fields};
+ghost use Rattle.object_heap.specs.Counted.{state_of, IsCounted};
+ghost use Rattle.object_heap.specs.Gains.{Changes, CountsMore, HasRoom, HasSlots};
+
+use crate::counters::{Counters, hold, hold_all, hold_holding, let_go, let_go_all, let_go_holding};
+use crate::draft::Draft;
+use share_tree::ShareTree;
+use std::alloc::{AllocError, Global};
+use trace_types::sequence::Sequence;
+use trace_types::slots::{Change, Entry, Holding, Slot};
+
+impl Draft {
+    /// Makes the changes in order.
+    pub fn apply(&mut self, alloc: Global, changes: &[Change]) -> Result<(), AllocError>
+        requires counted { IsCounted self.old.counts (state_of self.old) [] }
+        requires bounded { IsBounded (state_of self.old) }
+        requires can { CanChange (state_of self.old) changes.now }
+        requires fits { ChangesFit changes.now }
+        ensures state { OnOk result (state_of self.new ≡ changed (state_of self.old) changes.now) }
+        ensures counted { OnOk result (IsCounted self.new.counts (state_of self.new) []) }
+        ensures bounded { OnOk result (IsBounded (state_of self.new)) }
+    {
+        for change in changes {
+            self.change(alloc, change)?;
+        }
+        Ok(())
+    }
+
+    fn change(&mut self, alloc: Global, change: &Change) -> Result<(), AllocError>
+        requires counted { IsCounted self.old.counts (state_of self.old) [] }
+        requires bounded { IsBounded (state_of self.old) }
+        requires can { CanBeDone (state_of self.old) change.now }
+        requires fits { ChangeFits change.now }
+        ensures { OnOk result (Changes self.old self.new change.now) }
+    {
+        match change {
+            Change::SetHandle(handle, holding) => self.set_handle(alloc, *handle, holding),
+            Change::EndHandle(handle) => self.end_handle(alloc, *handle),
+            Change::SetCell(cell, slot) => self.set_cell(alloc, *cell, *slot),
+            Change::EndCell(cell) => self.end_cell(alloc, *cell),
+            Change::SetField(object, index, slot) => {
+                self.set_field(alloc, *object, *index, *slot)
+            }
+            Change::Make(object, fields) => self.make(alloc, *object, fields),
+            Change::TurnHusk(object) => self.turn_husk(alloc, *object),
+        }
+    }
+
+    // What comes is counted before what goes, so that no count is ever too small.
+    fn set_handle(
+        &mut self,
+        alloc: Global,
+        handle: u32,
+        holding: &Holding,
+    ) -> Result<(), AllocError>
+        requires counted { IsCounted self.old.counts (state_of self.old) [] }
+        requires bounded { IsBounded (state_of self.old) }
+        requires fits { HoldingFits holding.now }
+        ensures { OnOk result (Changes self.old self.new (change.SetHandle handle holding.now)) }
+    {
+        hold_holding(alloc, &mut self.counts, holding)?;
+        let_go_handle(alloc, &mut self.counts, &self.handles, handle)?;
+        let copy = holding.copy(alloc)?;
+        self.handles.insert(alloc, handle, copy)
+    }
+
+    fn end_handle(&mut self, alloc: Global, handle: u32) -> Result<(), AllocError>
+        requires counted { IsCounted self.old.counts (state_of self.old) [] }
+        requires can { CanBeDone (state_of self.old) (change.EndHandle handle) }
+        ensures { OnOk result (Changes self.old self.new (change.EndHandle handle)) }
+    {
+        let_go_handle(alloc, &mut self.counts, &self.handles, handle)?;
+        self.handles.remove(alloc, handle)
+    }
+
+    fn set_cell(&mut self, alloc: Global, cell: u32, slot: Slot) -> Result<(), AllocError>
+        requires counted { IsCounted self.old.counts (state_of self.old) [] }
+        requires bounded { IsBounded (state_of self.old) }
+        ensures { OnOk result (Changes self.old self.new (change.SetCell cell slot)) }
+    {
+        hold(alloc, &mut self.counts, slot)?;
+        let_go_cell(alloc, &mut self.counts, &self.cells, cell)?;
+        self.cells.insert(alloc, cell, slot)
+    }
+
+    fn end_cell(&mut self, alloc: Global, cell: u32) -> Result<(), AllocError>
+        requires counted { IsCounted self.old.counts (state_of self.old) [] }
+        requires can { CanBeDone (state_of self.old) (change.EndCell cell) }
+        ensures { OnOk result (Changes self.old self.new (change.EndCell cell)) }
+    {
+        let_go_cell(alloc, &mut self.counts, &self.cells, cell)?;
+        self.cells.remove(alloc, cell)
+    }
+
+    fn set_field(
+        &mut self,
+        alloc: Global,
+        object: u32,
+        index: u32,
+        slot: Slot,
+    ) -> Result<(), AllocError>
+        requires counted { IsCounted self.old.counts (state_of self.old) [] }
+        requires bounded { IsBounded (state_of self.old) }
+        requires can { HasField (map.get self.old.objects object) index }
+        ensures { OnOk result (Changes self.old self.new (change.SetField object index slot)) }
+    {
+        let Some(Entry::Alive(fields)) = self.objects.get(object) else {
+            unreachable!()
+        };
+        let old = fields.as_slice()[index as usize];
+        let fields = with_slot(alloc, fields, index, slot)?;
+        hold(alloc, &mut self.counts, slot)?;
+        let_go(alloc, &mut self.counts, old)?;
+        self.objects.insert(alloc, object, Entry::Alive(fields))
+    }
+
+    fn make(
+        &mut self,
+        alloc: Global,
+        object: u32,
+        fields: &Sequence<Slot>,
+    ) -> Result<(), AllocError>
+        requires counted { IsCounted self.old.counts (state_of self.old) [] }
+        requires bounded { IsBounded (state_of self.old) }
+        requires can { CanBeDone (state_of self.old) (change.Make object fields.now) }
+        requires fits { AreFew fields.now }
+        ensures { OnOk result (Changes self.old self.new (change.Make object fields.now)) }
+    {
+        hold_all(alloc, &mut self.counts, fields.as_slice())?;
+        let copy = fields.copy(alloc)?;
+        self.objects.insert(alloc, object, Entry::Alive(copy))
+    }
+
+    fn turn_husk(&mut self, alloc: Global, object: u32) -> Result<(), AllocError>
+        requires counted { IsCounted self.old.counts (state_of self.old) [] }
+        requires can { CanBeDone (state_of self.old) (change.TurnHusk object) }
+        ensures { OnOk result (Changes self.old self.new (change.TurnHusk object)) }
+    {
+        let Some(Entry::Alive(fields)) = self.objects.get(object) else {
+            unreachable!()
+        };
+        let_go_all(alloc, &mut self.counts, fields.as_slice())?;
+        self.objects.insert(alloc, object, Entry::Husk)
+    }
+}
+
+// What the handle holds, if it holds anything, is counted no more.
+fn let_go_handle(
+    alloc: Global,
+    counts: &mut ShareTree<Counters>,
+    handles: &ShareTree<Holding>,
+    handle: u32,
+) -> Result<(), AllocError>
+    requires { HasSlots counts.old (λ w. weight_at (holding_weight w) (map.get handles.now handle)) }
+    ensures { OnOk result (CountsMore counts.new counts.old (λ w. weight_at (holding_weight w) (map.get handles.now handle))) }
+{
+    match handles.get(handle) {
+        Some(holding) => let_go_holding(alloc, counts, holding),
+        None => Ok(()),
+    }
+}
+
+// What the cell holds, if there is one, is counted no more.
+fn let_go_cell(
+    alloc: Global,
+    counts: &mut ShareTree<Counters>,
+    cells: &ShareTree<Slot>,
+    cell: u32,
+) -> Result<(), AllocError>
+    requires { HasSlots counts.old (λ w. weight_at w (map.get cells.now cell)) }
+    ensures { OnOk result (CountsMore counts.new counts.old (λ w. weight_at w (map.get cells.now cell))) }
+{
+    match cells.get(cell) {
+        Some(slot) => let_go(alloc, counts, *slot),
+        None => Ok(()),
+    }
+}
+
+// The fields, with this slot at the index.
+fn with_slot(
+    alloc: Global,
+    fields: &Sequence<Slot>,
+    index: u32,
+    slot: Slot,
+) -> Result<Sequence<Slot>, AllocError>
+    requires { index < length fields.now }
+    ensures { IfOk result (λ f. f ≡ slice_set fields.now index slot) }
+{
+    let mut slots = fields.copy(alloc)?.into_vec();
+    slots[index as usize] = slot;
+    Ok(Sequence::from_vec(slots))
+}

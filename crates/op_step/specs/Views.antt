@@ -1,0 +1,51 @@
+-- What the row of an operation reads, where it reads less than a whole view.
+use Rattle.std.specs.Prelude.{ℕ, List, [], Option, None, Some}
+use Rattle.trace_types.specs.declared.slots.Slot.{Slot}
+use Rattle.trace_types.specs.declared.slots.Slot.TheVariants.{Nothing, Strong, Weak, Dangling}
+use Rattle.trace_types.specs.declared.slots.Holding.{Holding}
+use Rattle.trace_types.specs.declared.slots.Holding.TheVariants as holding
+use Rattle.trace_types.specs.declared.slots.Entry.{Entry}
+use Rattle.trace_types.specs.declared.kinds.Kind.{Kind}
+use Rattle.ownership_model.specs.View.{View, Seen}
+use Rattle.ownership_model.specs.Table.{row_of}
+use Rattle.ownership_model.specs.declared.plan.Plan.{Plan}
+
+abbrev pub unseen : Seen
+unseen = record { entry = None; strong = 0; weak = 0 }
+
+-- what stands for an object whose counts don't matter
+abbrev pub standing : Option Entry → Seen
+standing entry = record { entry = entry; strong = 0; weak = 0 }
+
+-- what two handles hold
+abbrev pub two : Option Holding → Option Holding → View
+two first second = record { first = first; second = second; cell = None; elements = []; object = unseen }
+
+abbrev pub one : Option Holding → View
+one first = two first None
+
+-- what two handles hold, and what stands for the object that the first one names
+abbrev pub two_seen : Option Holding → Option Holding → Seen → View
+two_seen first second object = record { first = first; second = second; cell = None; elements = []; object = object }
+
+abbrev pub one_seen : Option Holding → Seen → View
+one_seen first object = two_seen first None object
+
+-- what a cell and two handles hold
+abbrev pub cell_and_two : Option Slot → Option Holding → Option Holding → View
+cell_and_two cell first second = record { first = first; second = second; cell = cell; elements = []; object = unseen }
+
+abbrev pub cell_and_one : Option Slot → Option Holding → View
+cell_and_one cell first = cell_and_two cell first None
+
+-- the row of an operation that makes no object, whose number does not matter
+abbrev pub row_by : Kind → View → Plan
+row_by kind v = row_of 0 kind v
+
+-- what a cell may hold of it: a strong reference, or an empty pointer
+abbrev pub pointer_of : Holding → Option Slot
+pointer_of (holding.Slot Nothing) = Some Nothing
+pointer_of (holding.Slot (Strong o)) = Some (Strong o)
+pointer_of (holding.Slot (Weak o)) = None
+pointer_of (holding.Slot Dangling) = None
+pointer_of (holding.Bare fields) = None

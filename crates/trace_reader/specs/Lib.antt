@@ -1,0 +1,4 @@
+pub mod Members
+pub mod Kinds
+pub mod Reading
+pub mod FaultText

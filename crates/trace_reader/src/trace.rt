@@ -1,0 +1,70 @@
+//! A trace of lines.
+ghost use Rattle.std.specs.Prelude.{◌≡◌, ◌≢◌, Ok, Err, IfOk, IfErr, OnOk};
+ghost use Rattle.trace_types.specs.Trace.{pushed};
+ghost use Rattle.trace_reader.specs.Reading.{after_line, push_cause, IsReadUpTo};
+ghost use Rattle.trace_reader.specs.Reading as Reading;
+
+use crate::fault::{LineCause, LineFault};
+use crate::lines::{MAX_LINE, cut_line, is_blank, json};
+use crate::op::read_op;
+use std::alloc::Global;
+use trace_types::ops::{Op, TraceFault};
+use trace_types::trace::Trace;
+
+/// The trace that a text is, or its first fault.
+///
+/// Each line is a JSON object, as `read_op` reads it; blank lines are skipped.
+pub fn read_trace(alloc: Global, bytes: &[u8]) -> Result<Trace, LineFault>
+    ensures ok { IfOk result (λ t. Reading.read_trace bytes.now ≡ Ok t) }
+    ensures fault { IfErr result (λ e. e.cause ≢ LineCause.Memory → Reading.read_trace bytes.now ≡ Err e) }
+    // Where memory runs out, no line before was faulty.
+    ensures memory { IfErr result (λ e. IsReadUpTo e.line (Reading.read_trace bytes.now)) }
+{
+    let mut trace = Trace::new(alloc);
+    let mut rest = bytes;
+    let mut number = 1;
+    'lines: loop {
+        let (line, more) = cut_line(rest);
+        if let Err(cause) = read_line(alloc, line, &mut trace) {
+            return Err(LineFault {
+                line: number,
+                cause,
+            });
+        }
+        let Some(next) = more else {
+            return Ok(trace);
+        };
+        rest = next;
+        number += 1;
+    }
+}
+
+/// Adds the operation of a line, if it has one.
+#[tactic(auto, unfolding(crate::specs::Reading::after_line))]
+pub fn read_line(alloc: Global, line: &[u8], trace: &mut Trace) -> Result<(), LineCause>
+    ensures ok { OnOk result (after_line trace.old line.now ≡ Ok trace.new) }
+    ensures fault { IfErr result (λ e. e ≢ LineCause.Memory → after_line trace.old line.now ≡ Err e) }
+{
+    if line.len() > MAX_LINE {
+        return Err(LineCause::LineTooLong);
+    }
+    if is_blank(line) {
+        return Ok(());
+    }
+    let value = json(alloc, line)?;
+    let op = read_op(alloc, &value)?;
+    push(trace, op)
+}
+
+fn push(trace: &mut Trace, op: Op) -> Result<(), LineCause>
+    ensures ok { OnOk result (push_cause (pushed trace.old op) ≡ Ok trace.new) }
+    ensures fault { IfErr result (λ e. e ≢ LineCause.Memory → push_cause (pushed trace.old op) ≡ Err e) }
+{
+    match trace.push(op) {
+        Ok(()) => Ok(()),
+        Err(TraceFault::IdTaken) => Err(LineCause::IdTaken),
+        Err(TraceFault::TooMany) => Err(LineCause::TooMany),
+        Err(TraceFault::BadOp) => Err(LineCause::OutOfRange),
+        Err(TraceFault::Memory) => Err(LineCause::Memory),
+    }
+}
