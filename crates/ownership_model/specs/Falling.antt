@@ -1,6 +1,7 @@
 -- Which objects a release destroys: those that only what is dropped, or what falls with it, still holds.
--- "When the last strong reference to an allocation is dropped, the value in it is dropped, and with it its fields"
--- (documentation of std::sync::Arc; Rust Reference, "Destructors").
+-- The last strong pointer to an allocation drops the value in it (documentation of std::sync::Arc), and dropping a value
+-- drops its fields (Rust Reference, "Destructors"). So values fall in turn, until each that is left is held by one that is
+-- left, or by a handle or a cell.
 use Rattle.std.specs.Prelude.{ℕ, ◌≡◌, ◌==◌, List, Bool, true, false, not}
 use Rattle.std.specs.FinMap.{get}
 use Rattle.trace_types.specs.declared.outcomes.Event.{Event}

@@ -1,7 +1,7 @@
 -- Which objects leaked, by what they are held, and which allocations are left without a value.
--- An Arc whose last owner is a cycle that it is part of is never dropped (documentation of std::sync::Arc, "Breaking
--- cycles with Weak"); a Weak keeps the allocation and not the value (documentation of std::sync::Weak). What a
--- report calls a leak is a profile of this project.
+-- A cycle between Arcs is never deallocated (documentation of std::sync::Arc, "Breaking cycles with Weak"); a Weak keeps
+-- the allocation from being deallocated, and not the value from being dropped (documentation of std::sync::Weak). What
+-- counts as a leak, and who holds it, is a profile of this project.
 use Rattle.std.specs.Prelude.{ℕ, ◌≡◌, ◌+◌, ◌==◌, List, [], ◌∷◌, flat_map, map, filter, filter_map, Option, Some, None, Bool, true, false, not, ◌&&◌, if◌then◌else◌}
 use Rattle.std.specs.FinMap.{get, keys}
 use Rattle.trace_types.specs.declared.slots.Slot.{Slot}
