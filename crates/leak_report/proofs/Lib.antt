@@ -1,2 +1,3 @@
+mod HolderLemmas
 mod LifeLemmas
 mod LineLemmas

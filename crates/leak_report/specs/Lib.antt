@@ -2,3 +2,4 @@ pub mod Lines
 pub mod Lives
 pub mod Report
 pub mod Text
+pub mod HolderPass

@@ -1,4 +1,4 @@
--- The lines of a report: each operation's outcome under the operation's name.
+-- The lines of a report: each operation's outcome under the operation's name (profile of this project).
 use Rattle.std.specs.Prelude.{List, [], ◌∷◌, Bool, true, false}
 use Rattle.trace_types.specs.declared.names.OpName.{OpName}
 use Rattle.trace_types.specs.declared.outcomes.Outcome.{Outcome}

@@ -1,4 +1,7 @@
--- What became of each object that was made: how its value ended, and when its allocation was given up.
+-- What became of each object that was made. Its value ends where it is dropped, where Arc::try_unwrap or Arc::into_inner
+-- moves it out, and where Arc::make_mut moves it to an allocation of its own (documentation of std::sync::Arc). Its
+-- allocation is given up once no Weak is left (documentation of std::sync::Weak). That the first such event of an object
+-- counts is a profile of this project.
 use Rattle.std.specs.Prelude.{ℕ, ◌==◌, List, [], ◌∷◌, map, flat_map, Option, Some, None, Bool, true, false, if◌then◌else◌}
 use Rattle.std.specs.Ordering.{nat_cmp}
 use Rattle.std.specs.BTreeSet.{insert_key}

@@ -1,4 +1,4 @@
--- What a report says of a trace, its outcomes and the state at the end.
+-- What a report says of a trace, its outcomes and the state at the end (profile of this project).
 use Rattle.std.specs.Prelude.{List}
 use Rattle.trace_types.specs.Operation.{Operation}
 use Rattle.trace_types.specs.declared.outcomes.Outcome.{Outcome}

@@ -3,7 +3,7 @@ ghost use Rattle.std.specs.Prelude.{◌≡◌, ◌++◌, count_by, string_bytes,
 ghost use Rattle.leak_report.specs.Text.{ending_text, freed_text, fate_text, life_text, lives_text, holder_text, holders_text, leak_text, leaks_text, husk_text, husks_text, is_living, total_text, total_line};
 
 use crate::lives::{Ending, Life};
-use crate::report::Report;
+use crate::shown::Report;
 use ownership_model::leaks::{Holder, HuskLeft, Leak};
 use std::alloc::AllocError;
 

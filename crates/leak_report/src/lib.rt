@@ -3,8 +3,11 @@
 
 mod closing_text;
 mod fates;
+mod holders;
+pub mod leaks;
 mod line_text;
 pub mod lives;
 pub mod report;
+pub mod shown;
 pub mod text;
 pub mod write;

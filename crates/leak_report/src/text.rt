@@ -3,7 +3,7 @@ ghost use Rattle.std.specs.Prelude.{◌≡◌, string_bytes, IfOk};
 ghost use Rattle.leak_report.specs.Text.{report_text};
 
 use crate::closing_text::{push_husks, push_leaks, push_lives, push_total};
-use crate::report::Report;
+use crate::shown::Report;
 use std::alloc::{AllocError, Global};
 
 /// The whole text of a report: a line for each operation, for each object that was made, for each leaked object and for

@@ -4,7 +4,7 @@ ghost use Rattle.std.specs.Io.KnownBytes.{Appends};
 ghost use Rattle.trace_types.specs.Devices.{AppendsFront};
 ghost use Rattle.leak_report.specs.Text.{report_text};
 
-use crate::report::Report;
+use crate::shown::Report;
 use crate::text::text_of;
 use std::alloc::Global;
 use thiserror::Error;
