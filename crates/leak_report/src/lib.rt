@@ -9,5 +9,7 @@ mod line_text;
 pub mod lives;
 pub mod report;
 pub mod shown;
+#[cfg(test)]
+mod tests;
 pub mod text;
 pub mod write;
