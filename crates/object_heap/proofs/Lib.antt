@@ -1,4 +1,3 @@
-
 pub mod NothingLemmas
 pub mod GainLemmas
 pub mod PendingLemmas

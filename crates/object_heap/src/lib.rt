@@ -6,5 +6,6 @@ pub mod changes;
 pub mod counters;
 pub mod draft;
 pub mod heap;
+pub mod reach;
 
 pub use heap::Heap;
