@@ -1,5 +1,5 @@
 //! A stretch of operations that was replayed from a heap.
-ghost use Rattle.std.specs.Prelude.{◌≡◌, ◌≤◌, IfOk, OnOk, IsTrue, length};
+ghost use Rattle.std.specs.Prelude.{◌≡◌, ◌≤◌, ◌+◌, IfOk, OnOk, IsTrue, length};
 ghost use Rattle.trace_types.specs.Trace.{has_distinct_numbers};
 ghost use Rattle.ownership_model.specs.Agrees.{AreFree};
 ghost use Rattle.ownership_model.specs.Step.{outcomes_from, end_from};
@@ -56,7 +56,7 @@ pub fn run(
     ensures chunk { IfOk result (λ c. c ≡ record { start = start.now; ops = ops.now }) }
     ensures counted { OnOk result (meter.new ≡ raised meter.old (length ops.now)) }
     ensures never_less { meter.old ≤ meter.new }
-    ensures never_more { meter.new ≤ raised meter.old (length ops.now) }
+    ensures never_more { meter.new ≤ meter.old + length ops.now }
 {
     see_kept(start);
     let copies = copy_ops(alloc, ops)?;

@@ -12,5 +12,4 @@ mod names;
 pub mod plan;
 pub mod replay;
 pub mod step;
-mod stub;
 mod unique;

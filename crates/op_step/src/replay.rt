@@ -1,5 +1,5 @@
 //! Operations carried out in order.
-ghost use Rattle.std.specs.Prelude.{◌≡◌, ◌≤◌, IfOk, OnOk, length};
+ghost use Rattle.std.specs.Prelude.{◌≡◌, ◌≤◌, ◌+◌, IfOk, OnOk, length};
 ghost use Rattle.ownership_model.specs.State.{nothing_held};
 ghost use Rattle.ownership_model.specs.Step.{AreNew, outcomes_from, end_from};
 ghost use Rattle.op_step.specs.Meter.{raised};
@@ -25,7 +25,7 @@ pub fn replay(
     ensures end { IfOk result (λ r. r.1 ≡ end_from nothing_held trace.now) }
     ensures counted { OnOk result (meter.new ≡ raised meter.old (length trace.now)) }
     ensures never_less { meter.old ≤ meter.new }
-    ensures never_more { meter.new ≤ raised meter.old (length trace.now) }
+    ensures never_more { meter.new ≤ meter.old + length trace.now }
 {
     replay_from(alloc, Heap::empty(), trace.as_slice(), meter)
 }
@@ -42,7 +42,7 @@ pub fn replay_from(
     ensures end { IfOk result (λ r. r.1 ≡ end_from start ops.now) }
     ensures counted { OnOk result (meter.new ≡ raised meter.old (length ops.now)) }
     ensures never_less { meter.old ≤ meter.new }
-    ensures never_more { meter.new ≤ raised meter.old (length ops.now) }
+    ensures never_more { meter.new ≤ meter.old + length ops.now }
 {
     let mut outcomes = Vec::with_capacity(alloc, ops.len())?;
     let mut heap = start;

@@ -83,7 +83,7 @@ fn carry_out(
             pending,
             object,
         } => {
-            let (next, released) = crate::stub::released(heap, alloc, changes.as_slice(), pending.as_slice())?;
+            let (next, released) = heap.released(alloc, changes.as_slice(), pending.as_slice())?;
             let events = with_named(alloc, event, released)?;
             let counts = counts_of(&next, object);
             let outcome = Outcome {

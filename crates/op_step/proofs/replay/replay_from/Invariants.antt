@@ -9,5 +9,5 @@ invariant-loop-op l = record {
   are_new : AreNew l.heap (drop l.op-index l.ops);
   told : l.outcomes.items ++ outcomes_from l.heap (drop l.op-index l.ops) ≡ outcomes_from l.fn.start l.ops;
   rest : end_from l.heap (drop l.op-index l.ops) ≡ end_from l.fn.start l.ops;
-  counted : l.meter.now ≡ raised l.fn.meter.now l.op-index;
+  counted : l.meter ≡ raised l.fn.meter l.op-index;
 }
