@@ -1,1 +1,3 @@
+mod MeterLemmas
 mod NameLemmas
+mod StepLemmas

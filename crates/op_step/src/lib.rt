@@ -2,6 +2,7 @@
 #![tactic(auto)]
 
 mod cells;
+pub mod chunk_run;
 mod effect;
 mod fields;
 mod handles;
@@ -9,4 +10,6 @@ mod make;
 pub mod meter;
 mod names;
 pub mod plan;
+pub mod replay;
+pub mod step;
 mod unique;

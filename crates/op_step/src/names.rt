@@ -56,7 +56,7 @@ fn repeated_field(to: u32, fields: &[Field]) -> Option<u32>
 {
     for (place, field) in fields.iter().enumerate() {
         if let Field::Held(h) = field {
-            if *h == to || is_named(*h, &fields[..place]) {
+            if is_named(*h, to, &fields[..place]) {
                 return Some(*h);
             }
         }
@@ -64,7 +64,13 @@ fn repeated_field(to: u32, fields: &[Field]) -> Option<u32>
     None
 }
 
-fn is_named(h: u32, fields: &[Field]) -> bool
+fn is_named(h: u32, to: u32, earlier: &[Field]) -> bool
+    ensures { result ≡ list_any (λ b. b == h) (to ∷ held_fields earlier.now) }
+{
+    h == to || is_field(h, earlier)
+}
+
+fn is_field(h: u32, fields: &[Field]) -> bool
     ensures { result ≡ list_any (λ b. b == h) (held_fields fields.now) }
 {
     for field in fields {

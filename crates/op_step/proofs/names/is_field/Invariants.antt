@@ -1,7 +1,7 @@
 use Rattle.std.proofs.Common.{◌≡◌, ◌==◌, drop}
 use Rattle.std.specs.List.{list_any}
 use Rattle.ownership_model.specs.View.{held_fields}
-use Rattle.op_step.proofs.names.is_named.Given as goal
+use Rattle.op_step.proofs.names.is_field.Given as goal
 
 -- whether one of what is left is the handle is whether one of all is
 abbrev pub invariant-loop-field : goal.invariant-loop-field

@@ -1,0 +1,128 @@
+//! A stretch of operations that was replayed from a heap.
+ghost use Rattle.std.specs.Prelude.{◌≡◌, ◌≤◌, ◌+◌, IfOk, OnOk, IsTrue, length};
+ghost use Rattle.trace_types.specs.Trace.{has_distinct_numbers};
+ghost use Rattle.ownership_model.specs.Agrees.{AreFree};
+ghost use Rattle.ownership_model.specs.Step.{outcomes_from, end_from};
+ghost use Rattle.op_step.specs.Meter.{raised};
+
+use crate::meter::Meter;
+use crate::replay::replay_from;
+use crate::step::see_kept;
+use object_heap::heap::Heap;
+use std::alloc::{AllocError, Global};
+use std::marker::Model;
+use std::sync::Arc;
+use trace_types::ops::Op;
+use trace_types::outcomes::Outcome;
+use trace_types::sequence::Sequence;
+
+#[derive(Drop)]
+struct Replayed {
+    ops: Vec<Op>,
+    outcomes: Sequence<Outcome>,
+}
+
+/// Operations with distinct numbers, of which no object of the start has one, with what their replay from the start
+/// gives: their outcomes, and the heap in the end. Contracts see the start and the operations, which tell the rest.
+#[derive(Drop)]
+pub struct ChunkRun {
+    start: Heap,
+    replayed: Arc<Replayed>,
+    end: Heap,
+}
+
+impl Model for ChunkRun {
+    ghost use Rattle.std.specs.Arc.{arc_value};
+    ghost use Rattle.op_step.specs.Chunk.{Chunk, chunk_code, IsReplayOf};
+
+    ghost Value = { Chunk };
+
+    ghost coded = { chunk_code };
+
+    ghost view = { λ c. record { start = c.start; ops = (arc_value c.replayed).ops.items } };
+
+    ghost invariant = { λ c. IsReplayOf (record { start = c.start; ops = (arc_value c.replayed).ops.items }) (arc_value c.replayed).outcomes c.end };
+}
+
+/// Replays operations from a heap. The meter is raised by their number, and where memory runs out by at most that.
+pub fn run(
+    alloc: Global,
+    start: &Heap,
+    ops: &[Op],
+    meter: &mut Meter,
+) -> Result<ChunkRun, AllocError>
+    requires distinct { IsTrue (has_distinct_numbers ops.now) }
+    requires free { AreFree start.now ops.now }
+    ensures chunk { IfOk result (λ c. c ≡ record { start = start.now; ops = ops.now }) }
+    ensures counted { OnOk result (meter.new ≡ raised meter.old (length ops.now)) }
+    ensures never_less { meter.old ≤ meter.new }
+    ensures never_more { meter.new ≤ meter.old + length ops.now }
+{
+    see_kept(start);
+    let copies = copy_ops(alloc, ops)?;
+    let from = start.share()?;
+    let (outcomes, end) = replay_from(alloc, from, ops, meter)?;
+    let replayed = Replayed {
+        ops: copies,
+        outcomes,
+    };
+    Ok(ChunkRun {
+        start: start.share()?,
+        replayed: Arc::new(alloc, replayed)?,
+        end,
+    })
+}
+
+/// The same operations again.
+pub fn copy_ops(alloc: Global, ops: &[Op]) -> Result<Vec<Op>, AllocError>
+    ensures { IfOk result (λ v. v.items ≡ ops.now) }
+{
+    let mut copies = Vec::with_capacity(alloc, ops.len())?;
+    for op in ops {
+        copies.push(op.copy(alloc)?)?;
+    }
+    Ok(copies)
+}
+
+impl ChunkRun {
+    /// The heap before the first operation.
+    pub fn start(&self) -> &Heap
+        ensures { result.now ≡ self.now.start }
+    {
+        &self.start
+    }
+
+    /// The operations, in order. By its clauses a caller knows that each makes an object of a number of its own.
+    pub fn ops(&self) -> &[Op]
+        ensures value { result.now ≡ self.now.ops }
+        ensures distinct { IsTrue (has_distinct_numbers self.now.ops) }
+        ensures free { AreFree self.now.start self.now.ops }
+    {
+        self.replayed.ops.as_slice()
+    }
+
+    /// What the operations did, one outcome for each.
+    pub fn outcomes(&self) -> &[Outcome]
+        ensures { result.now ≡ outcomes_from self.now.start self.now.ops }
+    {
+        self.replayed.outcomes.as_slice()
+    }
+
+    /// The heap after the last operation.
+    pub fn end(&self) -> &Heap
+        ensures { result.now ≡ end_from self.now.start self.now.ops }
+    {
+        &self.end
+    }
+
+    /// The same chunk again. Copies no operation and no outcome.
+    pub fn share(&self) -> Result<ChunkRun, AllocError>
+        ensures { IfOk result (λ c. c ≡ self.now) }
+    {
+        Ok(ChunkRun {
+            start: self.start.share()?,
+            replayed: Arc::try_clone(&self.replayed)?,
+            end: self.end.share()?,
+        })
+    }
+}

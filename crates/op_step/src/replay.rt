@@ -1,0 +1,55 @@
+//! Operations carried out in order.
+ghost use Rattle.std.specs.Prelude.{◌≡◌, ◌≤◌, ◌+◌, IfOk, OnOk, length};
+ghost use Rattle.ownership_model.specs.State.{nothing_held};
+ghost use Rattle.ownership_model.specs.Step.{AreNew, outcomes_from, end_from};
+ghost use Rattle.op_step.specs.Meter.{raised};
+
+use crate::meter::Meter;
+use crate::step::stepped;
+use object_heap::heap::Heap;
+use std::alloc::{AllocError, Global};
+use trace_types::ops::Op;
+use trace_types::outcomes::Outcome;
+use trace_types::sequence::Sequence;
+use trace_types::trace::Trace;
+
+/// Replays a whole trace, of a program that holds nothing as it begins: the outcomes in order, and the heap in the end.
+///
+/// The meter is raised by the number of operations, and where memory runs out by at most that.
+pub fn replay(
+    alloc: Global,
+    trace: &Trace,
+    meter: &mut Meter,
+) -> Result<(Sequence<Outcome>, Heap), AllocError>
+    ensures outcomes { IfOk result (λ r. r.0 ≡ outcomes_from nothing_held trace.now) }
+    ensures end { IfOk result (λ r. r.1 ≡ end_from nothing_held trace.now) }
+    ensures counted { OnOk result (meter.new ≡ raised meter.old (length trace.now)) }
+    ensures never_less { meter.old ≤ meter.new }
+    ensures never_more { meter.new ≤ meter.old + length trace.now }
+{
+    replay_from(alloc, Heap::empty(), trace.as_slice(), meter)
+}
+
+/// As `replay`, from a heap that is used up: what it alone holds is changed in place.
+pub fn replay_from(
+    alloc: Global,
+    start: Heap,
+    ops: &[Op],
+    meter: &mut Meter,
+) -> Result<(Sequence<Outcome>, Heap), AllocError>
+    requires { AreNew start ops.now }
+    ensures outcomes { IfOk result (λ r. r.0 ≡ outcomes_from start ops.now) }
+    ensures end { IfOk result (λ r. r.1 ≡ end_from start ops.now) }
+    ensures counted { OnOk result (meter.new ≡ raised meter.old (length ops.now)) }
+    ensures never_less { meter.old ≤ meter.new }
+    ensures never_more { meter.new ≤ meter.old + length ops.now }
+{
+    let mut outcomes = Vec::with_capacity(alloc, ops.len())?;
+    let mut heap = start;
+    for op in ops {
+        let (next, outcome) = stepped(alloc, heap, op, meter)?;
+        outcomes.push(outcome)?;
+        heap = next;
+    }
+    Ok((Sequence::from_vec(outcomes), heap))
+}
