@@ -1,3 +1,9 @@
 pub mod Cuts
 pub mod Json
 pub mod LineNumbers
+pub mod LinePieces
+pub mod ReadBack
+pub mod OpLines
+pub mod Visible
+pub mod Traces
+pub mod RoundTrip

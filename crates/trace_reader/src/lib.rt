@@ -1,4 +1,4 @@
-//! Lines of a trace: which operations a text says, or what is wrong with its first faulty line.
+//! Lines of a trace and of requests: which operations and edits a text says, or what is wrong with its first faulty line.
 #![tactic(auto)]
 
 mod fault;
@@ -7,10 +7,16 @@ mod kinds;
 mod lines;
 mod members;
 mod op;
+mod request;
+mod script;
 #[cfg(test)]
 mod tests;
 mod trace;
+mod write;
 
 pub use fault::{LineCause, LineFault, fault_line};
 pub use op::read_op;
+pub use request::{RequestLine, read_request};
+pub use script::{Script, read_script};
 pub use trace::read_trace;
+pub use write::{lines_read_back, write_line, write_trace};

@@ -27,8 +27,9 @@ pub fn read_op(alloc: Global, value: &Value) -> Result<Op, LineCause>
     members_of_op(alloc, value)
 }
 
+/// The operation that an object is.
 #[tactic(auto, unfolding(crate::specs::Reading::members_of_op))]
-fn members_of_op(alloc: Global, value: &Value) -> Result<Op, LineCause>
+pub fn members_of_op(alloc: Global, value: &Value) -> Result<Op, LineCause>
     ensures { Gives result (Reading.members_of_op (view value.now)) }
 {
     let id = members::number(value, "id", 1, 999_999_999)?;

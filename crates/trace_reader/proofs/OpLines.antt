@@ -1,0 +1,311 @@
+-- The canonical line of an operation reads as the operation.
+use Rattle.std.proofs.Common.{◌≡◌, ℕ, suc, ◌^◌, ◌≤◌, ◌<◌, List, [], ◌∷◌, ◌++◌, length, Bool, true, false, ◌&&◌, nat_le, Option, Some, None, Ok, Err, refl, sym, ap, ◌∙◌, arith, codes, decimal, append-nil, append_assoc, le-leb, leb-true}
+use Rattle.std.specs.List.{list_all}
+use Rattle.std.specs.Option.{option_map}
+use Rattle.json.specs.Tree as tree
+use Rattle.json.proofs.Printed.Decimals.{IsNumber-decimal}
+use Rattle.serde_json.specs.Data.{Data, Items, object, number}
+use Rattle.serde_json.specs.Events.{items_len}
+use Rattle.serde_json.specs.Read.{read, of_json, of_items, max_depth}
+use Rattle.serde_json.specs.Written.{outline, items_outline}
+use Rattle.serde_json.proofs.Numbers.{number_of-decimal}
+use Rattle.trace_types.specs.Limits.{is_name, is_field, is_cyclic_field, is_kind, is_within_limits}
+use Rattle.trace_types.specs.Names.{name_of}
+use Rattle.trace_types.specs.Operation.{Operation}
+use Rattle.trace_types.specs.declared.kinds.Field.{Field}
+use Rattle.trace_types.specs.declared.kinds.Field.TheVariants.{Held, Null, Me}
+use Rattle.trace_types.specs.declared.kinds.Kind.{Kind}
+use Rattle.trace_types.specs.declared.kinds.Kind.TheVariants as kind
+use Rattle.trace_reader.specs.Members.{◌>>=◌, within, field_test, fields_from, number_at, perhaps_handle_at, text_at, fields_at}
+use Rattle.trace_reader.specs.Kinds.{new_at, new_cyclic_at, new_from_at, weak_new_at, null_at, clone_at, drop_at, downgrade_at, upgrade_at, try_unwrap_at, into_inner_at, get_mut_at, make_mut_at, counts_at, ptr_eq_at, set_at, take_at, get_at, cell_new_at, cell_load_at, cell_swap_at, cell_cas_at, cell_drop_at}
+use Rattle.trace_reader.specs.Reading.{read_op, members_of_op, kind_at}
+use Rattle.trace_reader.specs.Writing.{natural, field_data, fields_data, members_of, data_of, line_of}
+use Rattle.trace_reader.proofs.ReadBack.{read-compact_text}
+
+pub both : (a b : Bool) → (a && b) ≡ true → (a ≡ true) × (b ≡ true)
+both true b h = (refl, h)
+both false b h = absurd cc
+
+name_fits : (n : ℕ) → is_name n ≡ true → n < 2 ^ 64
+name_fits n h = let small : n ≤ 999999 = leb-true n 999999 h in omega arith
+
+index_fits : (n : ℕ) → nat_le n 15 ≡ true → n < 2 ^ 64
+index_fits n h = let small : n ≤ 15 = leb-true n 15 h in omega arith
+
+natural_back : (n : ℕ) → n < 2 ^ 64 → of_json (outline (natural n)) ≡ Some (natural n)
+natural_back n h = ap (option_map number) (number_of-decimal n h)
+
+-- ---- the fields
+
+pub are_cyclic : (fields : List Field) → list_all is_field fields ≡ true → list_all is_cyclic_field fields ≡ true
+are_cyclic [] h = refl
+are_cyclic (Held n ∷ fields) h = let p = both (is_name n) _ h in rw (p.0, are_cyclic fields p.1)
+are_cyclic (Null ∷ fields) h = are_cyclic fields h
+are_cyclic (Me ∷ fields) h = absurd cc
+
+fields_fit : (fields : List Field) → list_all is_cyclic_field fields ≡ true → tree.ItemsHaveNumbers (items_outline (fields_data fields))
+fields_fit [] h = tt
+fields_fit (Held n ∷ fields) h = let p = both (is_name n) _ h in (IsNumber-decimal n (name_fits n p.0), fields_fit fields p.1)
+fields_fit (Null ∷ fields) h = (tt, fields_fit fields h)
+fields_fit (Me ∷ fields) h = (tt, fields_fit fields h)
+
+fields_back : (fields : List Field) → list_all is_cyclic_field fields ≡ true → of_items (items_outline (fields_data fields)) ≡ Some (fields_data fields)
+fields_back [] h = refl
+fields_back (Held n ∷ fields) h = let p = both (is_name n) _ h in rw (natural_back n (name_fits n p.0), fields_back fields p.1)
+fields_back (Null ∷ fields) h = rw (fields_back fields h)
+fields_back (Me ∷ fields) h = rw (fields_back fields h)
+
+fields_depth : (fields : List Field) → tree.items_depth (items_outline (fields_data fields)) ≡ 0
+fields_depth [] = refl
+fields_depth (Held n ∷ fields) = rw (fields_depth fields)
+fields_depth (Null ∷ fields) = rw (fields_depth fields)
+fields_depth (Me ∷ fields) = rw (fields_depth fields)
+
+-- ---- the operation's JSON is read as the value
+
+abbrev value_of : ℕ → ℕ → Kind → Data
+value_of id t k = data_of (record { id = id; thread = t; kind = k })
+
+op_numbers : (id t : ℕ) (k : Kind) → id < 2 ^ 64 → t < 2 ^ 64 → is_kind k ≡ true → tree.HasNumbers (outline (value_of id t k))
+unfolding members_of
+op_numbers id t (kind.New to fields) low few fits =
+    let p = both (is_name to) _ fits in let q = both (nat_le (length fields) 16) _ p.1 in
+    (fields_fit fields (are_cyclic fields q.1), (IsNumber-decimal id low, (tt, (IsNumber-decimal t few, (IsNumber-decimal to (name_fits to p.0), tt)))))
+op_numbers id t (kind.NewCyclic to fields) low few fits =
+    let p = both (is_name to) _ fits in let q = both (nat_le (length fields) 16) _ p.1 in
+    (fields_fit fields q.1, (IsNumber-decimal id low, (tt, (IsNumber-decimal t few, (IsNumber-decimal to (name_fits to p.0), tt)))))
+op_numbers id t (kind.NewFrom from to) low few fits =
+    let p = both (is_name from) _ fits in
+    (IsNumber-decimal from (name_fits from p.0), (IsNumber-decimal id low, (tt, (IsNumber-decimal t few, (IsNumber-decimal to (name_fits to p.1), tt)))))
+op_numbers id t (kind.WeakNew to) low few fits = (IsNumber-decimal id low, (tt, (IsNumber-decimal t few, (IsNumber-decimal to (name_fits to fits), tt))))
+op_numbers id t (kind.Null to) low few fits = (IsNumber-decimal id low, (tt, (IsNumber-decimal t few, (IsNumber-decimal to (name_fits to fits), tt))))
+op_numbers id t (kind.Clone from to) low few fits =
+    let p = both (is_name from) _ fits in
+    (IsNumber-decimal from (name_fits from p.0), (IsNumber-decimal id low, (tt, (IsNumber-decimal t few, (IsNumber-decimal to (name_fits to p.1), tt)))))
+op_numbers id t (kind.Drop h) low few fits = (IsNumber-decimal h (name_fits h fits), (IsNumber-decimal id low, (tt, (IsNumber-decimal t few, tt))))
+op_numbers id t (kind.Downgrade from to) low few fits =
+    let p = both (is_name from) _ fits in
+    (IsNumber-decimal from (name_fits from p.0), (IsNumber-decimal id low, (tt, (IsNumber-decimal t few, (IsNumber-decimal to (name_fits to p.1), tt)))))
+op_numbers id t (kind.Upgrade from to) low few fits =
+    let p = both (is_name from) _ fits in
+    (IsNumber-decimal from (name_fits from p.0), (IsNumber-decimal id low, (tt, (IsNumber-decimal t few, (IsNumber-decimal to (name_fits to p.1), tt)))))
+op_numbers id t (kind.TryUnwrap h) low few fits = (IsNumber-decimal h (name_fits h fits), (IsNumber-decimal id low, (tt, (IsNumber-decimal t few, tt))))
+op_numbers id t (kind.IntoInner h) low few fits = (IsNumber-decimal h (name_fits h fits), (IsNumber-decimal id low, (tt, (IsNumber-decimal t few, tt))))
+op_numbers id t (kind.GetMut h) low few fits = (IsNumber-decimal h (name_fits h fits), (IsNumber-decimal id low, (tt, (IsNumber-decimal t few, tt))))
+op_numbers id t (kind.MakeMut h) low few fits = (IsNumber-decimal h (name_fits h fits), (IsNumber-decimal id low, (tt, (IsNumber-decimal t few, tt))))
+op_numbers id t (kind.Counts h) low few fits = (IsNumber-decimal h (name_fits h fits), (IsNumber-decimal id low, (tt, (IsNumber-decimal t few, tt))))
+op_numbers id t (kind.PtrEq a b) low few fits =
+    let p = both (is_name a) _ fits in
+    (IsNumber-decimal a (name_fits a p.0), (IsNumber-decimal b (name_fits b p.1), (IsNumber-decimal id low, (tt, (IsNumber-decimal t few, tt)))))
+op_numbers id t (kind.Set h i from) low few fits =
+    let p = both (is_name h) _ fits in let q = both (nat_le i 15) _ p.1 in
+    (IsNumber-decimal from (name_fits from q.1), (IsNumber-decimal h (name_fits h p.0), (IsNumber-decimal i (index_fits i q.0), (IsNumber-decimal id low, (tt, (IsNumber-decimal t few, tt))))))
+op_numbers id t (kind.Take h i to) low few fits =
+    let p = both (is_name h) _ fits in let q = both (nat_le i 15) _ p.1 in
+    (IsNumber-decimal h (name_fits h p.0), (IsNumber-decimal i (index_fits i q.0), (IsNumber-decimal id low, (tt, (IsNumber-decimal t few, (IsNumber-decimal to (name_fits to q.1), tt))))))
+op_numbers id t (kind.Get h i to) low few fits =
+    let p = both (is_name h) _ fits in let q = both (nat_le i 15) _ p.1 in
+    (IsNumber-decimal h (name_fits h p.0), (IsNumber-decimal i (index_fits i q.0), (IsNumber-decimal id low, (tt, (IsNumber-decimal t few, (IsNumber-decimal to (name_fits to q.1), tt))))))
+op_numbers id t (kind.CellNew c from) low few fits =
+    let p = both (is_name c) _ fits in
+    (IsNumber-decimal c (name_fits c p.0), (IsNumber-decimal from (name_fits from p.1), (IsNumber-decimal id low, (tt, (IsNumber-decimal t few, tt)))))
+op_numbers id t (kind.CellLoad c to) low few fits =
+    let p = both (is_name c) _ fits in
+    (IsNumber-decimal c (name_fits c p.0), (IsNumber-decimal id low, (tt, (IsNumber-decimal t few, (IsNumber-decimal to (name_fits to p.1), tt)))))
+op_numbers id t (kind.CellSwap c from (Some to)) low few fits =
+    let p = both (is_name c) _ fits in let q = both (is_name from) _ p.1 in
+    (IsNumber-decimal c (name_fits c p.0), (IsNumber-decimal from (name_fits from q.0), (IsNumber-decimal id low, (tt, (IsNumber-decimal t few, (IsNumber-decimal to (name_fits to q.1), tt))))))
+op_numbers id t (kind.CellSwap c from None) low few fits =
+    let p = both (is_name c) _ fits in let q = both (is_name from) _ p.1 in
+    (IsNumber-decimal c (name_fits c p.0), (IsNumber-decimal from (name_fits from q.0), (IsNumber-decimal id low, (tt, (IsNumber-decimal t few, tt)))))
+op_numbers id t (kind.CellCas c expected desired) low few fits =
+    let p = both (is_name c) _ fits in let q = both (is_name expected) _ p.1 in
+    (IsNumber-decimal c (name_fits c p.0), (IsNumber-decimal desired (name_fits desired q.1), (IsNumber-decimal expected (name_fits expected q.0), (IsNumber-decimal id low, (tt, (IsNumber-decimal t few, tt))))))
+op_numbers id t (kind.CellDrop c) low few fits = (IsNumber-decimal c (name_fits c fits), (IsNumber-decimal id low, (tt, (IsNumber-decimal t few, tt))))
+
+op_depth : (id t : ℕ) (k : Kind) → tree.depth (outline (value_of id t k)) ≤ max_depth
+unfolding members_of
+op_depth id t (kind.New to fields) = rw (fields_depth fields) (omega arith)
+op_depth id t (kind.NewCyclic to fields) = rw (fields_depth fields) (omega arith)
+op_depth id t (kind.NewFrom from to) = omega arith
+op_depth id t (kind.WeakNew to) = omega arith
+op_depth id t (kind.Null to) = omega arith
+op_depth id t (kind.Clone from to) = omega arith
+op_depth id t (kind.Drop h) = omega arith
+op_depth id t (kind.Downgrade from to) = omega arith
+op_depth id t (kind.Upgrade from to) = omega arith
+op_depth id t (kind.TryUnwrap h) = omega arith
+op_depth id t (kind.IntoInner h) = omega arith
+op_depth id t (kind.GetMut h) = omega arith
+op_depth id t (kind.MakeMut h) = omega arith
+op_depth id t (kind.Counts h) = omega arith
+op_depth id t (kind.PtrEq a b) = omega arith
+op_depth id t (kind.Set h i from) = omega arith
+op_depth id t (kind.Take h i to) = omega arith
+op_depth id t (kind.Get h i to) = omega arith
+op_depth id t (kind.CellNew c from) = omega arith
+op_depth id t (kind.CellLoad c to) = omega arith
+op_depth id t (kind.CellSwap c from (Some to)) = omega arith
+op_depth id t (kind.CellSwap c from None) = omega arith
+op_depth id t (kind.CellCas c expected desired) = omega arith
+op_depth id t (kind.CellDrop c) = omega arith
+
+op_back : (id t : ℕ) (k : Kind) → id < 2 ^ 64 → t < 2 ^ 64 → is_kind k ≡ true → of_json (outline (value_of id t k)) ≡ Some (value_of id t k)
+unfolding members_of
+op_back id t (kind.New to fields) low few fits =
+    let p = both (is_name to) _ fits in let q = both (nat_le (length fields) 16) _ p.1 in
+    rw (fields_back fields (are_cyclic fields q.1), number_of-decimal id low, number_of-decimal t few, number_of-decimal to (name_fits to p.0))
+op_back id t (kind.NewCyclic to fields) low few fits =
+    let p = both (is_name to) _ fits in let q = both (nat_le (length fields) 16) _ p.1 in
+    rw (fields_back fields q.1, number_of-decimal id low, number_of-decimal t few, number_of-decimal to (name_fits to p.0))
+op_back id t (kind.NewFrom from to) low few fits =
+    let p = both (is_name from) _ fits in
+    rw (number_of-decimal from (name_fits from p.0), number_of-decimal id low, number_of-decimal t few, number_of-decimal to (name_fits to p.1))
+op_back id t (kind.WeakNew to) low few fits = rw (number_of-decimal id low, number_of-decimal t few, number_of-decimal to (name_fits to fits))
+op_back id t (kind.Null to) low few fits = rw (number_of-decimal id low, number_of-decimal t few, number_of-decimal to (name_fits to fits))
+op_back id t (kind.Clone from to) low few fits =
+    let p = both (is_name from) _ fits in
+    rw (number_of-decimal from (name_fits from p.0), number_of-decimal id low, number_of-decimal t few, number_of-decimal to (name_fits to p.1))
+op_back id t (kind.Drop h) low few fits = rw (number_of-decimal h (name_fits h fits), number_of-decimal id low, number_of-decimal t few)
+op_back id t (kind.Downgrade from to) low few fits =
+    let p = both (is_name from) _ fits in
+    rw (number_of-decimal from (name_fits from p.0), number_of-decimal id low, number_of-decimal t few, number_of-decimal to (name_fits to p.1))
+op_back id t (kind.Upgrade from to) low few fits =
+    let p = both (is_name from) _ fits in
+    rw (number_of-decimal from (name_fits from p.0), number_of-decimal id low, number_of-decimal t few, number_of-decimal to (name_fits to p.1))
+op_back id t (kind.TryUnwrap h) low few fits = rw (number_of-decimal h (name_fits h fits), number_of-decimal id low, number_of-decimal t few)
+op_back id t (kind.IntoInner h) low few fits = rw (number_of-decimal h (name_fits h fits), number_of-decimal id low, number_of-decimal t few)
+op_back id t (kind.GetMut h) low few fits = rw (number_of-decimal h (name_fits h fits), number_of-decimal id low, number_of-decimal t few)
+op_back id t (kind.MakeMut h) low few fits = rw (number_of-decimal h (name_fits h fits), number_of-decimal id low, number_of-decimal t few)
+op_back id t (kind.Counts h) low few fits = rw (number_of-decimal h (name_fits h fits), number_of-decimal id low, number_of-decimal t few)
+op_back id t (kind.PtrEq a b) low few fits =
+    let p = both (is_name a) _ fits in
+    rw (number_of-decimal a (name_fits a p.0), number_of-decimal b (name_fits b p.1), number_of-decimal id low, number_of-decimal t few)
+op_back id t (kind.Set h i from) low few fits =
+    let p = both (is_name h) _ fits in let q = both (nat_le i 15) _ p.1 in
+    rw (number_of-decimal from (name_fits from q.1), number_of-decimal h (name_fits h p.0), number_of-decimal i (index_fits i q.0), number_of-decimal id low, number_of-decimal t few)
+op_back id t (kind.Take h i to) low few fits =
+    let p = both (is_name h) _ fits in let q = both (nat_le i 15) _ p.1 in
+    rw (number_of-decimal h (name_fits h p.0), number_of-decimal i (index_fits i q.0), number_of-decimal id low, number_of-decimal t few, number_of-decimal to (name_fits to q.1))
+op_back id t (kind.Get h i to) low few fits =
+    let p = both (is_name h) _ fits in let q = both (nat_le i 15) _ p.1 in
+    rw (number_of-decimal h (name_fits h p.0), number_of-decimal i (index_fits i q.0), number_of-decimal id low, number_of-decimal t few, number_of-decimal to (name_fits to q.1))
+op_back id t (kind.CellNew c from) low few fits =
+    let p = both (is_name c) _ fits in
+    rw (number_of-decimal c (name_fits c p.0), number_of-decimal from (name_fits from p.1), number_of-decimal id low, number_of-decimal t few)
+op_back id t (kind.CellLoad c to) low few fits =
+    let p = both (is_name c) _ fits in
+    rw (number_of-decimal c (name_fits c p.0), number_of-decimal id low, number_of-decimal t few, number_of-decimal to (name_fits to p.1))
+op_back id t (kind.CellSwap c from (Some to)) low few fits =
+    let p = both (is_name c) _ fits in let q = both (is_name from) _ p.1 in
+    rw (number_of-decimal c (name_fits c p.0), number_of-decimal from (name_fits from q.0), number_of-decimal id low, number_of-decimal t few, number_of-decimal to (name_fits to q.1))
+op_back id t (kind.CellSwap c from None) low few fits =
+    let p = both (is_name c) _ fits in let q = both (is_name from) _ p.1 in
+    rw (number_of-decimal c (name_fits c p.0), number_of-decimal from (name_fits from q.0), number_of-decimal id low, number_of-decimal t few)
+op_back id t (kind.CellCas c expected desired) low few fits =
+    let p = both (is_name c) _ fits in let q = both (is_name expected) _ p.1 in
+    rw (number_of-decimal c (name_fits c p.0), number_of-decimal desired (name_fits desired q.1), number_of-decimal expected (name_fits expected q.0), number_of-decimal id low, number_of-decimal t few)
+op_back id t (kind.CellDrop c) low few fits = rw (number_of-decimal c (name_fits c fits), number_of-decimal id low, number_of-decimal t few)
+
+-- what the limits say
+pub record Within (op : Operation) : Type 0 where
+  pub low : nat_le 1 op.id ≡ true
+  pub high : nat_le op.id 999999999 ≡ true
+  pub thread : nat_le op.thread 65535 ≡ true
+  pub kind : is_kind op.kind ≡ true
+
+pub Within-is_within_limits : (op : Operation) → is_within_limits op ≡ true → Within op
+Within-is_within_limits op h =
+    let a = both (nat_le 1 op.id) _ h in let b = both (nat_le op.id 999999999) _ a.1 in let c = both (nat_le op.thread 65535) _ b.1 in
+    record { low = a.0; high = b.0; thread = c.0; kind = c.1 }
+
+-- the canonical line reads as the operation's value
+pub read-line_of : (op : Operation) → is_within_limits op ≡ true → read (line_of op) ≡ Some (data_of op)
+read-line_of op h =
+    let w = Within-is_within_limits op h in
+    let below : op.id ≤ 999999999 = leb-true _ _ w.high in let small : op.thread ≤ 65535 = leb-true _ _ w.thread in
+    let i : op.id < 2 ^ 64 = omega arith in let t : op.thread < 2 ^ 64 = omega arith in
+    read-compact_text _ (op_numbers op.id op.thread op.kind i t w.kind) (op_back op.id op.thread op.kind i t w.kind) (op_depth op.id op.thread op.kind)
+
+-- ---- the value reads as the operation
+
+items_len-fields : (fields : List Field) → items_len (fields_data fields) ≡ length fields
+items_len-fields [] = refl
+items_len-fields (field ∷ fields) = ap suc (items_len-fields fields)
+
+name_again : (n : ℕ) → is_name n ≡ true → within 0 999999 (Some n) ≡ Ok n
+name_again n h = rw (le-leb 0 n (omega arith), h)
+
+fields_again : (cyclic : Bool) (done fields : List Field) → list_all (field_test cyclic) fields ≡ true → fields_from cyclic done (fields_data fields) ≡ Ok (done ++ fields)
+fields_again cyclic done [] h = ap Ok (sym (append-nil done))
+fields_again true done (Held n ∷ fields) h =
+    let p = both (is_name n) _ h in
+    ap (λ r. (r >>= λ m. Ok (Held m)) >>= λ f. fields_from true (done ++ f ∷ []) (fields_data fields)) (name_again n p.0) ∙ fields_again true (done ++ Held n ∷ []) fields p.1 ∙ ap Ok (append_assoc done (Held n ∷ []) fields)
+fields_again false done (Held n ∷ fields) h =
+    let p = both (is_name n) _ h in
+    ap (λ r. (r >>= λ m. Ok (Held m)) >>= λ f. fields_from false (done ++ f ∷ []) (fields_data fields)) (name_again n p.0) ∙ fields_again false (done ++ Held n ∷ []) fields p.1 ∙ ap Ok (append_assoc done (Held n ∷ []) fields)
+fields_again true done (Null ∷ fields) h = fields_again true (done ++ Null ∷ []) fields h ∙ ap Ok (append_assoc done (Null ∷ []) fields)
+fields_again false done (Null ∷ fields) h = fields_again false (done ++ Null ∷ []) fields h ∙ ap Ok (append_assoc done (Null ∷ []) fields)
+fields_again true done (Me ∷ fields) h = fields_again true (done ++ Me ∷ []) fields h ∙ ap Ok (append_assoc done (Me ∷ []) fields)
+fields_again false done (Me ∷ fields) h = absurd cc
+
+op_again : (id t : ℕ) (k : Kind) → nat_le 1 id ≡ true → nat_le id 999999999 ≡ true → nat_le t 65535 ≡ true → is_kind k ≡ true → members_of_op (value_of id t k) ≡ Ok (record { id = id; thread = t; kind = k })
+unfolding members_of members_of_op kind_at number_at text_at perhaps_handle_at fields_at name_of new_at new_cyclic_at new_from_at weak_new_at null_at clone_at drop_at downgrade_at upgrade_at try_unwrap_at into_inner_at get_mut_at make_mut_at counts_at ptr_eq_at set_at take_at get_at cell_new_at cell_load_at cell_swap_at cell_cas_at cell_drop_at
+op_again id t (kind.New to fields) low high small fits =
+    let p = both (is_name to) _ fits in let q = both (nat_le (length fields) 16) _ p.1 in
+    rw (low, high, le-leb 0 t (omega arith), small, le-leb 0 to (omega arith), p.0, items_len-fields fields, q.0, fields_again false [] fields q.1)
+op_again id t (kind.NewCyclic to fields) low high small fits =
+    let p = both (is_name to) _ fits in let q = both (nat_le (length fields) 16) _ p.1 in
+    rw (low, high, le-leb 0 t (omega arith), small, le-leb 0 to (omega arith), p.0, items_len-fields fields, q.0, fields_again true [] fields q.1)
+op_again id t (kind.NewFrom from to) low high small fits =
+    let p = both (is_name from) _ fits in
+    rw (low, high, le-leb 0 t (omega arith), small, le-leb 0 from (omega arith), p.0, le-leb 0 to (omega arith), p.1)
+op_again id t (kind.WeakNew to) low high small fits = rw (low, high, le-leb 0 t (omega arith), small, le-leb 0 to (omega arith), fits)
+op_again id t (kind.Null to) low high small fits = rw (low, high, le-leb 0 t (omega arith), small, le-leb 0 to (omega arith), fits)
+op_again id t (kind.Clone from to) low high small fits =
+    let p = both (is_name from) _ fits in
+    rw (low, high, le-leb 0 t (omega arith), small, le-leb 0 from (omega arith), p.0, le-leb 0 to (omega arith), p.1)
+op_again id t (kind.Drop h) low high small fits = rw (low, high, le-leb 0 t (omega arith), small, le-leb 0 h (omega arith), fits)
+op_again id t (kind.Downgrade from to) low high small fits =
+    let p = both (is_name from) _ fits in
+    rw (low, high, le-leb 0 t (omega arith), small, le-leb 0 from (omega arith), p.0, le-leb 0 to (omega arith), p.1)
+op_again id t (kind.Upgrade from to) low high small fits =
+    let p = both (is_name from) _ fits in
+    rw (low, high, le-leb 0 t (omega arith), small, le-leb 0 from (omega arith), p.0, le-leb 0 to (omega arith), p.1)
+op_again id t (kind.TryUnwrap h) low high small fits = rw (low, high, le-leb 0 t (omega arith), small, le-leb 0 h (omega arith), fits)
+op_again id t (kind.IntoInner h) low high small fits = rw (low, high, le-leb 0 t (omega arith), small, le-leb 0 h (omega arith), fits)
+op_again id t (kind.GetMut h) low high small fits = rw (low, high, le-leb 0 t (omega arith), small, le-leb 0 h (omega arith), fits)
+op_again id t (kind.MakeMut h) low high small fits = rw (low, high, le-leb 0 t (omega arith), small, le-leb 0 h (omega arith), fits)
+op_again id t (kind.Counts h) low high small fits = rw (low, high, le-leb 0 t (omega arith), small, le-leb 0 h (omega arith), fits)
+op_again id t (kind.PtrEq a b) low high small fits =
+    let p = both (is_name a) _ fits in
+    rw (low, high, le-leb 0 t (omega arith), small, le-leb 0 a (omega arith), p.0, le-leb 0 b (omega arith), p.1)
+op_again id t (kind.Set h i from) low high small fits =
+    let p = both (is_name h) _ fits in let q = both (nat_le i 15) _ p.1 in
+    rw (low, high, le-leb 0 t (omega arith), small, le-leb 0 h (omega arith), p.0, le-leb 0 i (omega arith), q.0, le-leb 0 from (omega arith), q.1)
+op_again id t (kind.Take h i to) low high small fits =
+    let p = both (is_name h) _ fits in let q = both (nat_le i 15) _ p.1 in
+    rw (low, high, le-leb 0 t (omega arith), small, le-leb 0 h (omega arith), p.0, le-leb 0 i (omega arith), q.0, le-leb 0 to (omega arith), q.1)
+op_again id t (kind.Get h i to) low high small fits =
+    let p = both (is_name h) _ fits in let q = both (nat_le i 15) _ p.1 in
+    rw (low, high, le-leb 0 t (omega arith), small, le-leb 0 h (omega arith), p.0, le-leb 0 i (omega arith), q.0, le-leb 0 to (omega arith), q.1)
+op_again id t (kind.CellNew c from) low high small fits =
+    let p = both (is_name c) _ fits in
+    rw (low, high, le-leb 0 t (omega arith), small, le-leb 0 c (omega arith), p.0, le-leb 0 from (omega arith), p.1)
+op_again id t (kind.CellLoad c to) low high small fits =
+    let p = both (is_name c) _ fits in
+    rw (low, high, le-leb 0 t (omega arith), small, le-leb 0 c (omega arith), p.0, le-leb 0 to (omega arith), p.1)
+op_again id t (kind.CellSwap c from (Some to)) low high small fits =
+    let p = both (is_name c) _ fits in let q = both (is_name from) _ p.1 in
+    rw (low, high, le-leb 0 t (omega arith), small, le-leb 0 c (omega arith), p.0, le-leb 0 from (omega arith), q.0, le-leb 0 to (omega arith), q.1)
+op_again id t (kind.CellSwap c from None) low high small fits =
+    let p = both (is_name c) _ fits in let q = both (is_name from) _ p.1 in
+    rw (low, high, le-leb 0 t (omega arith), small, le-leb 0 c (omega arith), p.0, le-leb 0 from (omega arith), q.0)
+op_again id t (kind.CellCas c expected desired) low high small fits =
+    let p = both (is_name c) _ fits in let q = both (is_name expected) _ p.1 in
+    rw (low, high, le-leb 0 t (omega arith), small, le-leb 0 c (omega arith), p.0, le-leb 0 expected (omega arith), q.0, le-leb 0 desired (omega arith), q.1)
+op_again id t (kind.CellDrop c) low high small fits = rw (low, high, le-leb 0 t (omega arith), small, le-leb 0 c (omega arith), fits)
+
+pub read_op-data_of : (op : Operation) → is_within_limits op ≡ true → read_op (data_of op) ≡ Ok op
+unfolding read_op
+read_op-data_of op h = let w = Within-is_within_limits op h in op_again op.id op.thread op.kind w.low w.high w.thread w.kind

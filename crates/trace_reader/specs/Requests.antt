@@ -1,0 +1,84 @@
+-- Which request a line is: the version it was made for, the session that made it, and its edits.
+use Rattle.std.specs.Prelude.{ℕ, List, [], ◌∷◌, ◌++◌, codes, if◌then◌else◌, Option, Some, None, Result, Ok, Err}
+use Rattle.std.specs.Str.{bytes_eq}
+use Rattle.serde_json.specs.Data.{Data, Items, no_items, item}
+use Rattle.serde_json.specs.Find.{get, as_array, as_object}
+use Rattle.trace_types.specs.Operation.{Operation}
+use Rattle.trace_types.specs.declared.edits.Edit.{Edit}
+use Rattle.trace_types.specs.declared.edits.Edit.TheVariants.{Insert, Remove, Change}
+use Rattle.trace_reader.specs.declared.fault.LineCause.{LineCause}
+use Rattle.trace_reader.specs.declared.fault.LineCause.TheVariants.{NotObject, Missing, WrongType, UnknownOp}
+use Rattle.trace_reader.specs.declared.request.RequestLine.{RequestLine}
+use Rattle.trace_reader.specs.Members.{◌>>=◌, number_at, text_at}
+use Rattle.trace_reader.specs.Reading.{on_object, members_of_op}
+
+-- ---- an edit
+
+abbrev pub op_in : Option Data → Result Operation LineCause
+op_in None = Err Missing
+op_in (Some d) = on_object WrongType (as_object d) (members_of_op d)
+
+-- the member `op`, an operation as a trace's line has it
+unfoldable pub op_at : Data → Result Operation LineCause
+op_at d = op_in (get (codes "op") d)
+
+-- the number of an operation of the trace
+abbrev pub id_at : Data → Result ℕ LineCause
+id_at d = number_at (codes "id") 1 999999999 d
+
+unfoldable pub insert_at : Data → Result Edit LineCause
+insert_at d = do
+  after ← number_at (codes "after") 0 999999999 d
+  op ← op_at d
+  Ok (Insert after op)
+
+unfoldable pub remove_at : Data → Result Edit LineCause
+remove_at d = do
+  id ← id_at d
+  Ok (Remove id)
+
+unfoldable pub change_at : Data → Result Edit LineCause
+change_at d = do
+  id ← id_at d
+  op ← op_at d
+  Ok (Change id op)
+
+unfoldable pub edit_named : List ℕ → Data → Result Edit LineCause
+edit_named name d = if bytes_eq name (codes "insert") then insert_at d else (if bytes_eq name (codes "remove") then remove_at d else (if bytes_eq name (codes "change") then change_at d else Err UnknownOp))
+
+unfoldable pub members_of_edit : Data → Result Edit LineCause
+members_of_edit d = do
+  name ← text_at (codes "edit") d
+  edit_named name d
+
+unfoldable pub edit_of : Data → Result Edit LineCause
+edit_of d = on_object WrongType (as_object d) (members_of_edit d)
+
+-- the edits, after those that were read
+abbrev pub edits_from : List Edit → Items → Result (List Edit) LineCause
+edits_from done no_items = Ok done
+edits_from done (item d ds) = edit_of d >>= λ e. edits_from (done ++ e ∷ []) ds
+
+abbrev pub edits_of : Option Items → Result (List Edit) LineCause
+edits_of None = Err WrongType
+edits_of (Some ds) = edits_from [] ds
+
+abbrev pub edits_in : Option Data → Result (List Edit) LineCause
+edits_in None = Err Missing
+edits_in (Some d) = edits_of (as_array d)
+
+unfoldable pub edits_at : Data → Result (List Edit) LineCause
+edits_at d = edits_in (get (codes "edits") d)
+
+-- ---- a request
+
+unfoldable pub members_of_request : Data → Result RequestLine LineCause
+members_of_request d = do
+  base ← number_at (codes "base") 0 1000000 d
+  session ← number_at (codes "session") 0 15 d
+  batch ← edits_at d
+  Ok (record { base = base; session = session; batch = batch })
+
+-- the request that a value is, or its first fault
+unfoldable pub read_request : Data → Result RequestLine LineCause
+read_request d = on_object NotObject (as_object d) (members_of_request d)
