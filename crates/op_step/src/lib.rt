@@ -13,3 +13,6 @@ pub mod plan;
 pub mod replay;
 pub mod step;
 mod unique;
+
+#[cfg(test)]
+mod tests;
