@@ -1,6 +1,6 @@
 -- A map with keys below n has at most n entries, so a sum over its values is bounded; and so are the counts of a state
 -- within its limits.
-use Rattle.std.proofs.Common.{◌≡◌, ℕ, ◌+◌, ◌*◌, ◌<◌, ◌≤◌, List, [], ◌∷◌, length, refl, ap, ◌∙◌, sym, subst, arith, cond}
+use Rattle.std.proofs.Common.{◌≡◌, ℕ, ◌+◌, ◌*◌, ◌<◌, ◌≤◌, List, [], ◌∷◌, length, refl, sym, subst, arith, cond}
 use Rattle.std.specs.Prelude.{Option, Some, None}
 use Rattle.std.proofs.Math.Dec.{T}
 use Rattle.std.proofs.lemmas.Bool.Decides.{nat_tests}
@@ -20,7 +20,7 @@ use Rattle.trace_types.specs.declared.slots.Item.{Item}
 use Rattle.trace_types.specs.declared.slots.Item.TheVariants as item
 use Rattle.ownership_model.specs.Totals.{total_in, total}
 use Rattle.ownership_model.specs.State.{State, slots_weight, holding_weight, entry_weight, items_weight, standing_weight, weight, hits, strong, weak}
-use Rattle.ownership_model.specs.Bounds.{HoldingFits, EntryFits, HandleFits, CellFits, ObjectFits, IsBounded, max_slots}
+use Rattle.ownership_model.specs.Bounds.{HandleFits, CellFits, ObjectFits, IsBounded, max_slots}
 use Rattle.ownership_model.proofs.TotalLemmas.{first, second, less, find_below}
 
 -- what stands at a key: the key is below n, and it weighs at most most

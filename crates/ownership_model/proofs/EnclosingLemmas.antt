@@ -1,8 +1,7 @@
 -- What strong or weak slots reach is the least set that encloses what a program can ask about: the two ways to say it.
-use Rattle.std.proofs.Common.{◌≡◌, ℕ, List, [], ◌∷◌, ◌++◌, refl, ap, ◌∙◌, sym, subst, arith, Bool, true, false}
-use Rattle.std.specs.Prelude.{◌==◌, ◌||◌, not, Option, Some, None, flat_map, is_some}
-use Rattle.std.specs.Ordering.{nat_cmp}
-use Rattle.std.specs.FinMap.{FinMap, get, keys, contains_key-keys}
+use Rattle.std.proofs.Common.{◌≡◌, ℕ, List, [], ◌∷◌, refl, arith, Bool, true, false}
+use Rattle.std.specs.Prelude.{not, Option, Some, None}
+use Rattle.std.specs.FinMap.{get, keys}
 use Rattle.std.proofs.lemmas.Bool.Decides.{nat_tests}
 use Rattle.trace_types.specs.declared.slots.Slot.{Slot}
 use Rattle.trace_types.specs.declared.slots.Slot.TheVariants.{Nothing, Strong, Weak, Dangling}
@@ -15,9 +14,9 @@ use Rattle.ownership_model.specs.Twins.{AvoidsSlot, AvoidSlots, AvoidsHolding, A
 use Rattle.ownership_model.specs.Agrees as agreement
 use Rattle.ownership_model.specs.Agrees.{Encloses, outside}
 use Rattle.ownership_model.specs.declared.link.Link.TheVariants.{StrongOrWeak}
-use Rattle.ownership_model.specs.Reach.{IsReach, Reaches, Reaches.by_root, Reaches.by_field, has, named, slots_names, holding_names, cell_names, entry_names, handle_names, all_cell_names, root_names, field_names, is_reached}
+use Rattle.ownership_model.specs.Reach.{IsReach, Reaches, Reaches.by_root, Reaches.by_field, named, slots_names, holding_names, cell_names, entry_names, handle_names, all_cell_names, root_names, field_names, is_reached}
 use Rattle.ownership_model.proofs.NameLemmas.{HasAll, all_left, all_right, all_joined, only_one, all_of_each, at_each_key}
-use Rattle.ownership_model.proofs.ReachedLemmas.{reached, has_reached}
+use Rattle.ownership_model.proofs.ReachedLemmas.{reached}
 
 not_true : (b : Bool) → b ≡ true → not b ≡ false
 not_true true h = refl

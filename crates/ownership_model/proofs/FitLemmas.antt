@@ -1,12 +1,12 @@
 -- Each row of the table keeps the limits of a state, where the operation is within its own; and so do steps and replays.
-use Rattle.std.proofs.Common.{◌≡◌, ℕ, ◌≤◌, List, [], ◌∷◌, length, refl, sym, subst, arith, Bool, true, false}
+use Rattle.std.proofs.Common.{◌≡◌, ℕ, ◌≤◌, List, [], ◌∷◌, length, refl, subst, arith, Bool, true, false}
 use Rattle.std.specs.Prelude.{Option, Some, None, ◌==◌, ◌&&◌, IsTrue, nat_le, slice_get}
 use Rattle.std.proofs.lemmas.Bool.Decides.{nat_tests}
 use Rattle.std.specs.List.{All}
 use Rattle.std.proofs.lemmas.List.Elements.{All-head, All-tail}
 use Rattle.std.specs.FinMap.{get}
 use Rattle.trace_types.specs.declared.slots.Slot.{Slot}
-use Rattle.trace_types.specs.declared.slots.Slot.TheVariants.{Nothing, Strong, Weak, Dangling}
+use Rattle.trace_types.specs.declared.slots.Slot.TheVariants.{Nothing}
 use Rattle.trace_types.specs.declared.slots.Holding.{Holding}
 use Rattle.trace_types.specs.declared.slots.Holding.TheVariants as holding
 use Rattle.trace_types.specs.declared.slots.Entry.{Entry}
@@ -22,7 +22,7 @@ use Rattle.ownership_model.specs.declared.plan.Plan.TheVariants.{Skip, Act}
 use Rattle.ownership_model.specs.State.{State, IsSound}
 use Rattle.ownership_model.specs.Changes.{changed}
 use Rattle.ownership_model.specs.View.{Element, Read, Null, Me, Seen, View, members, held_by, seen, elements_of, view_of, repeated}
-use Rattle.ownership_model.specs.Table.{row, row_of, new_row, upgraded, unwrapped, made_unique, dropped, swapped, exchanged, write_field, set_field, take_field, copy_field, fields_of, is_alive, made_fields, ending, first_unheld, first_bare, same_pointer, make}
+use Rattle.ownership_model.specs.Table.{row, row_of, new_row, upgraded, made_unique, dropped, swapped, exchanged, write_field, set_field, take_field, copy_field, fields_of, is_alive, made_fields, ending, first_unheld, first_bare, same_pointer, make}
 use Rattle.ownership_model.specs.Bounds.{max_name, max_id, max_fields, AreFew, HoldingFits, HandleFits, ObjectFits, IsBounded, ChangeFits, ChangesFit, PlanFits}
 use Rattle.ownership_model.specs.Carry.{IsCarriable}
 use Rattle.ownership_model.specs.Step.{step, carried_out, end_from, AreNew}

@@ -1,8 +1,8 @@
 -- A release destroys the least set of objects that has each object that falls with it.
-use Rattle.std.proofs.Common.{◌≡◌, ℕ, suc, zero, ◌+◌, ◌<◌, List, [], ◌∷◌, ◌++◌, refl, ap, ◌∙◌, sym, subst, arith, Bool, true, false, inl, inr}
+use Rattle.std.proofs.Common.{◌≡◌, ℕ, suc, zero, ◌+◌, ◌<◌, List, [], ◌∷◌, refl, ap, ◌∙◌, sym, subst, arith, Bool, true, false, inl, inr}
 use Rattle.std.specs.Prelude.{Option, Some, None, ◌==◌, ◌&&◌, not, if◌then◌else◌}
 use Rattle.std.proofs.lemmas.Bool.Decides.{nat_tests}
-use Rattle.std.specs.FinMap.{get, insert, remove}
+use Rattle.std.specs.FinMap.{get}
 use Rattle.trace_types.specs.declared.slots.Slot.{Slot}
 use Rattle.trace_types.specs.declared.slots.Slot.TheVariants.{Nothing, Strong, Weak, Dangling}
 use Rattle.trace_types.specs.declared.slots.Entry.{Entry}
@@ -11,10 +11,10 @@ use Rattle.trace_types.specs.declared.slots.Item.{Item}
 use Rattle.trace_types.specs.declared.slots.Item.TheVariants as item
 use Rattle.ownership_model.specs.Totals.{total, weight_at}
 use Rattle.ownership_model.specs.State.{State, strong, weak, ends, hits, holding_weight, entry_weight, IsSound, IsSoundAt}
-use Rattle.ownership_model.specs.Release.{Dropped, Released, Fate, Stays, Falls, Goes, fate, fall, meet, drop_first, release, release_within, work, is_husk}
+use Rattle.ownership_model.specs.Release.{Released, Fate, Stays, Falls, Goes, fate, fall, meet, drop_first, release, release_within, work, is_husk}
 use Rattle.ownership_model.specs.Cascade.{times_destroyed, times_freed, HuskCourse, Course}
 use Rattle.ownership_model.specs.declared.link.Link.TheVariants.{StrongOnly}
-use Rattle.ownership_model.specs.Reach.{has, entry_names, field_names, root_names}
+use Rattle.ownership_model.specs.Reach.{has, entry_names, field_names}
 use Rattle.ownership_model.specs.Leaks.{is_alive}
 use Rattle.ownership_model.specs.Falling.{FallsWith, IsClosed, IsLeastClosed, is_destroyed}
 use Rattle.ownership_model.proofs.MapLemmas.{get_inserted, get_removed}

@@ -1,13 +1,11 @@
 -- Changes, releases, steps and whole replays keep the limits of a state.
-use Rattle.std.proofs.Common.{◌≡◌, ℕ, zero, suc, ◌≤◌, List, [], ◌∷◌, length, refl, ap, ◌∙◌, sym, subst, arith, Bool, true, false}
+use Rattle.std.proofs.Common.{◌≡◌, ℕ, zero, suc, List, [], ◌∷◌, length, refl, sym, subst, arith, true, false}
 use Rattle.std.specs.Prelude.{Option, Some, None, ◌==◌, ◌&&◌, if◌then◌else◌, slice_set}
 use Rattle.std.proofs.lemmas.Bool.Decides.{nat_tests}
 use Rattle.std.specs.Ordering.{nat_cmp}
 use Rattle.std.specs.FinMap.{FinMap, get, insert, remove, get-empty}
 use Rattle.trace_types.specs.declared.slots.Slot.{Slot}
 use Rattle.trace_types.specs.declared.slots.Slot.TheVariants.{Nothing, Strong, Weak, Dangling}
-use Rattle.trace_types.specs.declared.slots.Holding.{Holding}
-use Rattle.trace_types.specs.declared.slots.Holding.TheVariants as holding
 use Rattle.trace_types.specs.declared.slots.Entry.{Entry}
 use Rattle.trace_types.specs.declared.slots.Entry.TheVariants.{Alive, Husk}
 use Rattle.trace_types.specs.declared.slots.Item.{Item}
@@ -15,9 +13,9 @@ use Rattle.trace_types.specs.declared.slots.Item.TheVariants as item
 use Rattle.trace_types.specs.declared.slots.Change.{Change}
 use Rattle.trace_types.specs.declared.slots.Change.TheVariants.{SetHandle, EndHandle, SetCell, EndCell, SetField, Make, TurnHusk}
 use Rattle.ownership_model.specs.State.{State, nothing_held, strong, weak, ends}
-use Rattle.ownership_model.specs.Release.{Fate, Stays, Falls, Goes, fall, fate, meet, drop_first, is_husk, release, release_within, work}
+use Rattle.ownership_model.specs.Release.{Fate, Goes, fall, fate, meet, drop_first, is_husk, release, release_within, work}
 use Rattle.ownership_model.specs.Changes.{with_field, changed_by, changed, HasField, IsAlive, CanBeDone, CanChange}
-use Rattle.ownership_model.specs.Bounds.{max_fields, EntryFits, HandleFits, CellFits, ObjectFits, IsBounded, ChangeFits, ChangesFit}
+use Rattle.ownership_model.specs.Bounds.{HandleFits, CellFits, ObjectFits, IsBounded, ChangeFits, ChangesFit}
 use Rattle.ownership_model.proofs.MapLemmas.{get_inserted, get_removed}
 use Rattle.ownership_model.proofs.ReleaseLemmas.{either}
 

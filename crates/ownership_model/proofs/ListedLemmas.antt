@@ -8,7 +8,6 @@ use Rattle.std.specs.Cmp.{nat_cmp_total}
 use Rattle.std.specs.FinMap.{FinMap, get, insert, remove, get-empty, from_entries, same_map, nat_cmp-IsAntisymmetric}
 use Rattle.trace_types.specs.declared.slots.Slot.{Slot}
 use Rattle.trace_types.specs.declared.slots.Slot.TheVariants.{Nothing, Strong, Weak, Dangling}
-use Rattle.trace_types.specs.declared.slots.Holding.{Holding}
 use Rattle.trace_types.specs.declared.slots.Entry.{Entry}
 use Rattle.trace_types.specs.declared.slots.Entry.TheVariants.{Alive, Husk}
 use Rattle.trace_types.specs.declared.slots.Item.{Item}
@@ -18,15 +17,14 @@ use Rattle.trace_types.specs.declared.slots.Change.TheVariants.{SetHandle, EndHa
 use Rattle.trace_types.specs.declared.kinds.Field.{Field}
 use Rattle.trace_types.specs.declared.kinds.Field.TheVariants as field
 use Rattle.trace_types.specs.declared.outcomes.Event.{Event}
-use Rattle.trace_types.specs.declared.outcomes.Event.TheVariants as event
 use Rattle.trace_types.specs.declared.outcomes.Outcome.{Outcome}
-use Rattle.trace_types.specs.declared.outcomes.Verdict.TheVariants.{Did, Skipped}
+use Rattle.trace_types.specs.declared.outcomes.Verdict.TheVariants.{Did}
 use Rattle.trace_types.specs.Operation.{Operation}
 use Rattle.ownership_model.specs.Totals.{total_in, total, weight_at}
-use Rattle.ownership_model.specs.State.{State, nothing_held, weight, strong, weak, holding_weight, entry_weight, hits, ends}
-use Rattle.ownership_model.specs.Release.{Fate, Stays, Falls, Goes, fate, fall, is_husk, drops, Dropped, meet, drop_first, Released, after, release_within, release, work, alive_size}
+use Rattle.ownership_model.specs.State.{State, nothing_held, weight, holding_weight, entry_weight, hits, ends}
+use Rattle.ownership_model.specs.Release.{Fate, Stays, Falls, Goes, fate, fall, is_husk, Dropped, meet, drop_first, Released, release_within, release, work, alive_size}
 use Rattle.ownership_model.specs.Changes.{with_field, changed_by, changed}
-use Rattle.ownership_model.specs.View.{Members, members, Element, Read, Null, Me, Seen, View, held_by, cell_of, element_of, elements_of, named_in, seen, view_at, view_of}
+use Rattle.ownership_model.specs.View.{Members, members, Read, Null, Me, View, held_by, cell_of, elements_of, named_in, seen, view_at}
 use Rattle.ownership_model.specs.Table.{row}
 use Rattle.ownership_model.specs.Step.{step, carried_out, counts_of, named_event, outcomes_from}
 use Rattle.ownership_model.specs.Step as real
@@ -35,7 +33,7 @@ use Rattle.ownership_model.specs.declared.plan.Plan.TheVariants.{Skip, Act}
 use Rattle.ownership_model.proofs.TotalLemmas.{total-insert, total-zero}
 use Rattle.ownership_model.proofs.MapLemmas.{get_inserted, get_removed}
 use Rattle.ownership_model.proofs.ReleaseLemmas.{release-enough}
-use Rattle.ownership_model.proofs.Listed.{Lists, look, cut, set, count, fate_in, Left, meet_in, Ended, more_events, dropped_in, change_in, changes_in, look_if, elements_in, seen_in, view_in, counts_in, Stepped, finished, cascade_in, carried_in, step_in, told_after, nothing_listed, told}
+use Rattle.ownership_model.proofs.Listed.{Lists, look, cut, set, count, fate_in, Left, meet_in, Ended, dropped_in, change_in, changes_in, look_if, elements_in, seen_in, view_in, counts_in, Stepped, cascade_in, carried_in, step_in, told_after, nothing_listed, told}
 
 -- no key stands twice
 abbrev pub AreApart : {X : Type 0} → List (ℕ × X) → Type 0

@@ -1,6 +1,6 @@
 -- Lists of names, and the names at the keys of a map.
 use Rattle.std.proofs.Common.{◌≡◌, ℕ, List, [], ◌∷◌, ◌++◌, refl, ap, ◌∙◌, sym, subst, arith, Bool, true, false}
-use Rattle.std.specs.Prelude.{◌==◌, ◌||◌, not, Option, Some, None, flat_map, is_some}
+use Rattle.std.specs.Prelude.{◌==◌, not, Option, Some, None, flat_map, is_some}
 use Rattle.std.specs.Ordering.{nat_cmp}
 use Rattle.std.specs.FinMap.{FinMap, get, keys, contains_key-keys}
 use Rattle.std.proofs.lemmas.Bool.Decides.{nat_tests}

@@ -1,5 +1,5 @@
 -- What is counted for an object is what names it.
-use Rattle.std.proofs.Common.{◌≡◌, ℕ, ◌+◌, List, [], ◌∷◌, refl, ap, ◌∙◌, sym, arith, Bool, true, false}
+use Rattle.std.proofs.Common.{◌≡◌, ℕ, List, [], ◌∷◌, refl, ◌∙◌, sym, arith, Bool, true, false}
 use Rattle.std.specs.Prelude.{◌==◌, ◌||◌, not, Option, Some, None, flat_map}
 use Rattle.std.specs.Ordering.{nat_cmp}
 use Rattle.std.specs.FinMap.{FinMap, get, keys}
@@ -17,7 +17,7 @@ use Rattle.ownership_model.specs.Reach.{has, named, slots_names, holding_names, 
 use Rattle.ownership_model.proofs.TotalLemmas.{total-zero}
 use Rattle.ownership_model.proofs.CountLemmas.{total-cut}
 use Rattle.ownership_model.proofs.ReachLemmas.{has-append}
-use Rattle.ownership_model.proofs.NameLemmas.{all_left, all_right, all_of_each, at_each_key, all_but, but_all}
+use Rattle.ownership_model.proofs.NameLemmas.{all_of_each, at_each_key, all_but, but_all}
 
 -- a number is nothing just where the test fails
 abbrev pub IsNone : ℕ → Bool → Type 0

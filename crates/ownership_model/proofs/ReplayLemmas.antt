@@ -1,19 +1,22 @@
 -- A replay of one list of operations after another, and a replay from the empty state.
-use Rattle.std.proofs.Common.{◌≡◌, ℕ, ◌+◌, List, [], ◌∷◌, ◌++◌, length, refl, ap, arith}
-use Rattle.std.specs.Prelude.{Option, Some, None, IsTrue}
+use Rattle.std.proofs.Common.{◌≡◌, ℕ, List, [], ◌∷◌, ◌++◌, length, refl, ap, arith}
+use Rattle.std.specs.Prelude.{Option, Some, None, IsTrue, Bool, true, false, not, ◌&&◌, ◌||◌, ◌==◌}
+use Rattle.std.proofs.lemmas.Bool.Decides.{nat_tests}
 use Rattle.std.specs.Ordering.{nat_cmp}
-use Rattle.std.specs.FinMap.{FinMap, get, empty, get-empty}
+use Rattle.std.specs.FinMap.{get, empty, get-empty}
 use Rattle.trace_types.specs.declared.slots.Slot.{Slot}
 use Rattle.trace_types.specs.declared.slots.Slot.TheVariants.{Strong, Weak}
 use Rattle.trace_types.specs.declared.slots.Entry.{Entry}
 use Rattle.trace_types.specs.Operation.{Operation}
-use Rattle.trace_types.specs.Trace.{has_distinct_numbers}
+use Rattle.trace_types.specs.Trace.{is_taken, has_distinct_numbers}
 use Rattle.ownership_model.specs.Totals.{total, weight_at}
 use Rattle.ownership_model.specs.State.{State, nothing_held, weight, strong, weak, hits, holding_weight, entry_weight, IsSound, IsSoundAt}
 use Rattle.ownership_model.specs.Agrees.{AreFree}
 use Rattle.ownership_model.specs.Step.{step, outcomes_from, end_from, AreNew}
 use Rattle.ownership_model.specs.Laws.{AppendsHold}
 use Rattle.ownership_model.proofs.TotalLemmas.{total-zero}
+use Rattle.ownership_model.proofs.CarryLemmas.{step_sound}
+use Rattle.ownership_model.proofs.NewLemmas.{step_absent}
 use Rattle.ownership_model.proofs.JoinedLemmas.{replays}
 
 pub outcomes_from-append : (ops more : List Operation) (m : State) → outcomes_from m (ops ++ more) ≡ outcomes_from m ops ++ outcomes_from (end_from m ops) more
@@ -40,6 +43,55 @@ pub new_appended : (ops more : List Operation) (m : State) → AreNew m ops → 
 new_appended [] more m new rest = rest
 new_appended (op ∷ ops) more m new rest = (new.0, new_appended ops more (step m op).state new.1 rest)
 
+neither : (a b : Bool) → (a || b) ≡ false → (a ≡ false) × (b ≡ false)
+neither true b h = absurd cc
+neither false b h = (refl, h)
+
+untaken : (a b : Bool) → IsTrue (not a && b) → (a ≡ false) × IsTrue b
+untaken true b h = absurd cc
+untaken false b h = (refl, h)
+
+both_true : (a b : Bool) → a ≡ false → IsTrue b → IsTrue (not a && b)
+both_true true b none h = absurd cc
+both_true false b none h = h
+
+pub untaken_front : (q : ℕ) (ops more : List Operation) → is_taken q (ops ++ more) ≡ false → is_taken q ops ≡ false
+untaken_front q [] more none = refl
+untaken_front q (op ∷ ops) more none =
+    let each : ((op.id == q) ≡ false) × (is_taken q (ops ++ more) ≡ false) = neither (op.id == q) (is_taken q (ops ++ more)) none in
+    let rest : is_taken q ops ≡ false = untaken_front q ops more each.1 in
+    cc
+
+pub distinct_front : (ops more : List Operation) → IsTrue (has_distinct_numbers (ops ++ more)) → IsTrue (has_distinct_numbers ops)
+distinct_front [] more distinct = refl
+distinct_front (op ∷ ops) more distinct =
+    let each : (is_taken op.id (ops ++ more) ≡ false) × IsTrue (has_distinct_numbers (ops ++ more)) = untaken (is_taken op.id (ops ++ more)) (has_distinct_numbers (ops ++ more)) distinct in
+    both_true (is_taken op.id ops) (has_distinct_numbers ops) (untaken_front op.id ops more each.0) (distinct_front ops more each.1)
+
+pub distinct_rest : (ops more : List Operation) → IsTrue (has_distinct_numbers (ops ++ more)) → IsTrue (has_distinct_numbers more)
+distinct_rest [] more distinct = distinct
+distinct_rest (op ∷ ops) more distinct = distinct_rest ops more (untaken (is_taken op.id (ops ++ more)) (has_distinct_numbers (ops ++ more)) distinct).1
+
+pub free_front : (ops more : List Operation) (m : State) → AreFree m (ops ++ more) → AreFree m ops
+free_front [] more m free = tt
+free_front (op ∷ ops) more m free = (free.0, free_front ops more m free.1)
+
+other_way : (a b : ℕ) → (a == b) ≡ false → (b == a) ≡ false
+other_way a b apart = grind (arith, nat_tests)
+
+-- a step makes no object but its own, so what is free for later operations stays so
+step_free : (m : State) (op : Operation) (ops : List Operation) → IsSound m [] → is_taken op.id ops ≡ false → AreFree m ops → AreFree (step m op).state ops
+step_free m op [] sound apart free = tt
+step_free m op (x ∷ ops) sound apart free =
+    let each : ((x.id == op.id) ≡ false) × (is_taken op.id ops ≡ false) = neither (x.id == op.id) (is_taken op.id ops) apart in
+    (step_absent m op x.id sound free.0 (other_way x.id op.id each.0), step_free m op ops sound each.1 free.1)
+
+pub free_rest : (ops more : List Operation) (m : State) → IsSound m [] → IsTrue (has_distinct_numbers (ops ++ more)) → AreFree m (ops ++ more) → AreFree (end_from m ops) more
+free_rest [] more m sound distinct free = free
+free_rest (op ∷ ops) more m sound distinct free =
+    let each : (is_taken op.id (ops ++ more) ≡ false) × IsTrue (has_distinct_numbers (ops ++ more)) = untaken (is_taken op.id (ops ++ more)) (has_distinct_numbers (ops ++ more)) distinct in
+    free_rest ops more (step m op).state (step_sound m op sound free.0) each.1 (step_free m op (ops ++ more) sound each.0 free.1)
+
 pub appends_hold : AppendsHold
 appends_hold = record {
   outcomes = λ m ops more. outcomes_from-append ops more m;
@@ -48,6 +100,10 @@ appends_hold = record {
   new_front = λ m ops more. new_front ops more m;
   new_rest = λ m ops more. new_rest ops more m;
   new_whole = λ m ops more. new_appended ops more m;
+  distinct_front = distinct_front;
+  distinct_rest = distinct_rest;
+  free_front = λ m ops more. free_front ops more m;
+  free_rest = λ m ops more. free_rest ops more m;
 }
 
 empty_total : {X : Type 0} (w : X → ℕ) → total w empty ≡ 0

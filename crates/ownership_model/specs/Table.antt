@@ -262,8 +262,8 @@ abbrev pub copy_field : ℕ → ℕ → Option Holding → Option ℕ → List S
 copy_field i to there owner fields =
     field_at i (slice_get fields i) (λ s. free to there (act answer.Done (SetHandle to (holding.Slot s) ∷ []) [] owner))
 
--- The rows: each asks what its members want, and then says what is answered, what changes, what is then dropped, and whose counts
--- are told.
+-- The rows: each asks what its members want, and then says what is answered, what changes, what is then dropped, and whose
+-- counts are told.
 abbrev pub row_of : ℕ → Kind → View → Plan
 -- Arc::new: the values move in from the handles, which end
 row_of id (kind.New to fields) v = new_row id to v.elements v.first
