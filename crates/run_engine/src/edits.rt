@@ -1,0 +1,145 @@
+//! The trace after a batch of edits.
+ghost use Rattle.std.specs.Prelude.{◌≡◌, ◌<◌, ◌≤◌, length, ◌⊎◌, IfOk, OnOk, IfErr, IfSome, Ok, Err};
+ghost use Rattle.trace_types.specs.Trace.{place_of};
+ghost use Rattle.run_engine.specs.declared.faults.RunFault.TheVariants.{EmptyBatch, TooManyEdits, Memory};
+ghost use Rattle.run_engine.specs.Edited.{place_after, inserted, removed, changed, edited_one, edited_by};
+
+use crate::faults::RunFault;
+use crate::listing::Listing;
+use std::alloc::Global;
+use trace_types::edits::{Batch, Edit};
+use trace_types::ops::Op;
+use trace_types::trace::{MAX_OPS, Trace};
+
+/// How many edits a batch may have.
+pub const MAX_EDITS: usize = 64;
+
+/// The trace after the edits. The size of the batch is tried first, which takes no memory. Then the edits are tried in
+/// order, each on the result of those before it.
+pub fn apply(alloc: Global, trace: &Trace, batch: &Batch) -> Result<Trace, RunFault>
+    ensures ok { IfOk result (λ t. edited_by trace.now batch.now ≡ Ok t) }
+    ensures fault { IfErr result (λ e. (e ≡ Memory) ⊎ (edited_by trace.now batch.now ≡ Err e)) }
+    ensures empty { length batch.now ≡ 0 → result ≡ Err EmptyBatch }
+    ensures too_many { 64 < length batch.now → result ≡ Err TooManyEdits }
+{
+    try_size(batch.len())?;
+    let mut ops = Listing::empty(alloc);
+    if ops.extend(trace.as_slice()).is_err() {
+        return Err(RunFault::Memory);
+    }
+    edit(&mut ops, batch.as_slice())?;
+    copied(alloc, &ops)
+}
+
+/// Whether a batch may have so many edits.
+pub fn try_size(len: usize) -> Result<(), RunFault>
+    ensures ok { OnOk result ((0 < len) × (len ≤ 64)) }
+    ensures fault { IfErr result (λ e. ((e ≡ EmptyBatch) × (len ≡ 0)) ⊎ ((e ≡ TooManyEdits) × (64 < len))) }
+{
+    if len == 0 {
+        return Err(RunFault::EmptyBatch);
+    }
+    if len > MAX_EDITS {
+        return Err(RunFault::TooManyEdits);
+    }
+    Ok(())
+}
+
+/// Carries out the edits in order. After a refusal those before it stay.
+pub fn edit<'a>(ops: &mut Listing<'a>, batch: &'a [Edit]) -> Result<(), RunFault>
+    requires some { 0 < length batch.now }
+    requires few { length batch.now ≤ 64 }
+    ensures ok { OnOk result (edited_by ops.old batch.now ≡ Ok ops.new) }
+    ensures fault { IfErr result (λ e. (e ≡ Memory) ⊎ (edited_by ops.old batch.now ≡ Err e)) }
+{
+    for i in 0..batch.len() {
+        edit_one(ops, &batch[i], i as u64)?;
+    }
+    Ok(())
+}
+
+fn edit_one<'a>(ops: &mut Listing<'a>, edit: &'a Edit, index: u64) -> Result<(), RunFault>
+    ensures ok { OnOk result (edited_one index ops.old edit.now ≡ Ok ops.new) }
+    ensures fault { IfErr result (λ e. (e ≡ Memory) ⊎ (edited_one index ops.old edit.now ≡ Err e)) }
+{
+    match edit {
+        Edit::Insert { after, op } => insert(ops, *after, op, index),
+        Edit::Remove { id } => remove(ops, *id, index),
+        Edit::Change { id, op } => change(ops, *id, op, index),
+    }
+}
+
+fn insert<'a>(ops: &mut Listing<'a>, after: u32, op: &'a Op, index: u64) -> Result<(), RunFault>
+    ensures ok { OnOk result (inserted index ops.old op.now (place_after after ops.old) ≡ Ok ops.new) }
+    ensures fault { IfErr result (λ e. (e ≡ Memory) ⊎ (inserted index ops.old op.now (place_after after ops.old) ≡ Err e)) }
+{
+    let Some(place) = place_after(ops, after) else {
+        return Err(RunFault::NoSuchOp(index));
+    };
+    if ops.is_taken(op.id()) {
+        return Err(RunFault::IdTaken(index));
+    }
+    if ops.len() >= MAX_OPS {
+        return Err(RunFault::TooMany(index));
+    }
+    if ops.insert(place, op).is_err() {
+        return Err(RunFault::Memory);
+    }
+    Ok(())
+}
+
+fn remove(ops: &mut Listing, id: u32, index: u64) -> Result<(), RunFault>
+    ensures ok { OnOk result (removed index ops.old (place_of id ops.old) ≡ Ok ops.new) }
+    ensures fault { IfErr result (λ e. removed index ops.old (place_of id ops.old) ≡ Err e) }
+{
+    let Some(place) = ops.place(id) else {
+        return Err(RunFault::NoSuchOp(index));
+    };
+    ops.remove(place);
+    Ok(())
+}
+
+fn change<'a>(ops: &mut Listing<'a>, id: u32, op: &'a Op, index: u64) -> Result<(), RunFault>
+    ensures ok { OnOk result (changed index ops.old id op.now (place_of id ops.old) ≡ Ok ops.new) }
+    ensures fault { IfErr result (λ e. changed index ops.old id op.now (place_of id ops.old) ≡ Err e) }
+{
+    let Some(place) = ops.place(id) else {
+        return Err(RunFault::NoSuchOp(index));
+    };
+    if op.id() != id && ops.is_taken(op.id()) {
+        return Err(RunFault::IdTaken(index));
+    }
+    ops.set(place, op);
+    Ok(())
+}
+
+// Where an operation goes that comes right after operation `after`.
+fn place_after(ops: &Listing, after: u32) -> Option<usize>
+    ensures value { result ≡ place_after after ops.now }
+    ensures within { IfSome result (λ place. place ≤ length ops.now) }
+{
+    if after == 0 {
+        return Some(0);
+    }
+    match ops.place(after) {
+        Some(place) => Some(place + 1),
+        None => None,
+    }
+}
+
+// A trace of copies of the operations. Their numbers are distinct, so that only memory can be wanting.
+fn copied(alloc: Global, ops: &Listing) -> Result<Trace, RunFault>
+    ensures ok { IfOk result (λ t. t ≡ ops.now) }
+    ensures fault { IfErr result (λ e. e ≡ Memory) }
+{
+    let mut trace = Trace::new(alloc);
+    for place in 0..ops.len() {
+        let Ok(op) = ops.at(place).copy(alloc) else {
+            return Err(RunFault::Memory);
+        };
+        if trace.push(op).is_err() {
+            return Err(RunFault::Memory);
+        }
+    }
+    Ok(trace)
+}

@@ -1,0 +1,107 @@
+//! Operations that stand elsewhere, in an order of their own.
+ghost use Rattle.std.specs.Prelude.{◌≡◌, ◌<◌, ◌≤◌, ◌++◌, ◌∷◌, [], length, IfOk, OnOk, IfSome, slice_index_or, insert, remove, slice_set};
+ghost use Rattle.trace_types.specs.Trace.{place_of, is_taken};
+
+use std::alloc::{AllocError, Global};
+use std::marker::Model;
+use trace_types::ops::Op;
+
+/// Operations that stand elsewhere, in an order of their own. Contracts see the list of the operations.
+///
+/// A trace is edited as such a listing, so that no operation that stays is copied.
+#[derive(Drop)]
+pub struct Listing<'a> {
+    ops: Vec<&'a Op>,
+}
+
+impl<'a> Model for Listing<'a> {
+    ghost use Rattle.std.specs.Prelude.{List, map};
+    ghost use Rattle.trace_types.specs.Operation.{Operation};
+
+    ghost Value = { List Operation };
+
+    ghost view = { λ l. map (λ op. op.now) l.ops.items };
+}
+
+impl<'a> Listing<'a> {
+    /// Takes no memory.
+    pub fn empty(alloc: Global) -> Self
+        ensures { result ≡ [] }
+    {
+        Listing {
+            ops: Vec::new(alloc),
+        }
+    }
+
+    pub fn len(&self) -> usize
+        ensures { result ≡ length self.now }
+    {
+        self.ops.len()
+    }
+
+    /// The operation at a place.
+    pub fn at(&self, place: usize) -> &'a Op
+        requires { place < length self.now }
+        ensures { result.now ≡ slice_index_or self.now place result.now }
+    {
+        self.ops[place]
+    }
+
+    /// Adds operations at the end.
+    pub fn extend(&mut self, more: &'a [Op]) -> Result<(), AllocError>
+        ensures { OnOk result (self.new ≡ self.old ++ more.now) }
+    {
+        for op in more {
+            self.push(op)?;
+        }
+        Ok(())
+    }
+
+    fn push(&mut self, op: &'a Op) -> Result<(), AllocError>
+        ensures { OnOk result (self.new ≡ self.old ++ op.now ∷ []) }
+    {
+        Ok(self.ops.push(op)?)
+    }
+
+    /// Puts an operation in front of the one at a place, or at the end.
+    pub fn insert(&mut self, place: usize, op: &'a Op) -> Result<(), AllocError>
+        requires { place ≤ length self.old }
+        ensures { OnOk result (self.new ≡ insert self.old place op.now) }
+    {
+        Ok(self.ops.insert(place, op)?)
+    }
+
+    pub fn remove(&mut self, place: usize)
+        requires { place < length self.old }
+        ensures { self.new ≡ remove self.old place }
+    {
+        self.ops.remove(place);
+    }
+
+    pub fn set(&mut self, place: usize, op: &'a Op)
+        requires { place < length self.old }
+        ensures { self.new ≡ slice_set self.old place op.now }
+    {
+        self.ops[place] = op;
+    }
+
+    /// Where the operation with this number stands, from 0.
+    pub fn place(&self, id: u32) -> Option<usize>
+        ensures value { result ≡ place_of id self.now }
+        ensures within { IfSome result (λ place. place < length self.now) }
+        ensures fits { IfSome result (λ place. place < usize.MAX) }
+    {
+        for place in 0..self.len() {
+            if self.at(place).id() == id {
+                return Some(place);
+            }
+        }
+        None
+    }
+
+    pub fn is_taken(&self, id: u32) -> bool
+        ensures { result ≡ is_taken id self.now }
+    {
+        self.place(id).is_some()
+    }
+}
