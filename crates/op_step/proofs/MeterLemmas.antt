@@ -1,5 +1,5 @@
 -- A count that is raised step by step.
-use Rattle.std.proofs.Common.{◌≡◌, ◌≤◌, ◌+◌, ℕ, arith}
+use Rattle.std.proofs.Common.{◌≡◌, ◌+◌, ℕ, arith}
 use Rattle.op_step.specs.Meter.{raised}
 
 pub raised-next : (count more : ℕ) → raised (raised count more) 1 ≡ raised count (more + 1)

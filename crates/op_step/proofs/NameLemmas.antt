@@ -1,5 +1,5 @@
 -- Handles that fields name.
-use Rattle.std.proofs.Common.{◌≡◌, ℕ, ◌+◌, ◌<◌, arith, List, [], ◌∷◌, ◌++◌, length, take, drop, get_or, refl, ap, ◌∙◌, sym, subst, Bool, true, false}
+use Rattle.std.proofs.Common.{◌≡◌, ℕ, ◌+◌, ◌<◌, List, [], ◌∷◌, ◌++◌, length, take, drop, get_or, refl, ap, ◌∙◌, sym, Bool, true, false}
 use Rattle.std.specs.Prelude.{◌==◌, ◌||◌, Option, Some, if◌then◌else◌}
 use Rattle.std.specs.List.{list_any}
 use Rattle.std.proofs.lemmas.List.{drop_more, take_more}
@@ -19,7 +19,6 @@ swap true true c = refl
 swap true false c = refl
 swap false true c = refl
 swap false false c = refl
-
 
 no_more : (b : Bool) → b ≡ (b || false)
 no_more true = refl

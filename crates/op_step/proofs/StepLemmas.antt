@@ -4,7 +4,7 @@ use Rattle.trace_types.specs.Operation.{Operation}
 use Rattle.ownership_model.specs.State.{State}
 use Rattle.ownership_model.specs.View.{view_of}
 use Rattle.ownership_model.specs.Table.{row}
-use Rattle.ownership_model.specs.Step.{step, carried_out, Stepped}
+use Rattle.ownership_model.specs.Step.{step, carried_out}
 use Rattle.ownership_model.specs.declared.plan.Plan.{Plan}
 
 pub carried_out-step : (m : State) (op : Operation) (id : ℕ) (p : Plan) → id ≡ op.id → p ≡ row op (view_of m op.kind) → carried_out m id p ≡ step m op

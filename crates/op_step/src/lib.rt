@@ -12,7 +12,6 @@ mod names;
 pub mod plan;
 pub mod replay;
 pub mod step;
-mod unique;
-
 #[cfg(test)]
 mod tests;
+mod unique;

@@ -34,7 +34,14 @@ fn row_plan(alloc: Global, heap: &Heap, id: u32, kind: &Kind) -> Result<Plan, Al
             make::new(alloc, id, *to, fields.as_slice(), heap)
         }
         Kind::NewFrom { from, to } => {
-            make::new_from(alloc, id, *from, *to, heap.holding(*from), heap.holding(*to))
+            make::new_from(
+                alloc,
+                id,
+                *from,
+                *to,
+                heap.holding(*from),
+                heap.holding(*to),
+            )
         }
         Kind::WeakNew { to } => make::weak_new(alloc, *to, heap.holding(*to)),
         Kind::Null { to } => make::null(alloc, *to, heap.holding(*to)),
@@ -98,7 +105,15 @@ fn row_plan(alloc: Global, heap: &Heap, id: u32, kind: &Kind) -> Result<Plan, Al
         }
         Kind::CellSwap { c, from, to } => {
             let second = held_by(heap, *to);
-            cells::cell_swap(alloc, *c, *from, *to, heap.cell(*c), heap.holding(*from), second)
+            cells::cell_swap(
+                alloc,
+                *c,
+                *from,
+                *to,
+                heap.cell(*c),
+                heap.holding(*from),
+                second,
+            )
         }
         Kind::CellCas {
             c,

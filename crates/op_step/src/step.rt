@@ -63,12 +63,7 @@ pub fn see_kept(heap: &Heap)
     let _held = heap.holding(0);
 }
 
-fn carry_out(
-    alloc: Global,
-    heap: Heap,
-    id: u32,
-    plan: Plan,
-) -> Result<(Heap, Outcome), AllocError>
+fn carry_out(alloc: Global, heap: Heap, id: u32, plan: Plan) -> Result<(Heap, Outcome), AllocError>
     requires carriable { IsCarriable heap plan }
     requires fits { PlanFits plan }
     ensures state { IfOk result (λ r. r.0 ≡ (carried_out heap id plan).state) }

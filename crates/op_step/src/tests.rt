@@ -88,7 +88,11 @@ fn empty_trace(rt: HostRuntime) -> Result<(), Fail> {
 #[test]
 fn meter_counts_operations(rt: HostRuntime) -> Result<(), Fail> {
     let alloc = rt.alloc();
-    let kinds = vec![in alloc; Kind::Null { to: 0 }, Kind::Drop { h: 0 }, Kind::Drop { h: 0 }]?;
+    let kinds = vec![in alloc;
+        Kind::Null { to: 0 },
+        Kind::Drop { h: 0 },
+        Kind::Drop { h: 0 },
+    ]?;
     let trace = trace_of(alloc, kinds)?;
     let mut meter = Meter::new();
     let (_outcomes, _end) = replay(alloc, &trace, &mut meter)?;
@@ -117,14 +121,29 @@ fn chunk_keeps_its_replay(rt: HostRuntime) -> Result<(), Fail> {
 fn nested_fields(rt: HostRuntime) -> Result<(), Fail> {
     let alloc = rt.alloc();
     let fields = Sequence::from_vec(Vec::from_slice(alloc, &[Field::Held(0)])?);
-    let more_fields = Sequence::from_vec(Vec::from_slice(alloc, &[Field::Held(1), Field::Held(3), Field::Held(4)])?);
+    let more_fields = Sequence::from_vec(Vec::from_slice(
+        alloc,
+        &[Field::Held(1), Field::Held(3), Field::Held(4)],
+    )?);
     let kinds = vec![in alloc;
-        Kind::New { to: 0, fields: Sequence::empty(alloc) },
+        Kind::New {
+            to: 0,
+            fields: Sequence::empty(alloc)
+        },
         Kind::New { to: 1, fields },
-        Kind::New { to: 2, fields: Sequence::empty(alloc) },
+        Kind::New {
+            to: 2,
+            fields: Sequence::empty(alloc)
+        },
         Kind::Downgrade { from: 2, to: 3 },
-        Kind::New { to: 4, fields: Sequence::empty(alloc) },
-        Kind::New { to: 5, fields: more_fields },
+        Kind::New {
+            to: 4,
+            fields: Sequence::empty(alloc)
+        },
+        Kind::New {
+            to: 5,
+            fields: more_fields
+        },
         Kind::Drop { h: 5 },
     ]?;
     let told = [
@@ -134,7 +153,22 @@ fn nested_fields(rt: HostRuntime) -> Result<(), Fail> {
         did(Answer::Done, 3, 1, 1, &[]),
         did(Answer::Made, 5, 1, 0, &[]),
         did(Answer::Made, 6, 1, 0, &[]),
-        did(Answer::Done, 6, 0, 0, &[Event::Destroyed(6), Event::Destroyed(2), Event::Destroyed(1), Event::Freed(1), Event::Freed(2), Event::Destroyed(5), Event::Freed(5), Event::Freed(6)]),
+        did(
+            Answer::Done,
+            6,
+            0,
+            0,
+            &[
+                Event::Destroyed(6),
+                Event::Destroyed(2),
+                Event::Destroyed(1),
+                Event::Freed(1),
+                Event::Freed(2),
+                Event::Destroyed(5),
+                Event::Freed(5),
+                Event::Freed(6),
+            ],
+        ),
     ];
     assert_told(&rt, alloc, kinds, told.as_slice())
 }
@@ -143,7 +177,10 @@ fn nested_fields(rt: HostRuntime) -> Result<(), Fail> {
 fn make_mut(rt: HostRuntime) -> Result<(), Fail> {
     let alloc = rt.alloc();
     let kinds = vec![in alloc;
-        Kind::New { to: 0, fields: Sequence::empty(alloc) },
+        Kind::New {
+            to: 0,
+            fields: Sequence::empty(alloc)
+        },
         Kind::Clone { from: 0, to: 1 },
         Kind::MakeMut { h: 0 },
         Kind::Downgrade { from: 0, to: 2 },
@@ -168,7 +205,10 @@ fn unwrap(rt: HostRuntime) -> Result<(), Fail> {
     let alloc = rt.alloc();
     let fields = Sequence::from_vec(Vec::from_slice(alloc, &[Field::Held(0)])?);
     let kinds = vec![in alloc;
-        Kind::New { to: 0, fields: Sequence::empty(alloc) },
+        Kind::New {
+            to: 0,
+            fields: Sequence::empty(alloc)
+        },
         Kind::New { to: 1, fields },
         Kind::Clone { from: 1, to: 2 },
         Kind::TryUnwrap { h: 1 },
@@ -196,16 +236,37 @@ fn unwrap(rt: HostRuntime) -> Result<(), Fail> {
 fn atomic_cells(rt: HostRuntime) -> Result<(), Fail> {
     let alloc = rt.alloc();
     let kinds = vec![in alloc;
-        Kind::New { to: 0, fields: Sequence::empty(alloc) },
+        Kind::New {
+            to: 0,
+            fields: Sequence::empty(alloc)
+        },
         Kind::Clone { from: 0, to: 1 },
         Kind::CellNew { c: 0, from: 1 },
-        Kind::New { to: 2, fields: Sequence::empty(alloc) },
-        Kind::CellCas { c: 0, expected: 0, desired: 2 },
-        Kind::New { to: 3, fields: Sequence::empty(alloc) },
-        Kind::CellCas { c: 0, expected: 0, desired: 3 },
+        Kind::New {
+            to: 2,
+            fields: Sequence::empty(alloc)
+        },
+        Kind::CellCas {
+            c: 0,
+            expected: 0,
+            desired: 2
+        },
+        Kind::New {
+            to: 3,
+            fields: Sequence::empty(alloc)
+        },
+        Kind::CellCas {
+            c: 0,
+            expected: 0,
+            desired: 3
+        },
         Kind::Null { to: 4 },
         Kind::Null { to: 5 },
-        Kind::CellCas { c: 0, expected: 4, desired: 5 },
+        Kind::CellCas {
+            c: 0,
+            expected: 4,
+            desired: 5
+        },
         Kind::CellDrop { c: 0 },
     ]?;
     let told = [
@@ -215,7 +276,18 @@ fn atomic_cells(rt: HostRuntime) -> Result<(), Fail> {
         did(Answer::Made, 4, 1, 0, &[]),
         did(Answer::Yes, 4, 1, 0, &[]),
         did(Answer::Made, 6, 1, 0, &[]),
-        did(Answer::No, 4, 2, 0, &[Event::Destroyed(1), Event::Freed(1), Event::Destroyed(6), Event::Freed(6)]),
+        did(
+            Answer::No,
+            4,
+            2,
+            0,
+            &[
+                Event::Destroyed(1),
+                Event::Freed(1),
+                Event::Destroyed(6),
+                Event::Freed(6),
+            ],
+        ),
         did_to_none(Answer::Done, &[]),
         did_to_none(Answer::Done, &[]),
         did(Answer::No, 4, 3, 0, &[]),
@@ -228,13 +300,27 @@ fn atomic_cells(rt: HostRuntime) -> Result<(), Fail> {
 fn cell_swaps(rt: HostRuntime) -> Result<(), Fail> {
     let alloc = rt.alloc();
     let kinds = vec![in alloc;
-        Kind::New { to: 0, fields: Sequence::empty(alloc) },
+        Kind::New {
+            to: 0,
+            fields: Sequence::empty(alloc)
+        },
         Kind::CellNew { c: 0, from: 0 },
         Kind::CellLoad { c: 0, to: 1 },
-        Kind::New { to: 2, fields: Sequence::empty(alloc) },
-        Kind::CellSwap { c: 0, from: 2, to: Some(3) },
+        Kind::New {
+            to: 2,
+            fields: Sequence::empty(alloc)
+        },
+        Kind::CellSwap {
+            c: 0,
+            from: 2,
+            to: Some(3)
+        },
         Kind::Null { to: 4 },
-        Kind::CellSwap { c: 0, from: 4, to: None },
+        Kind::CellSwap {
+            c: 0,
+            from: 4,
+            to: None
+        },
         Kind::Drop { h: 1 },
         Kind::Drop { h: 3 },
     ]?;
@@ -247,7 +333,13 @@ fn cell_swaps(rt: HostRuntime) -> Result<(), Fail> {
         did_to_none(Answer::Done, &[]),
         did_to_none(Answer::Done, &[Event::Destroyed(4), Event::Freed(4)]),
         did(Answer::Done, 1, 1, 0, &[]),
-        did(Answer::Done, 1, 0, 0, &[Event::Destroyed(1), Event::Freed(1)]),
+        did(
+            Answer::Done,
+            1,
+            0,
+            0,
+            &[Event::Destroyed(1), Event::Freed(1)],
+        ),
     ];
     assert_told(&rt, alloc, kinds, told.as_slice())
 }
@@ -259,8 +351,15 @@ fn bare_values(rt: HostRuntime) -> Result<(), Fail> {
     let kinds = vec![in alloc;
         Kind::New { to: 0, fields },
         Kind::TryUnwrap { h: 0 },
-        Kind::New { to: 1, fields: Sequence::empty(alloc) },
-        Kind::Set { h: 0, i: 0, from: 1 },
+        Kind::New {
+            to: 1,
+            fields: Sequence::empty(alloc)
+        },
+        Kind::Set {
+            h: 0,
+            i: 0,
+            from: 1
+        },
         Kind::NewFrom { from: 0, to: 2 },
         Kind::Get { h: 2, i: 0, to: 3 },
         Kind::Counts { h: 3 },
@@ -272,7 +371,13 @@ fn bare_values(rt: HostRuntime) -> Result<(), Fail> {
     ]?;
     let told = [
         did(Answer::Made, 1, 1, 0, &[]),
-        did(Answer::Yes, 1, 0, 0, &[Event::Unwrapped(1), Event::Freed(1)]),
+        did(
+            Answer::Yes,
+            1,
+            0,
+            0,
+            &[Event::Unwrapped(1), Event::Freed(1)],
+        ),
         did(Answer::Made, 3, 1, 0, &[]),
         did_to_none(Answer::Done, &[]),
         did(Answer::Made, 5, 1, 0, &[]),
@@ -281,8 +386,20 @@ fn bare_values(rt: HostRuntime) -> Result<(), Fail> {
         did(Answer::Done, 5, 1, 0, &[]),
         did(Answer::Done, 3, 2, 0, &[]),
         did(Answer::Done, 3, 1, 0, &[]),
-        did(Answer::Done, 3, 0, 0, &[Event::Destroyed(3), Event::Freed(3)]),
-        did(Answer::Done, 5, 0, 0, &[Event::Destroyed(5), Event::Freed(5)]),
+        did(
+            Answer::Done,
+            3,
+            0,
+            0,
+            &[Event::Destroyed(3), Event::Freed(3)],
+        ),
+        did(
+            Answer::Done,
+            5,
+            0,
+            0,
+            &[Event::Destroyed(5), Event::Freed(5)],
+        ),
     ];
     assert_told(&rt, alloc, kinds, told.as_slice())
 }
@@ -292,8 +409,14 @@ fn skips(rt: HostRuntime) -> Result<(), Fail> {
     let alloc = rt.alloc();
     let kinds = vec![in alloc;
         Kind::Drop { h: 5 },
-        Kind::New { to: 0, fields: Sequence::empty(alloc) },
-        Kind::New { to: 0, fields: Sequence::empty(alloc) },
+        Kind::New {
+            to: 0,
+            fields: Sequence::empty(alloc)
+        },
+        Kind::New {
+            to: 0,
+            fields: Sequence::empty(alloc)
+        },
         Kind::Upgrade { from: 0, to: 1 },
         Kind::Clone { from: 0, to: 0 },
         Kind::Get { h: 0, i: 0, to: 1 },
@@ -315,7 +438,13 @@ fn skips(rt: HostRuntime) -> Result<(), Fail> {
         skipped(Reason::NoField(0)),
         skipped(Reason::NoCell(3)),
         did(Answer::Yes, 2, 1, 0, &[]),
-        did(Answer::Done, 2, 0, 0, &[Event::Destroyed(2), Event::Freed(2)]),
+        did(
+            Answer::Done,
+            2,
+            0,
+            0,
+            &[Event::Destroyed(2), Event::Freed(2)],
+        ),
         skipped(Reason::NotHeld(0)),
         did_to_none(Answer::Done, &[]),
         did_to_none(Answer::Done, &[]),

@@ -1,4 +1,4 @@
-use Rattle.std.proofs.Common.{◌≡◌, sym, subst}
+use Rattle.std.proofs.Common.{sym, subst}
 use Rattle.ownership_model.specs.State.{State}
 use Rattle.ownership_model.specs.Step.{AreNew}
 use Rattle.ownership_model.proofs.JoinedLemmas.{soundness_holds}

@@ -1,4 +1,4 @@
-use Rattle.std.proofs.Common.{◌≡◌, sym, subst, List}
+use Rattle.std.proofs.Common.{sym, subst, List}
 use Rattle.trace_types.specs.Operation.{Operation}
 use Rattle.ownership_model.specs.State.{State, nothing_held}
 use Rattle.ownership_model.specs.Step.{AreNew}

@@ -1,4 +1,4 @@
-use Rattle.std.proofs.Common.{◌≡◌, ◌++◌, [], drop}
+use Rattle.std.proofs.Common.{◌≡◌, ◌++◌, drop}
 use Rattle.ownership_model.specs.Step.{outcomes_from, end_from, AreNew}
 use Rattle.op_step.specs.Meter.{raised}
 use Rattle.op_step.proofs.replay.replay_from.Given as goal

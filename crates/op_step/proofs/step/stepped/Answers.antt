@@ -1,4 +1,4 @@
-use Rattle.std.proofs.Common.{◌≡◌, ◌∙◌, ap, sym, subst}
+use Rattle.std.proofs.Common.{◌∙◌, ap, sym, subst}
 use Rattle.ownership_model.specs.Carry.{IsCarriable}
 use Rattle.ownership_model.specs.Bounds.{PlanFits}
 use Rattle.ownership_model.specs.Step.{Stepped}

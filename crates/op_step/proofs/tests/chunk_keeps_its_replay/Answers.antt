@@ -1,4 +1,4 @@
-use Rattle.std.proofs.Common.{◌≡◌, sym, subst}
+use Rattle.std.proofs.Common.{sym, subst}
 use Rattle.ownership_model.specs.State.{State}
 use Rattle.ownership_model.specs.Agrees.{AreFree}
 use Rattle.ownership_model.proofs.ReplayLemmas.{nothing_taken}
