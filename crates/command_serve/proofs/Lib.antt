@@ -1,2 +1,1 @@
 mod Served
-pub mod Replayed

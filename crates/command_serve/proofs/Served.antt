@@ -4,7 +4,7 @@ use Rattle.std.specs.Bool.{if◌then◌else◌}
 use Rattle.std.specs.Io.KnownBytes.{Appends, Consumes, IsAtEnd}
 use Rattle.std.proofs.KnownBytes.{Appends-nil}
 use Rattle.trace_types.specs.Devices.{IsInput, AppendsFront}
-use Rattle.command_serve.specs.Serve.{max_input, is_too_long, Due, too_long, due_of, IsAnswer, IsRead, IsDone, IsServed}
+use Rattle.command_serve.specs.Serve.{max_input, is_too_long, Due, too_long, exit_of, due_of, IsRead, IsDone, IsServed}
 use Rattle.command_serve.specs.declared.exits.Exit.{Exit}
 use Rattle.command_serve.specs.declared.exits.Exit.TheVariants.{Fine, Trace, Device, Memory}
 
@@ -44,23 +44,22 @@ read-short left left' input l ended = (λ _. ended, λ long. let e : is_too_long
 pub read-long : (left left' : Option (List ℕ)) (input bytes : List ℕ) → max_input < length input → Consumes left left' bytes → length bytes ≡ 300000001 → IsRead left left' input
 read-long left left' input bytes l h n = ((λ short. absurd (omega (arith, l))), (λ _. (bytes, h, n)))
 
-pub due_is_answer : (answer : List ℕ → Due) (input : List ℕ) → IsAnswer (answer input) → IsAnswer (due_of answer input)
-unfolding due_of
-due_is_answer answer input is = by_length (is_too_long input)
-  where
-    by_length : (b : Bool) → IsAnswer (if b then too_long else answer input)
-    by_length true = inr refl
-    by_length false = is
+done_at : (b : Bool) (left left' held held' : Option (List ℕ)) (input : List ℕ) (due : Due) → due.is_fault ≡ b → IsRead left left' input → Appends held held' due.text
+    → IsServed left left' held held' input due (if b then Trace else Fine)
+done_at true left left' held held' input due e read text = (ap (λ b. if b then Trace else Fine) (sym e), read, text)
+done_at false left left' held held' input due e read text = (ap (λ b. if b then Trace else Fine) (sym e), read, text)
 
-pub served_all : (left left' held held' : Option (List ℕ)) (input : List ℕ) (due : Due) (exit : Exit) → IsAnswer due → exit ≡ due.exit → IsRead left left' input
+pub served_all : (left left' held held' : Option (List ℕ)) (input : List ℕ) (due : Due) (exit : Exit) → exit ≡ exit_of due → IsRead left left' input
     → Appends held held' due.text → IsServed left left' held held' input due exit
-served_all left left' held held' input due exit is e read text = elim is [
-  | inl f ↦ subst (IsServed left left' held held' input due) (sym (e ∙ f)) (sym f, read, text)
-  | inr f ↦ subst (IsServed left left' held held' input due) (sym (e ∙ f)) (sym f, read, text)
-]
+served_all left left' held held' input due exit e read text =
+    subst (IsServed left left' held held' input due) (sym e) (done_at due.is_fault left left' held held' input due refl read text)
 
-pub never_device : (due : Due) → IsAnswer due → due.exit ≡ Device → ⊥
-never_device due is e = elim is [ inl f ↦ cc | inr f ↦ cc ]
+not_device : (b : Bool) → (if b then Trace else Fine) ≡ Device → ⊥
+not_device true e = cc
+not_device false e = cc
+
+pub never_device : (due : Due) → exit_of due ≡ Device → ⊥
+never_device due e = not_device due.is_fault e
 
 -- nothing was written
 pub served_none : (answer : List ℕ → Due) (left left' held : Option (List ℕ)) (exit : Exit) (F : Type 0) → (exit ≡ Memory) ⊎ ((exit ≡ Device) × F)

@@ -1,5 +1,5 @@
 -- What `replay` writes for an input.
-use Rattle.std.specs.Prelude.{ℕ, List, [], ◌∷◌, ◌++◌, Result, Ok, Err}
+use Rattle.std.specs.Prelude.{ℕ, List, [], ◌∷◌, ◌++◌, true, false, Result, Ok, Err}
 use Rattle.trace_types.specs.Operation.{Operation}
 use Rattle.ownership_model.specs.State.{nothing_held}
 use Rattle.ownership_model.specs.Step.{outcomes_from, end_from}
@@ -9,7 +9,6 @@ use Rattle.trace_reader.specs.Reading.{read_trace}
 use Rattle.leak_report.specs.Report.{report_of}
 use Rattle.leak_report.specs.Text.{report_text}
 use Rattle.command_serve.specs.Serve.{Due}
-use Rattle.command_serve.specs.declared.exits.Exit.TheVariants.{Fine, Trace}
 
 -- the report of the replay of a trace from an empty heap
 abbrev pub report_of_replay : List Operation → List ℕ
@@ -17,8 +16,8 @@ report_of_replay ops = report_text (report_of ops (outcomes_from nothing_held op
 
 -- the report, or the line of the first fault
 abbrev pub answer_of : Result (List Operation) LineFault → Due
-answer_of (Ok ops) = record { text = report_of_replay ops; exit = Fine }
-answer_of (Err fault) = record { text = fault_text fault ++ 10 ∷ []; exit = Trace }
+answer_of (Ok ops) = record { text = report_of_replay ops; is_fault = false }
+answer_of (Err fault) = record { text = fault_text fault ++ 10 ∷ []; is_fault = true }
 
 unfoldable pub replay_due : List ℕ → Due
 replay_due input = answer_of (read_trace input)

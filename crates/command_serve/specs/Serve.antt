@@ -1,5 +1,5 @@
 -- What a command has read and written when it ends, for what is due for an input.
-use Rattle.std.specs.Prelude.{◌≡◌, ◌⊎◌, ℕ, ◌≤◌, List, length, Bool, true, nat_lt, if◌then◌else◌, codes, Option}
+use Rattle.std.specs.Prelude.{◌≡◌, ℕ, ◌≤◌, List, length, Bool, true, nat_lt, if◌then◌else◌, codes, Option}
 use Rattle.std.specs.Io.KnownBytes.{Appends, Consumes, IsAtEnd}
 use Rattle.trace_types.specs.Devices.{IsInput, AppendsFront}
 use Rattle.command_serve.specs.declared.exits.Exit.{Exit}
@@ -12,21 +12,21 @@ max_input = 300000000
 abbrev pub is_too_long : List ℕ → Bool
 is_too_long input = nat_lt max_input (length input)
 
--- the text that is to be written, and how the command ends
+-- the text that is to be written for an input, and whether it tells a fault of the input
 pub record Due : Type 0 where
   pub text : List ℕ
-  pub exit : Exit
+  pub is_fault : Bool
+
+-- how a command ends that has written it
+abbrev pub exit_of : Due → Exit
+exit_of due = if due.is_fault then Trace else Fine
 
 abbrev pub too_long : Due
-too_long = record { text = codes "fault input TooLong\n"; exit = Trace }
+too_long = record { text = codes "fault input TooLong\n"; is_fault = true }
 
 -- what is due for an input, given what is due for one that is not too long
 unfoldable pub due_of : (List ℕ → Due) → List ℕ → Due
 due_of answer input = if is_too_long input then too_long else answer input
-
--- a command's answer ends Fine or Trace
-abbrev pub IsAnswer : Due → Type 0
-IsAnswer due = (due.exit ≡ Fine) ⊎ (due.exit ≡ Trace)
 
 -- an input was read until a read gave no bytes, or until one byte more than is allowed
 abbrev pub IsRead : Option (List ℕ) → Option (List ℕ) → List ℕ → Type 0
@@ -35,7 +35,7 @@ IsRead left left' input = (length input ≤ max_input → IsAtEnd left')
 
 -- all of what is due was written, and nothing else
 abbrev pub IsDone : Option (List ℕ) → Option (List ℕ) → Option (List ℕ) → Option (List ℕ) → List ℕ → Due → Exit → Type 0
-IsDone left left' held held' input due exit = (exit ≡ due.exit) × IsRead left left' input × Appends held held' due.text
+IsDone left left' held held' input due exit = (exit ≡ exit_of due) × IsRead left left' input × Appends held held' due.text
 
 -- an exit Fine or Trace says that all was done; Device and Memory that a front of what is due was written
 abbrev pub IsServed : Option (List ℕ) → Option (List ℕ) → Option (List ℕ) → Option (List ℕ) → List ℕ → Due → Exit → Type 0

@@ -1,6 +1,6 @@
 //! The command `replay`: a trace in, its report out.
 ghost use Rattle.std.specs.Prelude.{◌≡◌, ◌⊎◌, true, IfOk, IfErr};
-ghost use Rattle.command_serve.specs.Serve.{Serves};
+ghost use Rattle.command_serve.specs.Serve.{Serves, exit_of};
 ghost use Rattle.command_serve.specs.Replay.{replay_due, report_of_replay};
 
 use crate::exits::Exit;
@@ -26,21 +26,18 @@ struct Replay;
 
 impl Answers for Replay {
     ghost use Rattle.command_serve.specs.Replay.{replay_due};
-    ghost use Rattle.command_serve.proofs.Replayed.{replay_is_answer};
 
     ghost due = { replay_due };
 
     fn answer(alloc: Global, input: &[u8]) -> Result<(Vec<u8>, Exit), Exit> {
         answer_to(alloc, input)
     }
-
-    ghost ends = { replay_is_answer };
 }
 
 // The text that is due for an input, with the exit.
 #[tactic(auto, unfolding(crate::specs::Replay::replay_due))]
 fn answer_to(alloc: Global, input: &[u8]) -> Result<(Vec<u8>, Exit), Exit>
-    ensures ok { IfOk result (λ r. (r.0.items ≡ (replay_due input.now).text) × (r.1 ≡ (replay_due input.now).exit)) }
+    ensures ok { IfOk result (λ r. (r.0.items ≡ (replay_due input.now).text) × (r.1 ≡ exit_of (replay_due input.now))) }
     ensures err { IfErr result (λ e. e ≡ Exit.Memory) }
 {
     match read_trace(alloc, input) {

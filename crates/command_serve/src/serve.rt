@@ -1,7 +1,7 @@
 //! Serving a command: all of the input in, and then the whole text that is due out.
 ghost use Rattle.std.specs.Prelude.{◌≡◌, ◌⊎◌, ℕ, List, true, codes, IfOk, IfErr};
 ghost use Rattle.trace_types.specs.Devices.{IsInput};
-ghost use Rattle.command_serve.specs.Serve.{Due, Serves, IsRead, IsAnswer, due_of};
+ghost use Rattle.command_serve.specs.Serve.{Due, Serves, IsRead, due_of, exit_of};
 
 use crate::exits::Exit;
 use crate::input::{InputFault, read_all};
@@ -15,10 +15,8 @@ pub trait Answers {
 
     /// The text that is due for an input, with the exit, or out of memory.
     fn answer(alloc: Global, input: &[u8]) -> Result<(Vec<u8>, Exit), Exit>
-        ensures ok { IfOk result (λ r. (r.0.items ≡ (due input.now).text) × (r.1 ≡ (due input.now).exit)) }
+        ensures ok { IfOk result (λ r. (r.0.items ≡ (due input.now).text) × (r.1 ≡ exit_of (due input.now))) }
         ensures err { IfErr result (λ e. e ≡ Exit.Memory) };
-
-    ghost ends: { (input : List ℕ) → IsAnswer (due input) };
 }
 
 /// Reads all input, and writes what the command has due for it.
@@ -42,7 +40,7 @@ pub fn serve<C: Answers, S: Source, K: Sink>(alloc: Global, source: &mut S, sink
 // Reads the input, and makes the text that is due, with the exit.
 fn answered<C: Answers, S: Source>(alloc: Global, source: &mut S) -> Result<(Vec<u8>, Exit), Exit>
     ensures ok { IfOk result (λ r. (input : List ℕ) × IsInput (S.left source.old) input × IsRead (S.left source.old) (S.left source.new) input
-        × (r.0.items ≡ (due_of C.due input).text) × (r.1 ≡ (due_of C.due input).exit)) }
+        × (r.0.items ≡ (due_of C.due input).text) × (r.1 ≡ exit_of (due_of C.due input))) }
     ensures err { IfErr result (λ e. (e ≡ Exit.Memory) ⊎ ((e ≡ Exit.Device) × (S.failed source.new ≡ true))) }
 {
     match read_all(alloc, source) {

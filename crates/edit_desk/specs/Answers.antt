@@ -6,8 +6,8 @@ use Rattle.run_engine.specs.declared.faults.RunFault.{RunFault}
 use Rattle.run_engine.specs.Edited.{edited_by}
 use Rattle.edit_desk.specs.declared.replies.Reply.{Reply}
 use Rattle.edit_desk.specs.declared.replies.Reply.TheVariants.{Accepted, Stale, Refused, HistoryFull}
-use Rattle.edit_desk.specs.declared.desk.Request.{Request}
-use Rattle.edit_desk.specs.declared.desk.Entry.{Entry}
+use Rattle.edit_desk.specs.declared.entries.Request.{Request}
+use Rattle.edit_desk.specs.declared.entries.Entry.{Entry}
 
 -- the trace that stands, its version, and the requests that were answered, each with its session and its reply
 pub record Standing : Type 0 where

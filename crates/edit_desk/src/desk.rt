@@ -2,33 +2,19 @@
 ghost use Rattle.std.specs.Prelude.{◌≡◌, ◌<◌, ◌≤◌, ◌++◌, ◌∷◌, [], length, slice_get, Ok, Err, IfOk, OnOk, OnErr};
 ghost use Rattle.std.specs.Option.{option_copied};
 ghost use Rattle.run_engine.specs.Edited.{edited_by};
-ghost use Rattle.edit_desk.specs.Answers.{opened, settled, reply_to, after, edited_or};
+ghost use Rattle.edit_desk.specs.declared.entries.Entry.{Entry};
+ghost use Rattle.edit_desk.specs.Answers.{opened, reply_to, after};
 
+use crate::entries::{Entry, Request};
 use crate::replies::Reply;
 use run_engine::edits::apply;
 use run_engine::faults::RunFault;
 use std::alloc::{AllocError, Global};
 use std::marker::Model;
-use trace_types::edits::Batch;
 use trace_types::trace::Trace;
 
 /// How many entries a history may have.
 pub const MAX_ENTRIES: usize = 1_000_000;
-
-/// Edits that were made for a version of the trace.
-#[derive(Debug, Drop)]
-pub struct Request {
-    pub base: u32,
-    pub batch: Batch,
-}
-
-/// A request that was answered, with the session that made it and the reply.
-#[derive(Debug, Drop)]
-pub struct Entry {
-    pub session: u32,
-    pub request: Request,
-    pub reply: Reply,
-}
 
 /// One trace in versions. Contracts see the trace that stands, its version and the history.
 #[derive(Drop)]
@@ -139,7 +125,7 @@ impl Desk {
     // Adds an entry to the history.
     fn store(&mut self, session: u32, request: Request, reply: Reply) -> Result<(), AllocError>
         requires { length self.old.history < 1000000 }
-        ensures ok { OnOk result (self.new ≡ record self.old { history = self.old.history ++ (record { session = session; request = request; reply = reply }) ∷ [] }) }
+        ensures ok { let entry : Entry = record { session = session; request = request; reply = reply } in OnOk result (self.new ≡ record self.old { history = self.old.history ++ entry ∷ [] }) }
         ensures unchanged { OnErr result (self.new ≡ self.old) }
     {
         let entry = Entry {

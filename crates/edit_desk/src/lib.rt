@@ -2,6 +2,7 @@
 #![tactic(auto)]
 
 pub mod desk;
+pub mod entries;
 pub mod replies;
 #[cfg(test)]
 mod tests;

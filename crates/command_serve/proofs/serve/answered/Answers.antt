@@ -1,15 +1,11 @@
 use Rattle.std.proofs.Common.{arith, ap, Err, sym, ◌∙◌, ◌≤◌, length, List, ℕ}
 use Rattle.std.proofs.lemmas.Result.{IfOk-weaker}
-use Rattle.command_serve.specs.declared.exits.Exit.{Exit}
-use Rattle.command_serve.specs.Serve.{Due, max_input, due_of}
+use Rattle.command_serve.specs.Serve.{Due, max_input, due_of, exit_of}
 use Rattle.command_serve.proofs.Served.{IsInput-whole, IsInput-long, due-long, due-short, read-short, read-long}
 use Rattle.command_serve.proofs.serve.answered.Goals as goal
 
 abbrev text : Due → List ℕ
 text due = due.text
-
-abbrev exit : Due → Exit
-exit due = due.exit
 
 pub returns-in-Ok-clause-ok : goal.returns-in-Ok-clause-ok
 returns-in-Ok-clause-ok g c =
@@ -22,7 +18,7 @@ returns-in-Ok-clause-ok g c =
       IsInput-whole _ _ _ read.0 read.1,
       read-short _ _ _ short read.1,
       h.0 ∙ ap text due,
-      h.1 ∙ ap exit due,
+      h.1 ∙ ap exit_of due,
     )) c.answer.ensures.ok
 
 pub returns-in-Ok-too_long-clause-ok : goal.returns-in-Ok-too_long-clause-ok
@@ -30,4 +26,4 @@ returns-in-Ok-too_long-clause-ok g c =
     let read = c.in-Err-TooLong.ensures.too_long (ap Err c.in-Err-TooLong.field-0-is) in
     let long = IsInput-long _ _ read.0 read.1 (omega (arith, read.2)) in
     let due = sym (due-long g.C.Answers.due long.0 long.2) in
-    (long.0, long.1, read-long _ _ long.0 read.0 long.2 read.1 read.2, c.in-Ok-too_long.ensures ∙ ap text due, ap exit due)
+    (long.0, long.1, read-long _ _ long.0 read.0 long.2 read.1 read.2, c.in-Ok-too_long.ensures ∙ ap text due, ap exit_of due)
