@@ -5,9 +5,8 @@ use command_serve::exits::Exit;
 use command_serve::replay::serve_replay;
 use command_words::{Command, WordsFault, read_words};
 use std::alloc::AllocError;
-use std::env;
-use std::io;
 use std::process::ExitCode;
+use std::{env, io};
 use trace_types::devices::{StdSink, StdSource};
 
 fn main(rt: HostRuntime) -> ExitCode {

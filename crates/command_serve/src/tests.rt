@@ -234,7 +234,10 @@ fn many_nulls(alloc: Global, count: u32) -> Result<String, AllocError> {
     let mut text = String::new(alloc);
     for id in 1..count.saturating_add(1) {
         let to = id % 1_000_000;
-        write!(&mut text, "{{\"id\":{id},\"t\":0,\"op\":\"null\",\"to\":{to}}}\n")?;
+        write!(
+            &mut text,
+            "{{\"id\":{id},\"t\":0,\"op\":\"null\",\"to\":{to}}}\n"
+        )?;
     }
     Ok(text)
 }
@@ -245,21 +248,35 @@ fn as_many_operations_as_there_may_be(rt: HostRuntime) -> Result<(), Fail> {
     let (exit, _) = served(rt.alloc(), full.as_bytes());
     assert!(rt; exit == Exit::Fine);
     let more = many_nulls(rt.alloc(), 65_537)?;
-    expect(&rt, more.as_bytes(), Exit::Trace, "fault line 65537 TooMany\n");
+    expect(
+        &rt,
+        more.as_bytes(),
+        Exit::Trace,
+        "fault line 65537 TooMany\n",
+    );
     Ok(())
 }
 
 fn chain_trace(alloc: Global, objects: u32) -> Result<String, AllocError> {
     let mut text = String::new(alloc);
-    write!(&mut text, "{{\"id\":1,\"t\":0,\"op\":\"new\",\"to\":0,\"fields\":[]}}\n")?;
+    write!(
+        &mut text,
+        "{{\"id\":1,\"t\":0,\"op\":\"new\",\"to\":0,\"fields\":[]}}\n"
+    )?;
     for id in 2..objects.saturating_add(1) {
         let to = (id + 1) % 2;
         let from = id % 2;
-        write!(&mut text, "{{\"id\":{id},\"t\":0,\"op\":\"new\",\"to\":{to},\"fields\":[{from}]}}\n")?;
+        write!(
+            &mut text,
+            "{{\"id\":{id},\"t\":0,\"op\":\"new\",\"to\":{to},\"fields\":[{from}]}}\n"
+        )?;
     }
     let last = objects.saturating_add(1);
     let h = (last) % 2;
-    write!(&mut text, "{{\"id\":{last},\"t\":0,\"op\":\"drop\",\"h\":{h}}}\n")?;
+    write!(
+        &mut text,
+        "{{\"id\":{last},\"t\":0,\"op\":\"drop\",\"h\":{h}}}\n"
+    )?;
     Ok(text)
 }
 
@@ -280,7 +297,10 @@ fn chain_report(alloc: Global, objects: u32) -> Result<String, AllocError> {
     for id in 1..last {
         write!(&mut text, "object {id} destroyed {last} freed {last}\n")?;
     }
-    write!(&mut text, "total {last} ops 0 skipped {objects} objects 0 alive 0 leaks 0 husks\n")?;
+    write!(
+        &mut text,
+        "total {last} ops 0 skipped {objects} objects 0 alive 0 leaks 0 husks\n"
+    )?;
     Ok(text)
 }
 

@@ -88,9 +88,13 @@ fn named(matches: &ArgMatches<'_>) -> Option<Command>
 fn scope_command<'a>(alloc: Global) -> Result<clap::Command<'a>, AllocError>
     ensures { IfOk result (λ c. app_of c ≡ scope_app) }
 {
-    let replay = clap::Command::new(alloc, "replay").about("Reads a trace, one operation a line in JSON, and writes its report");
+    let replay = clap::Command::new(alloc, "replay").about(
+        "Reads a trace, one operation a line in JSON, and writes its report",
+    );
     clap::Command::new(alloc, "arc_scope")
-        .about("Replays a trace of Arc, Weak and atomic shared_ptr operations and reports what each did")
+        .about(
+            "Replays a trace of Arc, Weak and atomic shared_ptr operations and reports what each did",
+        )
         .subcommand_required(true)
         .subcommand(replay)
 }

@@ -32,7 +32,10 @@ fn other_words_are_refused(rt: HostRuntime) -> Result<(), Fail> {
     assert_eq!(rt; read(alloc, &["arc_scope", "help"])?, None);
     assert_eq!(rt; read(alloc, &["arc_scope", "--help"])?, None);
     assert_eq!(rt; read(alloc, &["arc_scope", "replay", "twice"])?, None);
-    assert_eq!(rt; read(alloc, &["arc_scope", "replay", "--workers", "1"])?, None);
+    assert_eq!(rt;
+        read(alloc, &["arc_scope", "replay", "--workers", "1"])?,
+        None
+    );
     assert_eq!(rt; read(alloc, &["arc_scope", "run"])?, None);
     Ok(())
 }

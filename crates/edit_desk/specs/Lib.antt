@@ -1,2 +1,0 @@
-pub mod ReplyText
-pub mod Answers
