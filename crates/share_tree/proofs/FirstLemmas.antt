@@ -1,5 +1,5 @@
 -- The first entry of a node from a key on, and what a walk by it has passed.
-use Rattle.std.proofs.Common.{◌≡◌, ℕ, zero, suc, ◌<◌, ◌≤◌, ◌+◌, ◌-◌, ◌*◌, ◌^◌, ◌⊎◌, inl, inr, Bool, true, false, cond, nat_le, List, [], ◌∷◌, ◌++◌, refl, sym, ap, ◌∙◌, arith, append-nil}
+use Rattle.std.proofs.Common.{◌≡◌, ℕ, zero, suc, ◌<◌, ◌≤◌, ◌+◌, ◌-◌, ◌*◌, ◌^◌, inl, inr, true, false, cond, nat_le, List, [], ◌∷◌, ◌++◌, refl, sym, ap, ◌∙◌, arith, append-nil}
 use Rattle.std.specs.Prelude.{Option, Some, None, IfSome}
 use Rattle.std.specs.Option.{IfNone}
 use Rattle.std.specs.List.{filter}
@@ -106,10 +106,10 @@ module _ {V : Type 0} where
       ∙ ap (λ j. entries_from f 0 (n + (k - n)) ++ entries_from f j 1) place
       ∙ ap (λ es. entries_from f 0 (n + (k - n)) ++ es) (one_entry f k v h.there)
       ∙ ap (λ es. es ++ (k, v) ∷ []) (
-        entries_from-append f 0 n (k - n)
-        ∙ ap (λ es. entries_from f 0 n ++ es) (ap (λ j. entries_from f j (k - n)) start ∙ entries_from-none f n (k - n) (λ q a b. h.first q a (omega arith)))
-        ∙ append-nil (entries_from f 0 n)
-        ∙ sym (through f last (omega arith)))
+      entries_from-append f 0 n (k - n)
+      ∙ ap (λ es. entries_from f 0 n ++ es) (ap (λ j. entries_from f j (k - n)) start ∙ entries_from-none f n (k - n) (λ q a b. h.first q a (omega arith)))
+      ∙ append-nil (entries_from f 0 n)
+      ∙ sym (through f last (omega arith)))
 
   -- with nothing left the walk is past all entries
   pub through-end : (f : ℕ → Option V) (last : Option ℕ) → next_of last ≤ 2 ^ 32 → IsNowhereFrom f (next_of last) (2 ^ 32) → entries_through (map_of f) last ≡ map.entries (map_of f)

@@ -66,4 +66,3 @@ impl<V: Drop> Level<V> for Leaf<V> {
 
     ghost positive = { Prim.omega arith };
 }
-

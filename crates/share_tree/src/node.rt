@@ -6,8 +6,8 @@ ghost use Rattle.share_tree.specs.Levels.{branch_at};
 
 use crate::level::{Level, Same};
 use crate::slot::{
-    has_no_kids, kid_at, kid_first_from, kid_get, kid_insert, kid_is_empty, kid_remove, kid_with, kid_without,
-    no_kids, push_kid_keys, same_kids, with_kid,
+    has_no_kids, kid_at, kid_first_from, kid_get, kid_insert, kid_is_empty, kid_remove, kid_with,
+    kid_without, no_kids, push_kid_keys, same_kids, with_kid,
 };
 use std::alloc::{AllocError, Global};
 use std::sync::Arc;
@@ -18,11 +18,7 @@ pub struct Node<C> {
 }
 
 // Takes out an entry, and leaves the node even where it has no child then.
-fn take_out<V, C: Level<V>>(
-    alloc: Global,
-    node: &mut Node<C>,
-    key: u32,
-) -> Result<(), AllocError>
+fn take_out<V, C: Level<V>>(alloc: Global, node: &mut Node<C>, key: u32) -> Result<(), AllocError>
     requires fits { 16 * C.SPAN ≤ 2 ^ 32 }
     requires within { key < 16 * C.SPAN }
     ensures ok { OnOk result ((q : ℕ) → branch_at C.at C.SPAN node.new q ≡ updated (branch_at C.at C.SPAN node.old) key None q) }

@@ -256,4 +256,3 @@ pub fn same_kids<V: Same, C: Level<V>>(kid: &Option<Arc<C>>, other: &Option<Arc<
         (None, None) => true,
     }
 }
-
