@@ -1,7 +1,6 @@
-use Rattle.std.proofs.Common.{◌≡◌, ℕ, ◌<◌, ◌≤◌, ◌+◌, ◌-◌, ◌*◌, sym, ap, ◌∙◌, arith, Some}
+use Rattle.std.proofs.Common.{arith}
 use Rattle.std.specs.Arc.{arc_value}
-use Rattle.share_tree.specs.Digits.{child_of, child_at}
-use Rattle.share_tree.specs.Walk.{IsFirstFrom, IsNowhereFrom}
+use Rattle.share_tree.specs.Digits.{child_of}
 use Rattle.share_tree.proofs.FirstLemmas.{nowhere-next, first-in_kid}
 use Rattle.share_tree.proofs.node.NodeLevel.first_from.Goals as goal
 

@@ -1,4 +1,4 @@
-use Rattle.std.proofs.Common.{◌≡◌, ℕ, ◌<◌, ◌≤◌, ◌+◌, ◌^◌, sym, ap, ◌∙◌, arith, Some, None}
+use Rattle.std.proofs.Common.{◌≡◌, ◌+◌, sym, arith, Some, None}
 use Rattle.share_tree.specs.Levels.{root_at}
 use Rattle.share_tree.proofs.FirstLemmas.{IfNone_then, IfSome_both, through-first, through-end, through-all}
 use Rattle.share_tree.proofs.tree.ShareTree.next_after.Goals as goal

@@ -1,4 +1,4 @@
-use Rattle.std.proofs.Common.{ap, sym, ◌∙◌, arith, ◌≡◌, ◌<◌, ◌-◌, ◌^◌, true, false}
+use Rattle.std.proofs.Common.{ap, sym, ◌∙◌, arith, ◌≡◌, ◌<◌, ◌-◌, ◌^◌, true}
 use Rattle.std.proofs.lemmas.Result.{err_from_is_err_and}
 use Rattle.std.specs.FinMap as map
 use Rattle.share_tree.specs.Levels.{root_at}
