@@ -193,7 +193,7 @@ impl Draft {
         }
     }
 
-    // The allocation of the object is gone.
+    // The allocation of the object is gone: neither a weak slot nor its value holds it (`std::sync::Weak`).
     fn free(
         &mut self,
         alloc: Global,
@@ -217,7 +217,8 @@ impl Draft {
     }
 }
 
-// The fields in order, and then the end of the object, go before what is pending.
+// The fields in the order of their declaration (Rust Reference, Destructors), and then the end of the object, go before
+// what is pending: all that a field sets off comes before the next field.
 fn push_fields(fields: &[Slot], object: u32, pending: &mut VecDeque<Item>) -> Result<(), AllocError>
     ensures { OnOk result (pending.new.items ≡ drops fields.now (item.End object ∷ pending.old.items)) }
 {
