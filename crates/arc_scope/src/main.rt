@@ -3,6 +3,8 @@
 
 use command_serve::exits::Exit;
 use command_serve::replay::serve_replay;
+use command_serve::script::serve_script;
+use command_serve::whatif::serve_whatif;
 use command_words::{Command, WordsFault, read_words};
 use std::alloc::AllocError;
 use std::process::ExitCode;
@@ -19,7 +21,7 @@ fn run(rt: &HostRuntime) -> Exit {
         Err(exit) => return exit,
     };
     match read_words(rt.alloc(), words.as_slice()) {
-        Ok(Command::Replay) => replay(rt),
+        Ok(command) => serve(rt, command),
         Err(WordsFault::Usage(error)) => {
             // The status says it too, so a standard error that can't be written to changes nothing.
             let _ = eprint!(rt; "{error}");
@@ -40,8 +42,12 @@ fn words(rt: &HostRuntime) -> Result<Vec<String>, Exit> {
     }
 }
 
-fn replay(rt: &HostRuntime) -> Exit {
+fn serve(rt: &HostRuntime, command: Command) -> Exit {
     let mut source = StdSource::new(rt.reader());
     let mut sink = StdSink::new(io::writer(rt));
-    serve_replay(rt.alloc(), &mut source, &mut sink)
+    match command {
+        Command::Replay => serve_replay(rt.alloc(), &mut source, &mut sink),
+        Command::Script => serve_script(rt.alloc(), &mut source, &mut sink),
+        Command::Whatif => serve_whatif(rt.alloc(), &mut source, &mut sink),
+    }
 }

@@ -4,7 +4,7 @@ use Rattle.std.specs.Bool.{if◌then◌else◌}
 use Rattle.std.specs.Io.KnownBytes.{Appends, Consumes, IsAtEnd}
 use Rattle.std.proofs.KnownBytes.{Appends-nil}
 use Rattle.trace_types.specs.Devices.{IsInput, AppendsFront}
-use Rattle.command_serve.specs.Serve.{max_input, is_too_long, Due, too_long, exit_of, due_of, IsRead, IsDone, IsServed}
+use Rattle.command_serve.specs.Serve.{max_input, is_too_long, Due, too_long, exit_of, due_of, IsRead, IsServed}
 use Rattle.command_serve.specs.declared.exits.Exit.{Exit}
 use Rattle.command_serve.specs.declared.exits.Exit.TheVariants.{Fine, Trace, Device, Memory}
 

@@ -1,3 +1,4 @@
 pub mod Exits
 pub mod Serve
 pub mod Replay
+pub mod Script

@@ -1,9 +1,13 @@
 //! What each command reads, and what it writes.
 #![tactic(auto)]
 
+#[cfg(test)]
+mod edit_tests;
 pub mod exits;
 pub mod input;
 pub mod replay;
+pub mod script;
 pub mod serve;
 #[cfg(test)]
 mod tests;
+pub mod whatif;

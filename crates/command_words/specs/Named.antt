@@ -1,11 +1,11 @@
 -- The command that clap's matches name.
-use Rattle.std.specs.Prelude.{◌≡◌, ◌≢◌, Bool, ◌⊎◌, List, ℕ, codes, true, false, Option, Some, None}
+use Rattle.std.specs.Prelude.{◌≡◌, ◌≢◌, Bool, List, codes, true, Option, Some}
 use Rattle.clap.specs.Words.{App, Row, Text, new_app, with_subcommand, subcommand_of}
 use Rattle.clap.specs.Takes.{takes}
 use Rattle.clap.specs.declared.error.kind.ErrorKind.{ErrorKind}
 use Rattle.clap.specs.declared.error.kind.ErrorKind.TheVariants.{OutOfMemory}
 use Rattle.command_words.specs.declared.Command.{Command}
-use Rattle.command_words.specs.declared.Command.TheVariants.{Replay}
+use Rattle.command_words.specs.declared.Command.TheVariants.{Replay, Script, Whatif}
 use Rattle.command_words.specs.declared.WordsFault.{WordsFault}
 use Rattle.command_words.specs.declared.WordsFault.TheVariants.{Usage, Memory}
 
@@ -14,11 +14,15 @@ abbrev pub bare_app : App
 bare_app = new_app (codes "arc_scope")
 
 abbrev pub scope_app : App
-scope_app = with_subcommand (record bare_app { top = record bare_app.top { subcommand_required = true } }) (new_app (codes "replay")).top
+scope_app = with_subcommand (with_subcommand (with_subcommand
+    (record bare_app { top = record bare_app.top { subcommand_required = true } })
+    (new_app (codes "replay")).top) (new_app (codes "script")).top) (new_app (codes "whatif")).top
 
 -- the command that a subcommand and its matches name
 abbrev pub Names : Option (Text × List Row) → Command → Type 0
 Names found Replay = (rows : List Row) × (found ≡ Some (codes "replay", rows))
+Names found Script = (rows : List Row) × (found ≡ Some (codes "script", rows))
+Names found Whatif = (rows : List Row) × (found ≡ Some (codes "whatif", rows))
 
 abbrev pub NamesNone : Option (Text × List Row) → Type 0
 NamesNone found = (command : Command) → Names found command → ⊥

@@ -15,6 +15,10 @@ use std::alloc::{AllocError, Global};
 pub enum Command {
     /// reads a trace and writes its report
     Replay,
+    /// reads a trace and requests to edit it, and writes the replies and the report of the last version
+    Script,
+    /// reads a trace and one request to edit it, and writes the edited trace and its report
+    Whatif,
 }
 
 /// Why the words name no command.
@@ -80,6 +84,8 @@ fn named(matches: &ArgMatches<'_>) -> Option<Command>
     let (name, _) = matches.subcommand()?;
     match name {
         "replay" => Some(Command::Replay),
+        "script" => Some(Command::Script),
+        "whatif" => Some(Command::Whatif),
         _ => None,
     }
 }
@@ -91,12 +97,20 @@ fn scope_command<'a>(alloc: Global) -> Result<clap::Command<'a>, AllocError>
     let replay = clap::Command::new(alloc, "replay").about(
         "Reads a trace, one operation a line in JSON, and writes its report",
     );
+    let script = clap::Command::new(alloc, "script").about(
+        "Reads a trace, a line --, and requests to edit it, and writes the replies and the last version's report",
+    );
+    let whatif = clap::Command::new(alloc, "whatif").about(
+        "Reads a trace, a line --, and one request to edit it, and writes the edited trace and its report",
+    );
     clap::Command::new(alloc, "arc_scope")
         .about(
             "Replays a trace of Arc, Weak and atomic shared_ptr operations and reports what each did",
         )
         .subcommand_required(true)
-        .subcommand(replay)
+        .subcommand(replay)?
+        .subcommand(script)?
+        .subcommand(whatif)
 }
 
 #[cfg(test)]

@@ -19,9 +19,14 @@ fn read(alloc: Global, texts: &[&str]) -> Result<Option<Command>, AllocError> {
 }
 
 #[test]
-fn replay_is_a_command(rt: HostRuntime) -> Result<(), Fail> {
-    let read_it = read(rt.alloc(), &["arc_scope", "replay"])?;
-    assert_eq!(rt; read_it, Some(Command::Replay));
+fn each_command_is_read(rt: HostRuntime) -> Result<(), Fail> {
+    let alloc = rt.alloc();
+    let replay = read(alloc, &["arc_scope", "replay"])?;
+    assert_eq!(rt; replay, Some(Command::Replay));
+    let script = read(alloc, &["arc_scope", "script"])?;
+    assert_eq!(rt; script, Some(Command::Script));
+    let whatif = read(alloc, &["arc_scope", "whatif"])?;
+    assert_eq!(rt; whatif, Some(Command::Whatif));
     Ok(())
 }
 

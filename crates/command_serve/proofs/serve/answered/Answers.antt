@@ -1,6 +1,6 @@
 use Rattle.std.proofs.Common.{arith, ap, Err, sym, ◌∙◌, ◌≤◌, length, List, ℕ}
 use Rattle.std.proofs.lemmas.Result.{IfOk-weaker}
-use Rattle.command_serve.specs.Serve.{Due, max_input, due_of, exit_of}
+use Rattle.command_serve.specs.Serve.{Due, max_input, exit_of}
 use Rattle.command_serve.proofs.Served.{IsInput-whole, IsInput-long, due-long, due-short, read-short, read-long}
 use Rattle.command_serve.proofs.serve.answered.Goals as goal
 

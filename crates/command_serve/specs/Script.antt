@@ -1,0 +1,63 @@
+-- What `script` and `whatif` write for an input.
+use Rattle.std.specs.Prelude.{ℕ, List, [], ◌∷◌, ◌++◌, codes, flat_map, true, false, Result, Ok, Err}
+use Rattle.trace_types.specs.Operation.{Operation}
+use Rattle.trace_types.specs.declared.edits.Edit.{Edit}
+use Rattle.trace_reader.specs.declared.fault.LineFault.{LineFault}
+use Rattle.trace_reader.specs.declared.request.RequestLine.{RequestLine}
+use Rattle.trace_reader.specs.declared.script.Script.{Script}
+use Rattle.trace_reader.specs.FaultText.{fault_text}
+use Rattle.trace_reader.specs.Scripts.{read_script}
+use Rattle.trace_reader.specs.Writing.{lines_text}
+use Rattle.run_engine.specs.declared.faults.RunFault.{RunFault}
+use Rattle.run_engine.specs.Edited.{edited_by}
+use Rattle.edit_desk.specs.declared.entries.Request.{Request}
+use Rattle.edit_desk.specs.declared.replies.Reply.{Reply}
+use Rattle.edit_desk.specs.declared.replies.Reply.TheVariants.{Refused}
+use Rattle.edit_desk.specs.Answers.{Standing, opened, reply_to, after}
+use Rattle.edit_desk.specs.ReplyText.{reply_text}
+use Rattle.command_serve.specs.Serve.{Due}
+use Rattle.command_serve.specs.Replay.{report_of_replay}
+
+abbrev pub request_of : RequestLine → Request
+request_of line = record { base = line.base; batch = line.batch }
+
+-- the replies to requests, one after another
+abbrev pub replies_from : Standing → List RequestLine → List Reply
+replies_from s [] = []
+replies_from s (line ∷ lines) = reply_to s (request_of line) ∷ replies_from (after s line.session (request_of line)) lines
+
+-- what the desk has then
+abbrev pub standing_from : Standing → List RequestLine → Standing
+standing_from s [] = s
+standing_from s (line ∷ lines) = standing_from (after s line.session (request_of line)) lines
+
+abbrev pub replies_text : List Reply → List ℕ
+replies_text replies = flat_map (λ reply. reply_text reply ++ 10 ∷ []) replies
+
+-- the replies, and the report of the last version
+abbrev pub script_text : Script → List ℕ
+script_text script = replies_text (replies_from (opened script.trace) script.requests) ++ report_of_replay (standing_from (opened script.trace) script.requests).trace
+
+abbrev pub script_answer : Result Script LineFault → Due
+script_answer (Ok script) = record { text = script_text script; is_fault = false }
+script_answer (Err fault) = record { text = fault_text fault ++ 10 ∷ []; is_fault = true }
+
+unfoldable pub script_due : List ℕ → Due
+script_due input = script_answer (read_script false input)
+
+-- the edits of the one request; without a request there is none
+abbrev pub only_batch : List RequestLine → List Edit
+only_batch [] = []
+only_batch (line ∷ lines) = line.batch
+
+-- the canonical lines of the edited trace and its report, or the line of the refusal
+abbrev pub whatif_edited : Result (List Operation) RunFault → Due
+whatif_edited (Ok ops) = record { text = lines_text ops ++ codes "--\n" ++ report_of_replay ops; is_fault = false }
+whatif_edited (Err fault) = record { text = reply_text (Refused fault) ++ 10 ∷ []; is_fault = true }
+
+abbrev pub whatif_answer : Result Script LineFault → Due
+whatif_answer (Ok script) = whatif_edited (edited_by script.trace (only_batch script.requests))
+whatif_answer (Err fault) = record { text = fault_text fault ++ 10 ∷ []; is_fault = true }
+
+unfoldable pub whatif_due : List ℕ → Due
+whatif_due input = whatif_answer (read_script true input)

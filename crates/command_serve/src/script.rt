@@ -1,0 +1,105 @@
+//! The command `script`: a trace and requests in, the replies and the last version's report out.
+ghost use Rattle.std.specs.Prelude.{◌≡◌, ◌⊎◌, ◌++◌, ◌∷◌, [], true, string_bytes, IfOk, IfErr, OnOk};
+ghost use Rattle.command_serve.specs.Serve.{Serves, exit_of};
+ghost use Rattle.edit_desk.specs.Answers.{reply_to, after};
+ghost use Rattle.edit_desk.specs.ReplyText.{reply_text};
+ghost use Rattle.command_serve.specs.Script.{script_due, script_text, replies_text, replies_from, standing_from, request_of};
+
+use crate::exits::Exit;
+use crate::replay::report_on;
+use crate::serve::{Answers, serve};
+use edit_desk::desk::Desk;
+use edit_desk::entries::Request;
+use edit_desk::replies::push_reply;
+use std::alloc::{AllocError, Global};
+use trace_reader::{LineCause, RequestLine, Script, fault_line, read_script};
+use trace_types::devices::{Sink, Source};
+
+/// Reads a trace and requests to edit it, and writes the reply to each and the report of the last version, or the line
+/// that tells the first fault.
+pub fn serve_script<S: Source, K: Sink>(alloc: Global, source: &mut S, sink: &mut K) -> Exit
+    ensures served { Serves script_due (S.left source.old) (S.left source.new) (K.held sink.old) (K.held sink.new) result }
+    ensures device { result ≡ Exit.Device → ((S.failed source.new ≡ true) ⊎ (K.failed sink.new ≡ true)) }
+{
+    serve::<Replies, S, K>(alloc, source, sink)
+}
+
+struct Replies;
+
+impl Answers for Replies {
+    ghost use Rattle.command_serve.specs.Script.{script_due};
+
+    ghost due = { script_due };
+
+    fn answer(alloc: Global, input: &[u8]) -> Result<(Vec<u8>, Exit), Exit> {
+        answer_to(alloc, input)
+    }
+}
+
+// The text that is due for an input, with the exit.
+#[tactic(auto, unfolding(crate::specs::Script::script_due))]
+fn answer_to(alloc: Global, input: &[u8]) -> Result<(Vec<u8>, Exit), Exit>
+    ensures ok { IfOk result (λ r. (r.0.items ≡ (script_due input.now).text) × (r.1 ≡ exit_of (script_due input.now))) }
+    ensures err { IfErr result (λ e. e ≡ Exit.Memory) }
+{
+    match read_script(alloc, input, false) {
+        Ok(script) => {
+            let text = text_of(alloc, script).map_err(|_| Exit::Memory)?;
+            Ok((text, Exit::Fine))
+        }
+        Err(fault) => {
+            if fault.cause == LineCause::Memory {
+                return Err(Exit::Memory);
+            }
+            let line = fault_line(alloc, &fault).map_err(|_| Exit::Memory)?;
+            Ok((line.into_bytes(), Exit::Trace))
+        }
+    }
+}
+
+fn text_of(alloc: Global, script: Script) -> Result<Vec<u8>, AllocError>
+    ensures { IfOk result (λ text. text.items ≡ script_text script) }
+{
+    let Script { trace, requests } = script;
+    let mut desk = Desk::open(alloc, trace);
+    let mut text = String::new(alloc);
+    push_replies(alloc, &mut desk, requests.into_vec(), &mut text)?;
+    let report = report_on(alloc, desk.trace())?;
+    let mut bytes = text.into_bytes();
+    bytes.extend_from_slice(report.as_slice())?;
+    Ok(bytes)
+}
+
+// Answers requests in order, and adds a line for each.
+fn push_replies(
+    alloc: Global,
+    desk: &mut Desk,
+    requests: Vec<RequestLine>,
+    text: &mut String,
+) -> Result<(), AllocError>
+    ensures text { OnOk result (string_bytes text.new ≡ string_bytes text.old ++ replies_text (replies_from desk.old requests.items)) }
+    ensures desk { OnOk result (desk.new ≡ standing_from desk.old requests.items) }
+{
+    for line in requests {
+        push_answer(alloc, desk, line, text)?;
+    }
+    Ok(())
+}
+
+fn push_answer(
+    alloc: Global,
+    desk: &mut Desk,
+    line: RequestLine,
+    text: &mut String,
+) -> Result<(), AllocError>
+    ensures text { OnOk result (string_bytes text.new ≡ string_bytes text.old ++ reply_text (reply_to desk.old (request_of line)) ++ 10 ∷ []) }
+    ensures desk { OnOk result (desk.new ≡ after desk.old line.session (request_of line)) }
+{
+    let RequestLine {
+        base,
+        session,
+        batch,
+    } = line;
+    let reply = desk.answer(alloc, session, Request { base, batch })?;
+    push_reply(text, reply)
+}

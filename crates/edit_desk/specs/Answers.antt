@@ -1,0 +1,47 @@
+-- What a desk replies to a request, and what it has then (profile of this project).
+use Rattle.std.specs.Prelude.{ℕ, ◌+◌, ◌==◌, List, [], ◌∷◌, ◌++◌, length, nat_le, if◌then◌else◌, Result, Ok, Err}
+use Rattle.trace_types.specs.Operation.{Operation}
+use Rattle.run_engine.specs.declared.faults.RunFault.{RunFault}
+use Rattle.run_engine.specs.Edited.{edited_by}
+use Rattle.edit_desk.specs.declared.replies.Reply.{Reply}
+use Rattle.edit_desk.specs.declared.replies.Reply.TheVariants.{Accepted, Stale, Refused, HistoryFull}
+use Rattle.edit_desk.specs.declared.entries.Request.{Request}
+use Rattle.edit_desk.specs.declared.entries.Entry.{Entry}
+
+-- the trace that stands, its version, and the requests that were answered, each with its session and its reply
+pub record Standing : Type 0 where
+  pub trace : List Operation
+  pub version : ℕ
+  pub history : List Entry
+
+-- how many entries a history may have
+abbrev pub max_entries : ℕ
+max_entries = 1000000
+
+-- a trace that nobody has edited yet
+abbrev pub opened : List Operation → Standing
+opened trace = record { trace = trace; version = 0; history = [] }
+
+-- the reply to edits of the version that stands, by what they make of its trace
+abbrev pub settled : ℕ → Result (List Operation) RunFault → Reply
+settled version (Ok ops) = Accepted (version + 1)
+settled version (Err fault) = Refused fault
+
+abbrev pub reply_to : Standing → Request → Reply
+reply_to s r =
+    if nat_le max_entries (length s.history) then HistoryFull
+    else (if r.base == s.version then settled s.version (edited_by s.trace r.batch) else Stale s.version)
+
+abbrev pub edited_or : List Operation → Result (List Operation) RunFault → List Operation
+edited_or trace (Ok ops) = ops
+edited_or trace (Err fault) = trace
+
+-- an accepted request changes the trace and its version; each that is answered otherwise than by HistoryFull is stored
+abbrev pub after_reply : Standing → Entry → Reply → Standing
+after_reply s e (Accepted version) = record { trace = edited_or s.trace (edited_by s.trace e.request.batch); version = version; history = s.history ++ e ∷ [] }
+after_reply s e (Stale version) = record s { history = s.history ++ e ∷ [] }
+after_reply s e (Refused fault) = record s { history = s.history ++ e ∷ [] }
+after_reply s e HistoryFull = s
+
+abbrev pub after : Standing → ℕ → Request → Standing
+after s session r = let e : Entry = record { session = session; request = r; reply = reply_to s r } in after_reply s e (reply_to s r)

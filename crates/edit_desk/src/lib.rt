@@ -1,0 +1,8 @@
+//! The desk: one trace in versions, and a reply to each request to edit it.
+#![tactic(auto)]
+
+pub mod desk;
+pub mod entries;
+pub mod replies;
+#[cfg(test)]
+mod tests;

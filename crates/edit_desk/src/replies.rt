@@ -1,0 +1,62 @@
+//! What a desk replies to a request.
+ghost use Rattle.std.specs.Prelude.{◌≡◌, ◌++◌, ◌∷◌, [], Some, IfOk, OnOk, string_bytes};
+ghost use Rattle.edit_desk.specs.ReplyText.{cause_text, edit_of as edit_index, reply_text};
+
+use run_engine::faults::RunFault;
+use std::alloc::AllocError;
+
+/// What a desk replies to a request. The causes are tried in the order `HistoryFull`, `Stale`, `Refused`, `Accepted`.
+#[derive(Clone, Copy, Debug, PartialEq, Eq)]
+pub enum Reply {
+    /// The edits were made: this is the version that stands now.
+    Accepted(u32),
+    /// The request was made for another version than this one, which stands.
+    Stale(u32),
+    /// An edit can't be made, or the batch has none or too many.
+    Refused(RunFault),
+    /// The history has as many entries as it may have; the request is not stored.
+    HistoryFull,
+}
+
+/// Adds the line of a reply, with its newline.
+pub fn push_reply(text: &mut String, reply: Reply) -> Result<(), AllocError>
+    ensures { OnOk result (string_bytes text.new ≡ string_bytes text.old ++ reply_text reply ++ 10 ∷ []) }
+{
+    match reply {
+        Reply::Accepted(version) => write!(text, "accepted {version}\n"),
+        Reply::Stale(version) => write!(text, "stale {version}\n"),
+        Reply::Refused(fault) => push_refusal(text, fault),
+        Reply::HistoryFull => text.push_str("full\n"),
+    }
+}
+
+fn push_refusal(text: &mut String, fault: RunFault) -> Result<(), AllocError>
+    ensures { OnOk result (string_bytes text.new ≡ string_bytes text.old ++ reply_text (Reply.Refused fault) ++ 10 ∷ []) }
+{
+    let cause = cause_str(fault);
+    let edit = edit_of(fault);
+    write!(text, "refused {cause} {edit}\n")
+}
+
+fn cause_str(fault: RunFault) -> &'static str
+    ensures { result.now ≡ cause_text fault }
+{
+    match fault {
+        RunFault::NoSuchOp(_) => "NoSuchOp",
+        RunFault::IdTaken(_) => "IdTaken",
+        RunFault::TooMany(_) => "TooMany",
+        RunFault::EmptyBatch => "EmptyBatch",
+        RunFault::TooManyEdits => "TooManyEdits",
+        RunFault::Memory => "Memory",
+    }
+}
+
+// The edit that is refused, from 0; 0 where it is the batch.
+fn edit_of(fault: RunFault) -> u64
+    ensures { result ≡ edit_index fault }
+{
+    match fault {
+        RunFault::NoSuchOp(edit) | RunFault::IdTaken(edit) | RunFault::TooMany(edit) => edit,
+        RunFault::EmptyBatch | RunFault::TooManyEdits | RunFault::Memory => 0,
+    }
+}

@@ -1,0 +1,57 @@
+use crate::desk::Desk;
+use crate::entries::Request;
+use crate::replies::{Reply, push_reply};
+use run_engine::faults::RunFault;
+use std::test::Fail;
+use trace_types::edits::{Batch, Edit};
+use trace_types::kinds::Kind;
+use trace_types::ops::Op;
+use trace_types::sequence::Sequence;
+use trace_types::trace::Trace;
+
+fn opened(rt: &HostRuntime) -> Result<Desk, Fail> {
+    let fields = Sequence::empty(rt.alloc());
+    let op = Op::make(1, 0, Kind::New { to: 0, fields })?;
+    let mut trace = Trace::new(rt.alloc());
+    trace.push(op)?;
+    Ok(Desk::open(rt.alloc(), trace))
+}
+
+fn removal(rt: &HostRuntime, id: u32, times: u32) -> Result<Batch, Fail> {
+    let mut batch = Sequence::empty(rt.alloc());
+    for _ in 0..times {
+        batch.push(Edit::Remove { id })?;
+    }
+    Ok(batch)
+}
+
+#[test]
+fn desk_replies(rt: HostRuntime) -> Result<(), Fail> {
+    let alloc = rt.alloc();
+    let mut desk = opened(&rt)?;
+    let batch = removal(&rt, 1, 0)?;
+    let reply = desk.answer(alloc, 0, Request { base: 0, batch })?;
+    assert_eq!(rt; reply, Reply::Refused(RunFault::EmptyBatch));
+    let batch = removal(&rt, 1, 65)?;
+    let reply = desk.answer(alloc, 0, Request { base: 0, batch })?;
+    assert_eq!(rt; reply, Reply::Refused(RunFault::TooManyEdits));
+    let batch = removal(&rt, 1, 2)?;
+    let reply = desk.answer(alloc, 0, Request { base: 0, batch })?;
+    assert_eq!(rt; reply, Reply::Refused(RunFault::NoSuchOp(1)));
+    let batch = removal(&rt, 1, 1)?;
+    let reply = desk.answer(alloc, 3, Request { base: 5, batch })?;
+    assert_eq!(rt; reply, Reply::Stale(0));
+    let batch = removal(&rt, 1, 1)?;
+    let reply = desk.answer(alloc, 3, Request { base: 0, batch })?;
+    assert_eq!(rt; reply, Reply::Accepted(1));
+    assert_eq!(rt; desk.version(), 1);
+    assert_eq!(rt; desk.len(), 5);
+    assert_eq!(rt; desk.trace().len(), 0);
+    let last = desk.entry(4).ok_or("five entries")?;
+    assert_eq!(rt; last.session, 3);
+    let mut text = String::new(alloc);
+    push_reply(&mut text, reply)?;
+    push_reply(&mut text, Reply::Refused(RunFault::NoSuchOp(1)))?;
+    assert!(rt; text.as_str() == "accepted 1\nrefused NoSuchOp 1\n");
+    Ok(())
+}
