@@ -5,6 +5,8 @@
 mod edit_tests;
 pub mod exits;
 pub mod input;
+#[cfg(test)]
+mod memory_tests;
 pub mod replay;
 pub mod script;
 pub mod serve;
