@@ -1,1 +1,9 @@
 mod ListingLemmas
+mod SegmentLemmas
+mod PieceLemmas
+mod ConvergeLemmas
+mod MarksLemmas
+mod CommonLemmas
+mod LoadLemmas
+mod GiveUpLemmas
+mod EditLemmas

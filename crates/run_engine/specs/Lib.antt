@@ -1,1 +1,9 @@
 pub mod Edited
+pub mod Stretch
+pub mod Segments
+pub mod RunView
+pub mod Marks
+pub mod NewMarks
+pub mod Common
+pub mod Bounds
+pub mod Part
