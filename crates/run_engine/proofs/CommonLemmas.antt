@@ -6,7 +6,9 @@ use mathlib.Core.Logic.{⊎_elim}
 use Rattle.std.specs.Prelude.{Contains}
 use Rattle.trace_types.specs.Operation.{Operation}
 use Rattle.run_engine.specs.Common.{ShareEnd, IsHead, IsTail, AreShared}
+use Rattle.run_engine.specs.Marks.{IsGreatest}
 use Rattle.run_engine.specs.Bounds.{IsBounded, IsBoundedFrom}
+use Rattle.run_engine.specs.Steps.{AreSteppedFrom}
 use Rattle.run_engine.proofs.ListingLemmas.{around, take-shorter}
 
 -- the first operations and one more
@@ -70,29 +72,34 @@ same-tail old new head t u a b =
     let ge = a.most u b.old_within b.within b.same in
     omega arith
 
--- the bound from the greatest checkpoint at or before the head
-pub bounded-from : (old ops : List Operation) (marks : List ℕ) (head tail at before after : ℕ) → AreShared old ops head tail → IsBounded old ops (length old - tail) (length ops - tail) marks at before after
-    → ((p : ℕ) → Contains marks p → p ≤ head → p ≤ at) → IsBoundedFrom old ops marks before after
-bounded-from old ops marks head tail at before after shared h greatest other last r both mark le =
+-- there is one head, one tail and one restart
+pub from-greatest : (P : ℕ → ℕ → Type 0) (old ops : List Operation) (marks : List ℕ) (head tail at : ℕ) → AreShared old ops head tail → IsGreatest marks head at → P tail at
+    → (other last r : ℕ) → AreShared old ops other last → IsGreatest marks other r → P last r
+from-greatest P old ops marks head tail at shared greatest h other last r both is =
     let he : head ≡ other = same-head old ops head other shared.head_is both.head_is in
     let te : tail ≡ last = same-tail old ops head tail last shared.tail_is (subst (λ k. IsTail old ops k last) (sym he) both.tail_is) in
-    let least : r ≤ at = greatest r mark (omega arith) in
-    let whole = h.whole in
-    subst (λ t. IsBounded old ops (length old - t) (length ops - t) marks r before after) te
-    (record {
-      whole = omega arith;
-      stop = λ p m behind agrees. let b = h.stop p m behind agrees in omega arith;
-    })
+    let early = greatest.early in
+    let is_early = is.early in
+    let le : r ≤ at = greatest.most r is.mark (omega arith) in
+    let ge : at ≤ r = is.most at greatest.mark (omega arith) in
+    let re : at ≡ r = omega arith in
+    subst (λ t. P t r) te (subst (λ x. P tail x) re h)
 
 -- the bound by other names
 pub bound-as : (old old_is ops : List Operation) (marks marks_are : List ℕ) (before after : ℕ) → old ≡ old_is → marks ≡ marks_are → IsBoundedFrom old ops marks before after → IsBoundedFrom old_is ops marks_are before after
 bound-as old old_is ops marks marks_are before after e f h =
     subst (λ o. IsBoundedFrom o ops marks_are before after) e (subst (λ ms. IsBoundedFrom old ops ms before after) f h)
 
+-- what is stepped, by other names
+pub stepped-as : (old old_is ops : List Operation) (marks marks_are : List ℕ) (before after : ℕ) → old ≡ old_is → marks ≡ marks_are → AreSteppedFrom old ops marks before after → AreSteppedFrom old_is ops marks_are before after
+stepped-as old old_is ops marks marks_are before after e f h =
+    subst (λ o. AreSteppedFrom o ops marks_are before after) e (subst (λ ms. AreSteppedFrom old ops ms before after) f h)
+
 -- nothing was stepped
 pub bounded-none : (old ops : List Operation) (marks : List ℕ) (before : ℕ) → IsBoundedFrom old ops marks before before
-bounded-none old ops marks before head tail r both mark le =
+bounded-none old ops marks before head tail r both is =
     let within = both.tail_is.within in
+    let early = is.early in
     record { whole = omega arith; stop = λ p m behind agrees. omega arith }
 
 pub tail-none : (old new : List Operation) → drop (length old - 0) old ≡ drop (length new - 0) new

@@ -1,9 +1,9 @@
 -- A replay that goes on beside an old one.
 use Rattle.std.proofs.Common.{◌≡◌, ℕ, ◌+◌, ◌-◌, ◌<◌, ◌≤◌, suc, zero, List, [], ◌∷◌, ◌++◌, length, take, drop, get_or, true, false, refl, ap, sym, subst, ◌∙◌, arith, append_assoc, length-append, length-drop, take-append-drop}
-use Rattle.std.specs.Prelude.{Some, None, Option, is_some, Contains}
+use Rattle.std.specs.Prelude.{Some, None, Option, is_some, Contains, IsTrue}
 use mathlib.Core.Logic.{◌⊎◌, inl, inr, ⊎_elim}
 use Rattle.std.proofs.lemmas.List.{drop-drop}
-use Rattle.std.proofs.lemmas.List.Elements.{Contains-append_cases}
+use Rattle.std.proofs.lemmas.List.Elements.{Contains-append_cases, Contains-append_left, Contains-append_right}
 use Rattle.std.proofs.Math.Seq.{take-length, drop-append_seam, take-append_seam}
 use Rattle.ownership_model.specs.State.{State, nothing_held}
 use Rattle.trace_types.specs.Operation.{Operation}
@@ -13,7 +13,7 @@ use Rattle.run_engine.specs.Segments.{ops_of, trace_of, mark_here, marks_from, A
 use Rattle.run_engine.specs.Common.{ShareEnd}
 use Rattle.run_engine.specs.Bounds.{AgreesAt, IsBounded}
 use Rattle.ownership_model.proofs.ReplayLemmas.{end_from-append}
-use Rattle.run_engine.proofs.SegmentLemmas.{trace_of-append, trace_of-without_mark, AreReplayFrom-without_mark, AreReplayFrom-append, AreReplayFrom-front, AreReplayFrom-back, length-trace_of-next}
+use Rattle.run_engine.proofs.SegmentLemmas.{trace_of-append, marks_from-append, trace_of-without_mark, AreReplayFrom-without_mark, AreReplayFrom-append, AreReplayFrom-front, AreReplayFrom-back, length-trace_of-next}
 use Rattle.run_engine.proofs.ListingLemmas.{around, take-shorter}
 use Rattle.run_engine.proofs.PieceLemmas.{AreFull-append, AreFull-front, AreFull-back, BeginsMarked-front}
 
@@ -96,6 +96,14 @@ IsBeside-next old ops a b r before i at x segments heap count y next then counte
           (Contains-append_cases (mark_here at s.mark) rest p (subst (λ ps. Contains ps p) list (h.later p mark behind agrees)));
     }
 
+-- no checkpoint that agrees stands before the loop
+pub least-agreeing : (old : List Stretch) (ops : List Operation) (a b r before i at x : ℕ) (segments : List Stretch) (heap : State) (count : ℕ)
+    → IsBeside old ops a b r before i at x segments heap count → (p : ℕ) → Contains (all_marks old) p → a ≤ p → AgreesAt (trace_of old) ops a b p → at ≤ p
+least-agreeing old ops a b r before i at x segments heap count h p mark le agrees =
+    let n : ℕ = length (trace_of old) in
+    let fits : at ≤ n = place-within old i at h.place in
+    ⊎_elim (λ k. marks_from-least at (drop i old) p k) (λ k. let e : n ≡ p = Contains-one n p k in omega arith) (Contains-append_cases (marks_from at (drop i old)) (n ∷ []) p (h.later p mark le agrees))
+
 -- no more is stepped than the bound allows
 pub bounded : (old : List Stretch) (ops : List Operation) (a b r before i at x : ℕ) (segments : List Stretch) (heap : State) (count counted : ℕ)
     → IsBeside old ops a b r before i at x segments heap count → ShareEnd (trace_of old) ops a b → a ≤ at → counted + r ≤ before + (at - a + b)
@@ -106,7 +114,7 @@ bounded old ops a b r before i at x segments heap count counted h shared behind 
     let long = ShareEnd-length (trace_of old) ops a b shared in
     record {
       whole = omega (arith, shared.old_within, shared.within);
-      stop = λ p mark le agrees. let least : at ≤ p = ⊎_elim (λ k. marks_from-least at (drop i old) p k) (λ k. let e : n ≡ p = Contains-one n p k in omega arith) (Contains-append_cases (marks_from at (drop i old)) (n ∷ []) p (h.later p mark le agrees)) in omega arith;
+      stop = λ p mark le agrees. let least : at ≤ p = least-agreeing old ops a b r before i at x segments heap count h p mark le agrees in omega arith;
     }
 
 BeginsMarked-joined : (a b : List Stretch) → BeginsMarked a → BeginsMarked b → BeginsMarked (a ++ b)
@@ -152,17 +160,52 @@ IsSpliced-end ops x segments heap h e =
       trace = t;
     }
 
+-- the marks around the one of a segment
+pub marks-at : (old : List Stretch) (i at : ℕ) (s : Stretch) (m : State) → i < length old → s ≡ get_or old i s → s.mark ≡ Some m → length (trace_of (take i old)) ≡ at
+    → all_marks old ≡ marks_from 0 (take i old) ++ (at ∷ (marks_from (at + length (ops_of s)) (drop (i + 1) old) ++ length (trace_of old) ∷ []))
+marks-at old i at s m lt is mark place =
+    let n : ℕ = length (trace_of old) in
+    let zero_place : 0 + length (trace_of (take i old)) ≡ at = omega arith in
+    let list : marks_from at (drop i old) ++ n ∷ [] ≡ at ∷ (marks_from (at + length (ops_of s)) (drop (i + 1) old) ++ n ∷ []) =
+    ap (λ ss. marks_from at ss ++ n ∷ []) (around old i s lt is) ∙ ap (λ o. (mark_here at o ++ marks_from (at + length (ops_of s)) (drop (i + 1) old)) ++ n ∷ []) mark in
+    ap (λ ss. marks_from 0 ss ++ n ∷ []) (sym (take-append-drop i old)) ∙ ap (λ ps. ps ++ n ∷ []) (marks_from-append 0 (take i old) (drop i old))
+    ∙ append_assoc (marks_from 0 (take i old)) (marks_from (0 + length (trace_of (take i old))) (drop i old)) (n ∷ [])
+    ∙ ap (λ p. marks_from 0 (take i old) ++ (marks_from p (drop i old) ++ n ∷ [])) zero_place ∙ ap (λ ps. marks_from 0 (take i old) ++ ps) list
+
+Contains-first : (x : ℕ) (xs : List ℕ) → Contains (x ∷ xs) x
+Contains-first x xs = (zero, omega arith, refl)
+
+-- where a segment has its mark, there is one
+pub mark-there : (old : List Stretch) (i at : ℕ) (s : Stretch) (m : State) → i < length old → s ≡ get_or old i s → s.mark ≡ Some m → length (trace_of (take i old)) ≡ at → Contains (all_marks old) at
+mark-there old i at s m lt is mark place =
+    let rest : List ℕ = marks_from (at + length (ops_of s)) (drop (i + 1) old) ++ length (trace_of old) ∷ [] in
+    subst (λ ps. Contains ps at) (sym (marks-at old i at s m lt is mark place)) (Contains-append_right (marks_from 0 (take i old)) (at ∷ rest) at (Contains-first at rest))
+
+pub end-mark : (segments : List Stretch) → Contains (all_marks segments) (length (trace_of segments))
+end-mark segments = Contains-append_right (marks_from 0 segments) (length (trace_of segments) ∷ []) (length (trace_of segments)) (Contains-first (length (trace_of segments)) [])
+
+marked-first : (o : Option State) (rest : List ℕ) → IsTrue (is_some o) → Contains (mark_here 0 o ++ rest) 0
+marked-first None rest h = absurd cc
+marked-first (Some m) rest h = Contains-first 0 rest
+
+pub first-mark-there : (segments : List Stretch) → BeginsMarked segments → Contains (all_marks segments) 0
+first-mark-there [] h = Contains-first 0 []
+first-mark-there (s ∷ segments) h =
+    let rest : List ℕ = marks_from (0 + length (ops_of s)) segments in
+    Contains-append_left (mark_here 0 s.mark ++ rest) (length (trace_of (s ∷ segments)) ∷ []) 0 (marked-first s.mark rest h)
+
 -- a loop that looks for the restart: it stands at segment j, which begins at `here`
 pub record IsSought (segments : List Stretch) (head j here i at : ℕ) (heap : State) : Type 0 where
   pub stands : length (trace_of (take j segments)) ≡ here
   pub within : i ≤ length segments
   pub place : length (trace_of (take i segments)) ≡ at
   pub early : at ≤ head
+  pub mark : Contains (all_marks segments) at
   pub heap_is : heap ≡ end_from nothing_held (trace_of (take i segments))
   pub later : (p : ℕ) → Contains (all_marks segments) p → p ≤ head → (p ≤ at) ⊎ Contains (marks_from here (drop j segments) ++ length (trace_of segments) ∷ []) p
 
-pub IsSought-none : (segments : List Stretch) (head : ℕ) → IsSought segments head 0 0 0 0 nothing_held
-IsSought-none segments head = record { stands = refl; within = omega arith; place = refl; early = omega arith; heap_is = refl; later = λ p h k. inr h }
+pub IsSought-none : (segments : List Stretch) (head : ℕ) → BeginsMarked segments → IsSought segments head 0 0 0 0 nothing_held
+IsSought-none segments head begins = record { stands = refl; within = omega arith; place = refl; early = omega arith; mark = first-mark-there segments begins; heap_is = refl; later = λ p h k. inr h }
 
 -- at a segment that begins after the head, the search is over
 pub IsRestart-early : (segments : List Stretch) (head j here i at : ℕ) (heap : State) → IsSought segments head j here i at heap → head < here → IsRestart segments head i at heap
@@ -171,12 +214,15 @@ IsRestart-early segments head j here i at heap h past =
     record {
       within = h.within;
       place = h.place;
-      early = h.early;
+      greatest = record {
+        mark = h.mark;
+        early = h.early;
+        most = λ p mark le. ⊎_elim (λ k. k)
+            (λ k. ⊎_elim (λ m. let least : here ≤ p = marks_from-least here (drop j segments) p m in absurd (omega arith)) (λ m. let e : length (trace_of segments) ≡ p = Contains-one _ p m in absurd (omega arith))
+            (Contains-append_cases (marks_from here (drop j segments)) (length (trace_of segments) ∷ []) p k))
+            (h.later p mark le);
+      };
       heap_is = h.heap_is;
-      greatest = λ p mark le. ⊎_elim (λ k. k)
-          (λ k. ⊎_elim (λ m. let least : here ≤ p = marks_from-least here (drop j segments) p m in absurd (omega arith)) (λ m. let e : length (trace_of segments) ≡ p = Contains-one _ p m in absurd (omega arith))
-          (Contains-append_cases (marks_from here (drop j segments)) (length (trace_of segments) ∷ []) p k))
-          (h.later p mark le);
     }
 
 later-passed : (segments : List Stretch) (head j here i at at_next : ℕ) (heap : State) (s : Stretch) → IsSought segments head j here i at heap → j < length segments → s ≡ get_or segments j s
@@ -202,19 +248,21 @@ IsSought-bare segments head j here i at heap s h lt is bare = record {
   within = h.within;
   place = h.place;
   early = h.early;
+  mark = h.mark;
   heap_is = h.heap_is;
   later = later-passed segments head j here i at at heap s h lt is (omega arith) (λ t. cc);
 }
 
 -- a segment with a mark at or before the head
-pub IsSought-marked : (segments : List Stretch) (head j here i at : ℕ) (heap next : State) (s : Stretch) → IsSought segments head j here i at heap → j < length segments → s ≡ get_or segments j s
+pub IsSought-marked : (segments : List Stretch) (head j here i at : ℕ) (heap next m : State) (s : Stretch) → IsSought segments head j here i at heap → j < length segments → s ≡ get_or segments j s → s.mark ≡ Some m
     → at ≤ here → here ≤ head → next ≡ end_from nothing_held (trace_of (take j segments))
     → IsSought segments head (j + 1) (here + length s.ops) j here next
-IsSought-marked segments head j here i at heap next s h lt is grows le same = record {
+IsSought-marked segments head j here i at heap next m s h lt is marked grows le same = record {
   stands = length-trace_of-next segments j s lt is ∙ ap (λ m. m + length s.ops) h.stands;
   within = omega arith;
   place = h.stands;
   early = le;
+  mark = mark-there segments j here s m lt is marked h.stands;
   heap_is = same;
   later = later-passed segments head j here i at here heap s h lt is grows (λ t. omega arith);
 }
@@ -244,9 +292,8 @@ IsRestart-end segments end head here i at heap run h le =
     record {
       within = omega arith;
       place = h.stands;
-      early = le;
+      greatest = record { mark = subst (Contains (all_marks segments)) (sym all) (end-mark segments); early = le; most = λ p mark k. all-within segments p here mark (omega arith) };
       heap_is = run.state ∙ ap (λ ss. end_from nothing_held (trace_of ss)) (sym whole);
-      greatest = λ p mark k. all-within segments p here mark (omega arith);
     }
 
 -- the front of the replay
@@ -254,7 +301,7 @@ pub IsReached-restart : (segments kept : List Stretch) (end heap : State) (ops :
     → take head (trace_of segments) ≡ take head ops → head ≤ length ops → IsReached ops at kept heap
 IsReached-restart segments kept end heap ops head i at run h is same within =
     let parts : take i segments ++ drop i segments ≡ segments = take-append-drop i segments in
-    let early = h.early in
+    let early = h.greatest.early in
     let front : trace_of (take i segments) ≡ take at ops =
     trace_of-front segments i at h.place ∙ sym (take-shorter at head (trace_of segments) early) ∙ ap (take at) same ∙ take-shorter at head ops early in
     subst (λ ss. IsReached ops at ss heap) (sym is) (record {

@@ -4,6 +4,7 @@ use Rattle.trace_types.specs.Operation.{Operation}
 use Rattle.ownership_model.specs.State.{nothing_held}
 use Rattle.ownership_model.specs.Step.{end_from}
 use Rattle.run_engine.specs.Common.{AreShared}
+use Rattle.run_engine.specs.Marks.{IsGreatest}
 
 -- the state at p of the old trace is the one at the place that p has in the edited one, where a becomes b
 abbrev pub AgreesAt : List Operation → List Operation → ℕ → ℕ → ℕ → Type 0
@@ -14,7 +15,7 @@ pub record IsBounded (old ops : List Operation) (a b : ℕ) (marks : List ℕ) (
   pub whole : after + r ≤ before + length ops
   pub stop : (p : ℕ) → Contains marks p → a ≤ p → AgreesAt old ops a b p → after + r ≤ before + (p - a + b)
 
--- the bound from any kept checkpoint r at or before the head, and so from the greatest one
+-- the bound from the greatest checkpoint at or before the head
 abbrev pub IsBoundedFrom : List Operation → List Operation → List ℕ → ℕ → ℕ → Type 0
 IsBoundedFrom old ops marks before after =
-    (head tail r : ℕ) → AreShared old ops head tail → Contains marks r → r ≤ head → IsBounded old ops (length old - tail) (length ops - tail) marks r before after
+    (head tail r : ℕ) → AreShared old ops head tail → IsGreatest marks head r → IsBounded old ops (length old - tail) (length ops - tail) marks r before after

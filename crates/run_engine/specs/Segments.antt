@@ -5,6 +5,7 @@ use Rattle.ownership_model.specs.State.{State, nothing_held}
 use Rattle.trace_types.specs.Operation.{Operation}
 use Rattle.trace_types.specs.declared.outcomes.Outcome.{Outcome}
 use Rattle.run_engine.specs.Stretch.{Stretch}
+use Rattle.run_engine.specs.Marks.{IsGreatest}
 use Rattle.ownership_model.specs.Step.{end_from, outcomes_from}
 
 abbrev pub ops_of : Stretch → List Operation
@@ -97,9 +98,8 @@ all_marks segments = marks_from 0 segments ++ length (trace_of segments) ∷ []
 pub record IsRestart (segments : List Stretch) (head i at : ℕ) (heap : State) : Type 0 where
   pub within : i ≤ length segments
   pub place : length (trace_of (take i segments)) ≡ at
-  pub early : at ≤ head
+  pub greatest : IsGreatest (all_marks segments) head at
   pub heap_is : heap ≡ end_from nothing_held (trace_of (take i segments))
-  pub greatest : (p : ℕ) → Contains (all_marks segments) p → p ≤ head → p ≤ at
 
 -- what is true of each run
 pub record IsKept (segments : List Stretch) (end : State) : Type 0 where

@@ -7,6 +7,7 @@ ghost use Rattle.run_engine.specs.Part.{part};
 ghost use Rattle.run_engine.specs.Common.{ShareEnd};
 ghost use Rattle.run_engine.specs.Bounds.{IsBounded};
 ghost use Rattle.run_engine.specs.NewMarks.{AreLaid, AreMarksOf, IsGap};
+ghost use Rattle.run_engine.specs.Steps.{AreTaken, HaveStepped, AreStepped};
 
 use crate::listing::Listing;
 use crate::piece::{Piece, stepped_up_to};
@@ -42,12 +43,15 @@ fn next_piece(
     ensures piece { IfOk result (λ p. IsPiece heap.now (part ops.now at to) p.segments.items p.end p.len) }
     ensures gap { IfOk result (λ p. IsGap (all_marks old.now) p.len) }
     ensures steps { IfOk result (λ p. meter.new ≤ meter.old + p.len) }
+    ensures taken { IfOk result (λ p. AreTaken (trace_of old.now) (all_marks old.now) heap.now (part ops.now at to) p.len meter.old meter.new) }
     ensures rise { meter.new + at ≤ meter.old + to }
 {
-    if let Some(piece) = old_stretch(alloc, old, end, heap, ops, at, to)? {
+    let found = old_stretch(alloc, old, end, heap, ops, at, to)?;
+    if let Some(piece) = found {
         return Ok(piece);
     }
-    stepped_up_to(alloc, heap, ops, at, to, meter)
+    let piece = stepped_up_to(alloc, heap, ops, at, to, meter)?;
+    Ok(piece)
 }
 
 /// The front and a piece behind it.
@@ -84,6 +88,7 @@ fn advance(
     ensures front { IfOk result (λ f. IsReached ops.now f.at f.segments.items f.heap) }
     ensures there { IfOk result (λ f. f.at ≡ to) }
     ensures rise { meter.new + front.at ≤ meter.old + to }
+    ensures stepped { (r before : ℕ) → HaveStepped (trace_of old.now) ops.now (all_marks old.now) r front.at before meter.old → IfOk result (λ f. HaveStepped (trace_of old.now) ops.now (all_marks old.now) r f.at before meter.new) }
     ensures marks { (kept : List ℕ) (r : ℕ) → AreLaid (all_marks old.now) kept r front.at (marks_from 0 front.segments.items) → IfOk result (λ f. AreLaid (all_marks old.now) kept r f.at (marks_from 0 f.segments.items)) }
 {
     let mut front = front;
@@ -123,8 +128,9 @@ pub fn converge(
     requires old_few { length (trace_of old.now) < 2 ^ 32 }
     ensures run { IfOk result (λ r. IsRun r.0.items r.1) }
     ensures trace { IfOk result (λ r. trace_of r.0.items ≡ ops.now) }
-    ensures marks { IfOk result (λ r. AreMarksOf (marks_from 0 front.segments.items) (all_marks old.now) (all_marks r.0.items) front.at a b) }
+    ensures marks { IfOk result (λ r. AreMarksOf (trace_of old.now) ops.now (marks_from 0 front.segments.items) (all_marks old.now) (all_marks r.0.items) front.at a b) }
     ensures bound { IsBounded (trace_of old.now) ops.now a b (all_marks old.now) front.at meter.old meter.new }
+    ensures stepped { IfOk result (λ _. AreStepped (trace_of old.now) ops.now a b (all_marks old.now) front.at meter.old meter.new) }
 {
     let mut front = front;
     let mut at = 0;

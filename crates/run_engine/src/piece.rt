@@ -60,7 +60,7 @@ pub fn stepped_up_to(
     requires new { AreNew heap.now (part ops.now at to) }
     ensures piece { IfOk result (λ p. IsPiece heap.now (part ops.now at to) p.segments.items p.end p.len) }
     ensures short { IfOk result (λ p. p.len ≤ 64) }
-    ensures steps { IfOk result (λ p. meter.new ≤ meter.old + p.len) }
+    ensures count { IfOk result (λ p. meter.new ≡ raised meter.old p.len) }
     ensures rise { meter.new + at ≤ meter.old + to }
 {
     let len = (to - at).min(STRIDE);

@@ -12,6 +12,7 @@ ghost use Rattle.run_engine.specs.Segments.{without, IsInner};
 ghost use Rattle.run_engine.specs.Marks.{load_marks};
 ghost use Rattle.run_engine.specs.Bounds.{IsBoundedFrom};
 ghost use Rattle.run_engine.specs.NewMarks.{AreMarksAfter};
+ghost use Rattle.run_engine.specs.Steps.{AreSteppedFrom};
 
 use crate::contents::{len_in, marks_in, ops_in, outcomes_in};
 use crate::converge::{Front, joined};
@@ -96,6 +97,7 @@ impl Run {
         ensures empty { length batch.now ≡ 0 → result ≡ Err EmptyBatch }
         ensures too_many { 64 < length batch.now → result ≡ Err TooManyEdits }
         ensures bound { (ops : List Operation) → edited_by self.now.trace batch.now ≡ Ok ops → IsBoundedFrom self.now.trace ops self.now.marks meter.old meter.new }
+        ensures stepped { IfOk result (λ r. AreSteppedFrom self.now.trace r.trace self.now.marks meter.old meter.new) }
         ensures refused { IsErr (edited_by self.now.trace batch.now) → meter.new ≡ meter.old }
     {
         try_size(batch.len())?;
@@ -125,6 +127,7 @@ impl Run {
         ensures trace { IfOk result (λ r. r.trace ≡ ops.now) }
         ensures marks { IfOk result (λ r. AreMarksAfter self.now r) }
         ensures bound { IsBoundedFrom self.now.trace ops.now self.now.marks meter.old meter.new }
+        ensures stepped { IfOk result (λ _. AreSteppedFrom self.now.trace ops.now self.now.marks meter.old meter.new) }
     {
         let (segments, end) = resumed(alloc, &self.segments, &self.end, old, ops, meter)?;
         Ok(Run { segments, end })

@@ -6,6 +6,7 @@ ghost use Rattle.ownership_model.specs.Step.{end_from};
 ghost use Rattle.run_engine.specs.Segments.{trace_of, marks_from, all_marks, BeginsMarked, IsRun, IsPiece};
 ghost use Rattle.run_engine.specs.Part.{part};
 ghost use Rattle.run_engine.specs.NewMarks.{AreNeighbours};
+ghost use Rattle.run_engine.specs.Steps.{IsOldStretch};
 
 use crate::listing::Listing;
 use crate::piece::Piece;
@@ -29,6 +30,7 @@ pub fn old_stretch(
     requires within { to ≤ length ops.now }
     requires run { IsRun old.now end.now }
     ensures gap { IfOk result (λ o. IfSome o (λ p. AreNeighbours (all_marks old.now) p.len)) }
+    ensures stretch { IfOk result (λ o. IfSome o (λ p. IsOldStretch (trace_of old.now) (all_marks old.now) heap.now (part ops.now at to) p.len)) }
     ensures piece { IfOk result (λ o. IfSome o (λ p. IsPiece heap.now (part ops.now at to) p.segments.items p.end p.len)) }
 {
     let Some(i) = segment_of(old, ops.at(at).id()) else {

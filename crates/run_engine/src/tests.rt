@@ -148,10 +148,10 @@ fn are_marks(
 ) -> Result<bool, Fail> {
     let marks = run.marks(alloc)?;
     let mut wanted = Vec::from_slice(alloc, first)?;
-    let mut at = from;
-    while at < last {
-        wanted.push(at)?;
-        at = at.saturating_add(64);
+    for at in from..last {
+        if (at - from) % 64 == 0 {
+            wanted.push(at)?;
+        }
     }
     wanted.push(last)?;
     Ok(marks.as_slice() == wanted.as_slice())

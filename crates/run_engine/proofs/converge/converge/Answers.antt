@@ -10,10 +10,12 @@ use Rattle.run_engine.specs.Common.{ShareEnd}
 use Rattle.std.proofs.Math.Seq.{take-length}
 use Rattle.run_engine.proofs.SegmentLemmas.{length-trace_of-next}
 use Rattle.run_engine.proofs.PieceLemmas.{mark-is, take-rest}
-use Rattle.run_engine.proofs.ConvergeLemmas.{IsBeside-next, bounded, ShareEnd-length, place-within, trace_of-front, IsSpliced, IsSpliced-stop, IsSpliced-end}
+use Rattle.run_engine.proofs.ConvergeLemmas.{IsBeside-none, IsBeside-next, least-agreeing, mark-there, bounded, ShareEnd-length, place-within, trace_of-front, IsSpliced, IsSpliced-stop, IsSpliced-end}
 use Rattle.run_engine.proofs.converge.converge.Goals.{then-at-a+in-Some+in_ok-front+else-same, then-at-a+in_default, else-at-a}
 use Rattle.run_engine.specs.NewMarks.{AreLaid}
-use Rattle.run_engine.proofs.MarksLemmas.{AreMarksOf-stop, AreMarksOf-end, IsReached-length}
+use Rattle.run_engine.proofs.MarksLemmas.{AreLaid-none, AreMarksOf-stop, AreMarksOf-end, IsReached-length}
+use Rattle.run_engine.specs.Bounds.{AgreesAt}
+use Rattle.run_engine.proofs.SteppedLemmas.{HaveStepped-none, AreStepped-stop, AreStepped-end}
 use Rattle.run_engine.proofs.converge.converge.Goals as goal
 
 -- the place of an old mark in the edited trace
@@ -66,6 +68,15 @@ spliced-raw c =
     IsSpliced-stop c.args.old.now c.args.end.now c.args.ops.now c.args.a c.args.b c.loop-i.i c.loop-i.at c.index-old-i.result c.in_ok-front.front.segments.items c.in_ok-front.front.heap
     c.requires.run c.requires.shared c.loop-i-test.true c.index-old-i.is (ap is_some (sym c.in-Some.ensures)) c.loop-i.invariant.beside.place c.if-at-a.true front (heap ∙ m)
 
+-- the states agree where the replay stops
+agreed : (c : goal.In_ok-share) → AgreesAt (trace_of c.args.old.now) c.args.ops.now c.args.a c.args.b c.loop-i.at
+agreed c =
+    let m : c.in-Some.mark.now ≡ end_from nothing_held (trace_of (take c.loop-i.i c.args.old.now)) = mark-is c.args.old.now c.loop-i.i c.index-old-i.result c.in-Some.mark.now c.requires.run.replay c.loop-i-test.true c.index-old-i.is c.in-Some.ensures in
+    let heap : c.in_ok-front.front.heap ≡ c.in-Some.mark.now = c.same.ensures.0 c.if-same.true in
+    let there : c.in_ok-front.front.at ≡ c.loop-i.at - c.args.a + c.args.b = c.in_ok-front.ensures.there in
+    let front = c.in_ok-front.ensures.front in
+    ap (end_from nothing_held) (sym (trace_of-front c.args.old.now c.loop-i.i c.loop-i.at c.loop-i.invariant.beside.place)) ∙ sym (heap ∙ m) ∙ front.state ∙ ap (λ x. end_from nothing_held (take x c.args.ops.now)) there
+
 spliced : (c : goal.In_ok-share) → IsSpliced c.args.ops.now c.in_ok-segments.segments.items c.in_ok-share.field-0
 spliced c = rw (c.in_ok-segments.ensures, take-rest c.loop-i.i c.args.old.now, c.in_ok-share.ensures) (spliced-raw c)
 
@@ -77,6 +88,7 @@ returns-then-same-clause-marks c =
     rw (c.in_ok-segments.ensures, take-rest c.loop-i.i c.args.old.now)
     (AreMarksOf-stop c.args.old.now c.in_ok-front.front.segments.items c.args.ops.now (marks_from 0 c.args.front.segments.items) c.args.a c.args.b c.loop-i.i c.loop-i.at c.args.front.at c.index-old-i.result
     c.requires.shared c.loop-i-test.true c.index-old-i.is c.in-Some.mark.now (sym c.in-Some.ensures) c.loop-i.invariant.beside.place c.if-at-a.true
+    (agreed c) (least-agreeing _ _ _ _ _ _ _ _ _ _ _ _ c.loop-i.invariant.beside)
     (IsReached-length _ _ _ _ c.in_ok-front.ensures.front ∙ there) ((spliced-raw c).trace) laid)
 
 pub returns-clause-marks : goal.returns-clause-marks
@@ -85,7 +97,29 @@ returns-clause-marks c =
     let laid : AreLaid (all_marks c.args.old.now) (marks_from 0 c.args.front.segments.items) c.args.front.at (length c.args.ops.now) (marks_from 0 c.in_ok-front-2.front.segments.items) =
     subst (λ x. AreLaid (all_marks c.args.old.now) (marks_from 0 c.args.front.segments.items) c.args.front.at x (marks_from 0 c.in_ok-front-2.front.segments.items)) there (c.in_ok-front-2.ensures.marks _ _ c.loop-i.invariant.laid) in
     AreMarksOf-end c.args.old.now c.in_ok-front-2.front.segments.items c.args.ops.now (marks_from 0 c.args.front.segments.items) c.args.a c.args.b c.args.front.at c.requires.shared
+    (λ p mark behind agrees.
+    let e = place-end c.args.old.now c.loop-i.i c.loop-i.at c.loop-i-test.false c.loop-i.auto.i-end c.loop-i.invariant.beside.place in
+    let least : c.loop-i.at ≤ p = least-agreeing _ _ _ _ _ _ _ _ _ _ _ _ c.loop-i.invariant.beside p mark behind agrees in
+    omega arith)
     ((IsSpliced-end c.args.ops.now c.in_ok-front-2.front.at c.in_ok-front-2.front.segments.items c.in_ok-front-2.front.heap c.in_ok-front-2.ensures.front there).trace) laid
+
+pub returns-then-same-clause-stepped : goal.returns-then-same-clause-stepped
+returns-then-same-clause-stepped c =
+    AreStepped-stop (trace_of c.args.old.now) c.args.ops.now (all_marks c.args.old.now) c.args.a c.args.b c.args.front.at c.in_ok-front.front.at c.loop-i.at c.args.meter.now _ c.in_ok-front.ensures.there
+    (mark-there c.args.old.now c.loop-i.i c.loop-i.at c.index-old-i.result c.in-Some.mark.now c.loop-i-test.true c.index-old-i.is (sym c.in-Some.ensures) c.loop-i.invariant.beside.place)
+    c.if-at-a.true (agreed c) (c.in_ok-front.ensures.stepped _ _ c.loop-i.invariant.stepped)
+
+pub returns-clause-stepped : goal.returns-clause-stepped
+returns-clause-stepped c =
+    AreStepped-end (trace_of c.args.old.now) c.args.ops.now (all_marks c.args.old.now) c.args.a c.args.b c.args.front.at c.in_ok-front-2.front.at c.args.meter.now _ (c.in_ok-front-2.ensures.there ∙ c.len.ensures)
+    (c.in_ok-front-2.ensures.stepped _ _ c.loop-i.invariant.stepped)
+
+pub loop-i-init : goal.loop-i-init
+loop-i-init c = record {
+  beside = IsBeside-none c.args.old.now c.args.ops.now c.args.a c.args.b c.args.front.at c.args.meter.now c.args.front.segments.items c.args.front.heap c.requires.front c.requires.order;
+  stepped = HaveStepped-none (trace_of c.args.old.now) c.args.ops.now (all_marks c.args.old.now) c.args.front.at c.args.meter.now;
+  laid = AreLaid-none (all_marks c.args.old.now) (marks_from 0 c.args.front.segments.items) c.args.front.at;
+}
 
 pub returns-then-same-clause-run : goal.returns-then-same-clause-run
 returns-then-same-clause-run c = (spliced c).run
@@ -125,6 +159,7 @@ loop-i-preserved c =
                 let t : w.same.result ≡ true = w.same.ensures.1 same in
                 let f : w.same.result ≡ false = w.if-same.false in
                 cc);
+            stepped = w.in_ok-front.ensures.stepped _ _ c.loop-i.invariant.stepped;
             laid = w.in_ok-front.ensures.marks _ _ c.loop-i.invariant.laid;
           })
       | then-at-a+in_default w ↦
@@ -133,6 +168,7 @@ loop-i-preserved c =
             beside = IsBeside-next c.args.old.now c.args.ops.now c.args.a c.args.b c.args.front.at c.args.meter.now c.loop-i.i c.loop-i.at c.loop-i.front.at c.loop-i.front.segments.items c.loop-i.front.heap c.loop-i.meter
                 c.loop-i.front.at c.loop-i.front.segments.items c.loop-i.front.heap c.loop-i.meter c.index-old-i.result c.loop-i.invariant.beside c.loop-i-test.true c.index-old-i.is c.loop-i.invariant.beside.front c.loop-i.invariant.beside.order c.loop-i.invariant.beside.rise
                 (λ marked behind agrees. let f : is_some c.index-old-i.result.mark ≡ false = ap is_some (sym w.in_default.ensures) in cc);
+            stepped = c.loop-i.invariant.stepped;
             laid = c.loop-i.invariant.laid;
           })
       | else-at-a w ↦
@@ -141,6 +177,7 @@ loop-i-preserved c =
             beside = IsBeside-next c.args.old.now c.args.ops.now c.args.a c.args.b c.args.front.at c.args.meter.now c.loop-i.i c.loop-i.at c.loop-i.front.at c.loop-i.front.segments.items c.loop-i.front.heap c.loop-i.meter
                 c.loop-i.front.at c.loop-i.front.segments.items c.loop-i.front.heap c.loop-i.meter c.index-old-i.result c.loop-i.invariant.beside c.loop-i-test.true c.index-old-i.is c.loop-i.invariant.beside.front c.loop-i.invariant.beside.order c.loop-i.invariant.beside.rise
                 (λ marked behind agrees. let lt : c.loop-i.at < c.args.a = w.if-at-a.false in omega arith);
+            stepped = c.loop-i.invariant.stepped;
             laid = c.loop-i.invariant.laid;
           })
     ]
