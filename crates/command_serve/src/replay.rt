@@ -9,6 +9,7 @@ use leak_report::report::report;
 use leak_report::text::text_of;
 use op_step::meter::Meter;
 use op_step::replay::replay;
+use run_engine::run::Run;
 use std::alloc::{AllocError, Global};
 use trace_reader::{LineCause, fault_line, read_trace};
 use trace_types::devices::{Sink, Source};
@@ -64,4 +65,14 @@ pub fn report_on(alloc: Global, trace: &Trace) -> Result<Vec<u8>, AllocError>
     let report = report(alloc, trace, outcomes.as_slice(), &end)?;
     let text = text_of(alloc, &report)?;
     Ok(text.into_bytes())
+}
+
+/// The text of the report of a run.
+pub fn report_on_run(alloc: Global, run: &Run) -> Result<Vec<u8>, AllocError>
+    ensures { IfOk result (λ text. text.items ≡ report_of_replay run.now.trace) }
+{
+    let trace = run.trace(alloc)?;
+    let outcomes = run.outcomes(alloc)?;
+    let report = report(alloc, &trace, outcomes.as_slice(), run.end())?;
+    Ok(text_of(alloc, &report)?.into_bytes())
 }

@@ -6,7 +6,7 @@ ghost use Rattle.edit_desk.specs.ReplyText.{reply_text};
 ghost use Rattle.command_serve.specs.Script.{script_due, script_text, replies_text, replies_from, standing_from, request_of};
 
 use crate::exits::Exit;
-use crate::replay::report_on;
+use crate::replay::report_on_run;
 use crate::serve::{Answers, serve};
 use edit_desk::desk::Desk;
 use edit_desk::entries::Request;
@@ -61,10 +61,10 @@ fn text_of(alloc: Global, script: Script) -> Result<Vec<u8>, AllocError>
     ensures { IfOk result (λ text. text.items ≡ script_text script) }
 {
     let Script { trace, requests } = script;
-    let mut desk = Desk::open(alloc, trace);
+    let mut desk = Desk::open(alloc, trace)?;
     let mut text = String::new(alloc);
     push_replies(alloc, &mut desk, requests.into_vec(), &mut text)?;
-    let report = report_on(alloc, desk.trace())?;
+    let report = report_on_run(alloc, desk.published().run())?;
     let mut bytes = text.into_bytes();
     bytes.extend_from_slice(report.as_slice())?;
     Ok(bytes)
@@ -77,8 +77,8 @@ fn push_replies(
     requests: Vec<RequestLine>,
     text: &mut String,
 ) -> Result<(), AllocError>
-    ensures text { OnOk result (string_bytes text.new ≡ string_bytes text.old ++ replies_text (replies_from desk.old requests.items)) }
-    ensures desk { OnOk result (desk.new ≡ standing_from desk.old requests.items) }
+    ensures text { OnOk result (string_bytes text.new ≡ string_bytes text.old ++ replies_text (replies_from desk.old.standing requests.items)) }
+    ensures desk { OnOk result (desk.new.standing ≡ standing_from desk.old.standing requests.items) }
 {
     for line in requests {
         push_answer(alloc, desk, line, text)?;
@@ -92,8 +92,8 @@ fn push_answer(
     line: RequestLine,
     text: &mut String,
 ) -> Result<(), AllocError>
-    ensures text { OnOk result (string_bytes text.new ≡ string_bytes text.old ++ reply_text (reply_to desk.old (request_of line)) ++ 10 ∷ []) }
-    ensures desk { OnOk result (desk.new ≡ after desk.old line.session (request_of line)) }
+    ensures text { OnOk result (string_bytes text.new ≡ string_bytes text.old ++ reply_text (reply_to desk.old.standing (request_of line)) ++ 10 ∷ []) }
+    ensures desk { OnOk result (desk.new.standing ≡ after desk.old.standing line.session (request_of line)) }
 {
     let RequestLine {
         base,

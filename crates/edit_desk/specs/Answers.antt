@@ -1,5 +1,5 @@
 -- What a desk replies to a request, and what it has then (profile of this project).
-use Rattle.std.specs.Prelude.{ℕ, ◌+◌, ◌==◌, List, [], ◌∷◌, ◌++◌, length, nat_le, if◌then◌else◌, Result, Ok, Err}
+use Rattle.std.specs.Prelude.{◌≡◌, ℕ, ◌+◌, ◌==◌, List, [], ◌∷◌, ◌++◌, length, nat_le, if◌then◌else◌, Result, Ok, Err}
 use Rattle.trace_types.specs.Operation.{Operation}
 use Rattle.run_engine.specs.declared.faults.RunFault.{RunFault}
 use Rattle.run_engine.specs.Edited.{edited_by}
@@ -8,8 +8,10 @@ use Rattle.edit_desk.specs.declared.replies.Reply.TheVariants.{Accepted, Stale, 
 use Rattle.edit_desk.specs.declared.entries.Request.{Request}
 use Rattle.edit_desk.specs.declared.entries.Entry.{Entry}
 
--- the trace that stands, its version, and the requests that were answered, each with its session and its reply
+-- the trace that was opened, the one that stands, its version, and the requests that were answered, each with its session
+-- and its reply
 pub record Standing : Type 0 where
+  pub opening : List Operation
   pub trace : List Operation
   pub version : ℕ
   pub history : List Entry
@@ -20,7 +22,7 @@ max_entries = 1000000
 
 -- a trace that nobody has edited yet
 abbrev pub opened : List Operation → Standing
-opened trace = record { trace = trace; version = 0; history = [] }
+opened trace = record { opening = trace; trace = trace; version = 0; history = [] }
 
 -- the reply to edits of the version that stands, by what they make of its trace
 abbrev pub settled : ℕ → Result (List Operation) RunFault → Reply
@@ -38,10 +40,19 @@ edited_or trace (Err fault) = trace
 
 -- an accepted request changes the trace and its version; each that is answered otherwise than by HistoryFull is stored
 abbrev pub after_reply : Standing → Entry → Reply → Standing
-after_reply s e (Accepted version) = record { trace = edited_or s.trace (edited_by s.trace e.request.batch); version = version; history = s.history ++ e ∷ [] }
+after_reply s e (Accepted version) = record { opening = s.opening; trace = edited_or s.trace (edited_by s.trace e.request.batch); version = version; history = s.history ++ e ∷ [] }
 after_reply s e (Stale version) = record s { history = s.history ++ e ∷ [] }
 after_reply s e (Refused fault) = record s { history = s.history ++ e ∷ [] }
 after_reply s e HistoryFull = s
 
 abbrev pub after : Standing → ℕ → Request → Standing
 after s session r = let e : Entry = record { session = session; request = r; reply = reply_to s r } in after_reply s e (reply_to s r)
+
+-- requests that were answered one after another lead from one standing to another, and each reply is the one that was due
+abbrev pub LeadsTo : Standing → List Entry → Standing → Type 0
+LeadsTo s [] end = s ≡ end
+LeadsTo s (e ∷ es) end = (e.reply ≡ reply_to s e.request) × LeadsTo (after s e.session e.request) es end
+
+-- the history leads from the opening trace to what stands
+abbrev pub IsLegal : Standing → Type 0
+IsLegal s = LeadsTo (opened s.opening) s.history s

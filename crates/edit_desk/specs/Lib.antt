@@ -1,2 +1,3 @@
 pub mod ReplyText
 pub mod Answers
+pub mod Versions

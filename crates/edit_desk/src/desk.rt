@@ -1,14 +1,18 @@
-//! The desk: it keeps the trace that stands, its version, and the history of what it was asked.
-ghost use Rattle.std.specs.Prelude.{◌≡◌, ◌<◌, ◌≤◌, ◌++◌, ◌∷◌, [], length, slice_get, Ok, Err, IfOk, OnOk, OnErr};
+//! The desk: it keeps the trace that stands, its version, its run, and the history of what it was asked.
+ghost use Rattle.std.specs.Prelude.{◌≡◌, ◌≢◌, ◌<◌, ◌≤◌, ◌+◌, ◌++◌, ◌∷◌, [], length, slice_get, Ok, Err, IfOk, OnOk, OnErr, IsErr};
 ghost use Rattle.std.specs.Option.{option_copied};
 ghost use Rattle.run_engine.specs.Edited.{edited_by};
 ghost use Rattle.edit_desk.specs.declared.entries.Entry.{Entry};
-ghost use Rattle.edit_desk.specs.Answers.{opened, reply_to, after};
+ghost use Rattle.edit_desk.specs.Answers.{opened, reply_to, after, IsLegal};
+ghost use Rattle.edit_desk.specs.Versions.{IsDue, IsSettled, ReplaysWithin};
 
 use crate::entries::{Entry, Request};
+use crate::prepared::Prepared;
+use crate::published::Published;
 use crate::replies::Reply;
-use run_engine::edits::apply;
+use op_step::meter::Meter;
 use run_engine::faults::RunFault;
+use run_engine::run::Run;
 use std::alloc::{AllocError, Global};
 use std::marker::Model;
 use trace_types::trace::Trace;
@@ -16,123 +20,186 @@ use trace_types::trace::Trace;
 /// How many entries a history may have.
 pub const MAX_ENTRIES: usize = 1_000_000;
 
-/// One trace in versions. Contracts see the trace that stands, its version and the history.
+/// One trace in versions. Contracts see the trace that stands, its version and the history, the checkpoints of its run, the
+/// room for more entries that is there already, and how many operations were replayed.
+///
+/// The history leads from the opening trace to what stands, and each reply in it is the one that was due.
 #[derive(Drop)]
 pub struct Desk {
-    trace: Trace,
-    version: u32,
+    opening: Trace,
+    published: Published,
     history: Vec<Entry>,
+    meter: Meter,
 }
 
 impl Model for Desk {
-    ghost use Rattle.std.specs.Prelude.{◌≤◌, length};
-    ghost use Rattle.edit_desk.specs.Answers.{Standing};
+    ghost use Rattle.std.specs.Prelude.{◌≤◌, ◌-◌, length};
+    ghost use Rattle.std.specs.Vec.{vec_len, vec_capacity};
+    ghost use Rattle.edit_desk.specs.Answers.{IsLegal};
+    ghost use Rattle.edit_desk.specs.Versions.{DeskView};
 
-    ghost Value = { Standing };
+    ghost Value = { DeskView };
 
-    ghost view = { λ d. record { trace = d.trace; version = d.version; history = d.history.items } };
+    ghost view = { λ d. record {
+      standing = record { opening = d.opening; trace = d.published.run.trace; version = d.published.version; history = d.history.items };
+      marks = d.published.run.marks;
+      room = vec_capacity d.history - vec_len d.history;
+      meter = d.meter;
+    } };
 
-    ghost invariant = { λ d. (d.version ≤ length d.history.items) × (length d.history.items ≤ 1000000) };
+    ghost invariant = { λ d. (d.published.version ≤ length d.history.items) × (length d.history.items ≤ 1000000)
+        × IsLegal (record { opening = d.opening; trace = d.published.run.trace; version = d.published.version; history = d.history.items }) };
 }
 
 impl Desk {
-    /// A desk with this trace, at version 0, which was asked nothing yet. Takes no memory.
-    pub fn open(alloc: Global, trace: Trace) -> Desk
-        ensures { result ≡ opened trace }
+    /// A desk with this trace, at version 0, which was asked nothing yet. The trace is replayed.
+    pub fn open(alloc: Global, trace: Trace) -> Result<Desk, AllocError>
+        ensures { IfOk result (λ d. d.standing ≡ opened trace) }
     {
-        Desk {
-            trace,
-            version: 0,
+        let mut meter = Meter::new();
+        let run = Run::load(alloc, trace, &mut meter)?;
+        Ok(Desk {
+            opening: run.trace(alloc)?,
+            published: Published::new(alloc, 0, run)?,
             history: Vec::new(alloc),
-        }
+            meter,
+        })
     }
 
-    /// The trace that stands.
-    pub fn trace(&self) -> &Trace
-        ensures { result.now ≡ self.now.trace }
+    /// The version of the trace that stands, with its run.
+    pub fn published(&self) -> &Published
+        ensures trace { result.now.run.trace ≡ self.now.standing.trace }
+        ensures version { result.now.version ≡ self.now.standing.version }
+        ensures marks { result.now.run.marks ≡ self.now.marks }
     {
-        &self.trace
+        &self.published
     }
 
     /// The version of the trace that stands: how many requests were accepted.
     pub fn version(&self) -> u32
-        ensures { result ≡ self.now.version }
+        ensures { result ≡ self.now.standing.version }
     {
-        self.version
+        self.published.version()
     }
 
     /// How many requests were answered and stored.
     pub fn len(&self) -> usize
-        ensures { result ≡ length self.now.history }
+        ensures { result ≡ length self.now.standing.history }
     {
         self.history.len()
     }
 
     /// The entry at a place of the history, from 0.
     pub fn entry(&self, place: usize) -> Option<&Entry>
-        ensures { option_copied result ≡ slice_get self.now.history place }
+        ensures { option_copied result ≡ slice_get self.now.standing.history place }
     {
         self.history.get(place)
     }
 
-    /// Replies to a session's request, and makes its edits where it accepts them. Out of memory the desk stays as it was.
+    /// The trace that was opened. By its clauses a caller knows that the history leads from it to what stands.
+    pub fn opening(&self) -> &Trace
+        ensures value { result.now ≡ self.now.standing.opening }
+        ensures legal { IsLegal self.now.standing }
+    {
+        &self.opening
+    }
+
+    /// How many operations were replayed.
+    pub fn meter(&self) -> &Meter
+        ensures { result.now ≡ self.now.meter }
+    {
+        &self.meter
+    }
+
+    /// Replies to a session's request, and makes its edits where it accepts them. Out of memory the trace, its version and the
+    /// history stay as they were.
     pub fn answer(
         &mut self,
         alloc: Global,
         session: u32,
         request: Request,
     ) -> Result<Reply, AllocError>
-        ensures reply { IfOk result (λ r. r ≡ reply_to self.old request) }
-        ensures after { OnOk result (self.new ≡ after self.old session request) }
-        ensures unchanged { OnErr result (self.new ≡ self.old) }
+        ensures reply { IfOk result (λ r. r ≡ reply_to self.old.standing request) }
+        ensures after { OnOk result (self.new.standing ≡ after self.old.standing session request) }
+        ensures unchanged { OnErr result (self.new.standing ≡ self.old.standing) }
+        ensures bound { length self.old.standing.history < 1000000 → request.base ≡ self.old.standing.version → ReplaysWithin self.old.standing.trace self.old.marks request.batch self.old.meter self.new.meter }
+        ensures full { 1000000 ≤ length self.old.standing.history → self.new.meter ≡ self.old.meter }
+        ensures stale { request.base ≢ self.old.standing.version → self.new.meter ≡ self.old.meter }
+        ensures refused { IsErr (edited_by self.old.standing.trace request.batch) → self.new.meter ≡ self.old.meter }
     {
         if self.history.len() >= MAX_ENTRIES {
             return Ok(Reply::HistoryFull);
         }
-        if request.base != self.version {
-            let reply = Reply::Stale(self.version);
-            self.store(session, request, reply)?;
-            return Ok(reply);
-        }
-        match apply(alloc, &self.trace, &request.batch) {
-            Ok(trace) => self.accept(session, request, trace),
-            Err(RunFault::Memory) => Err(AllocError),
-            Err(fault) => {
-                let reply = Reply::Refused(fault);
-                self.store(session, request, reply)?;
-                Ok(reply)
-            }
-        }
+        let prepared = self.prepare(alloc, session, request)?;
+        Ok(self.commit(prepared))
     }
 
-    // The edited trace is the next version.
-    fn accept(&mut self, session: u32, request: Request, trace: Trace) -> Result<Reply, AllocError>
-        requires room { length self.old.history < 1000000 }
-        requires edited { edited_by self.old.trace request.batch ≡ Ok trace }
-        requires current { request.base ≡ self.old.version }
-        ensures reply { IfOk result (λ r. r ≡ reply_to self.old request) }
-        ensures after { OnOk result (self.new ≡ after self.old session request) }
-        ensures unchanged { OnErr result (self.new ≡ self.old) }
+    /// Replies to a request, and makes all that the reply wants, but neither trace, version nor history change by it.
+    pub fn prepare(
+        &mut self,
+        alloc: Global,
+        session: u32,
+        request: Request,
+    ) -> Result<Prepared, AllocError>
+        requires { length self.old.standing.history < 1000000 }
+        ensures due { IfOk result (λ p. IsDue self.old.standing p) }
+        ensures request { IfOk result (λ p. (p.entry.session ≡ session) × (p.entry.request ≡ request)) }
+        ensures room { OnOk result (0 < self.new.room) }
+        ensures unchanged { self.new.standing ≡ self.old.standing }
+        ensures bound { request.base ≡ self.old.standing.version → ReplaysWithin self.old.standing.trace self.old.marks request.batch self.old.meter self.new.meter }
+        ensures stale { request.base ≢ self.old.standing.version → self.new.meter ≡ self.old.meter }
+        ensures refused { IsErr (edited_by self.old.standing.trace request.batch) → self.new.meter ≡ self.old.meter }
     {
-        let version = self.version + 1;
-        let reply = Reply::Accepted(version);
-        self.store(session, request, reply)?;
-        self.trace = trace;
-        self.version = version;
-        Ok(reply)
-    }
-
-    // Adds an entry to the history.
-    fn store(&mut self, session: u32, request: Request, reply: Reply) -> Result<(), AllocError>
-        requires { length self.old.history < 1000000 }
-        ensures ok { let entry : Entry = record { session = session; request = request; reply = reply } in OnOk result (self.new ≡ record self.old { history = self.old.history ++ entry ∷ [] }) }
-        ensures unchanged { OnErr result (self.new ≡ self.old) }
-    {
+        let (reply, next) = settle(alloc, &self.published, &request, &mut self.meter)?;
+        self.history.reserve(1)?;
         let entry = Entry {
             session,
             request,
             reply,
         };
-        Ok(self.history.push(entry)?)
+        Ok(Prepared { entry, next })
+    }
+
+    /// Makes what was prepared stand. Takes no memory.
+    pub fn commit(&mut self, prepared: Prepared) -> Reply
+        requires history { length self.old.standing.history < 1000000 }
+        requires room { 0 < self.old.room }
+        requires due { IsDue self.old.standing prepared }
+        ensures reply { result ≡ prepared.entry.reply }
+        ensures after { self.new.standing ≡ after self.old.standing prepared.entry.session prepared.entry.request }
+        ensures meter { self.new.meter ≡ self.old.meter }
+    {
+        let Prepared { entry, next } = prepared;
+        let reply = entry.reply;
+        self.history.push_reserved(entry);
+        self.published = next;
+        reply
+    }
+}
+
+// The reply to a request whose history has room, and the version that stands then.
+fn settle(
+    alloc: Global,
+    published: &Published,
+    request: &Request,
+    meter: &mut Meter,
+) -> Result<(Reply, Published), AllocError>
+    requires { published.now.version < 1000000 }
+    ensures settled { IfOk result (λ r. IsSettled published.now request.now r.0 r.1) }
+    ensures bound { request.now.base ≡ published.now.version → ReplaysWithin published.now.run.trace published.now.run.marks request.now.batch meter.old meter.new }
+    ensures stale { request.now.base ≢ published.now.version → meter.new ≡ meter.old }
+    ensures refused { IsErr (edited_by published.now.run.trace request.now.batch) → meter.new ≡ meter.old }
+{
+    let version = published.version();
+    if request.base != version {
+        return Ok((Reply::Stale(version), published.share()?));
+    }
+    match published.run().edited(alloc, &request.batch, meter) {
+        Ok(run) => {
+            let next = Published::new(alloc, version + 1, run)?;
+            Ok((Reply::Accepted(version + 1), next))
+        }
+        Err(RunFault::Memory) => Err(AllocError),
+        Err(fault) => Ok((Reply::Refused(fault), published.share()?)),
     }
 }

@@ -3,6 +3,8 @@
 
 pub mod desk;
 pub mod entries;
+pub mod prepared;
+pub mod published;
 pub mod replies;
 #[cfg(test)]
 mod tests;

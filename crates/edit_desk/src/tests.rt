@@ -1,6 +1,8 @@
 use crate::desk::Desk;
 use crate::entries::Request;
+use crate::published::{export, what_if};
 use crate::replies::{Reply, push_reply};
+use op_step::meter::Meter;
 use run_engine::faults::RunFault;
 use std::test::Fail;
 use trace_types::edits::{Batch, Edit};
@@ -14,7 +16,7 @@ fn opened(rt: &HostRuntime) -> Result<Desk, Fail> {
     let op = Op::make(1, 0, Kind::New { to: 0, fields })?;
     let mut trace = Trace::new(rt.alloc());
     trace.push(op)?;
-    Ok(Desk::open(rt.alloc(), trace))
+    Ok(Desk::open(rt.alloc(), trace)?)
 }
 
 fn removal(rt: &HostRuntime, id: u32, times: u32) -> Result<Batch, Fail> {
@@ -46,12 +48,65 @@ fn desk_replies(rt: HostRuntime) -> Result<(), Fail> {
     assert_eq!(rt; reply, Reply::Accepted(1));
     assert_eq!(rt; desk.version(), 1);
     assert_eq!(rt; desk.len(), 5);
-    assert_eq!(rt; desk.trace().len(), 0);
+    assert_eq!(rt; desk.published().run().len(), 0);
     let last = desk.entry(4).ok_or("five entries")?;
     assert_eq!(rt; last.session, 3);
     let mut text = String::new(alloc);
     push_reply(&mut text, reply)?;
     push_reply(&mut text, Reply::Refused(RunFault::NoSuchOp(1)))?;
     assert!(rt; text.as_str() == "accepted 1\nrefused NoSuchOp 1\n");
+    Ok(())
+}
+
+#[test]
+fn prepared_request_counts_when_committed(rt: HostRuntime) -> Result<(), Fail> {
+    let alloc = rt.alloc();
+    let mut desk = opened(&rt)?;
+    let batch = removal(&rt, 1, 1)?;
+    let prepared = desk.prepare(alloc, 2, Request { base: 0, batch })?;
+    assert_eq!(rt; prepared.published().version(), 1);
+    assert_eq!(rt; prepared.published().run().len(), 0);
+    assert_eq!(rt; desk.version(), 0);
+    assert_eq!(rt; desk.len(), 0);
+    assert_eq!(rt; desk.commit(prepared), Reply::Accepted(1));
+    assert_eq!(rt; desk.version(), 1);
+    assert_eq!(rt; desk.published().run().len(), 0);
+    assert_eq!(rt; desk.opening().len(), 1);
+    Ok(())
+}
+
+#[test]
+fn version_asked_what_if_stays(rt: HostRuntime) -> Result<(), Fail> {
+    let alloc = rt.alloc();
+    let desk = opened(&rt)?;
+    let batch = removal(&rt, 1, 1)?;
+    let mut meter = Meter::new();
+    let share = desk.published().share()?;
+    match what_if(alloc, &share, &batch, &mut meter) {
+        Ok(run) => assert_eq!(rt; run.len(), 0),
+        Err(_) => assert!(rt; false),
+    }
+    let text = export(alloc, share.run())?;
+    assert!(rt;
+        text.as_slice() == b"{\"fields\":[],\"id\":1,\"op\":\"new\",\"t\":0,\"to\":0}\n".as_slice()
+    );
+    assert_eq!(rt; desk.version(), 0);
+    Ok(())
+}
+
+#[test]
+fn full_history(rt: HostRuntime) -> Result<(), Fail> {
+    let alloc = rt.alloc();
+    let mut desk = opened(&rt)?;
+    for _ in 0..1_000_000u32 {
+        let batch = Sequence::empty(alloc);
+        let reply = desk.answer(alloc, 0, Request { base: 1, batch })?;
+        assert!(rt; reply == Reply::Stale(0));
+    }
+    let batch = removal(&rt, 1, 1)?;
+    let reply = desk.answer(alloc, 0, Request { base: 0, batch })?;
+    assert_eq!(rt; reply, Reply::HistoryFull);
+    assert_eq!(rt; desk.len(), 1_000_000);
+    assert_eq!(rt; desk.version(), 0);
     Ok(())
 }

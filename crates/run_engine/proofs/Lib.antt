@@ -1,1 +1,10 @@
 mod ListingLemmas
+mod EditLemmas
+mod CommonLemmas
+mod SegmentLemmas
+mod PieceLemmas
+mod ConvergeLemmas
+mod MarksLemmas
+mod SteppedLemmas
+mod LoadLemmas
+mod GiveUpLemmas

@@ -1,1 +1,10 @@
 pub mod Edited
+pub mod Part
+pub mod Stretch
+pub mod Marks
+pub mod Segments
+pub mod RunView
+pub mod Common
+pub mod Bounds
+pub mod NewMarks
+pub mod Steps

@@ -1,6 +1,6 @@
 //! The trace after a batch of edits.
 ghost use Rattle.std.specs.Prelude.{◌≡◌, ◌<◌, ◌≤◌, length, ◌⊎◌, IfOk, OnOk, IfErr, IfSome, Ok, Err};
-ghost use Rattle.trace_types.specs.Trace.{place_of};
+ghost use Rattle.trace_types.specs.Trace.{IsTrace, place_of};
 ghost use Rattle.run_engine.specs.declared.faults.RunFault.TheVariants.{EmptyBatch, TooManyEdits, Memory};
 ghost use Rattle.run_engine.specs.Edited.{place_after, inserted, removed, changed, edited_one, edited_by};
 
@@ -51,6 +51,7 @@ pub fn edit<'a>(ops: &mut Listing<'a>, batch: &'a [Edit]) -> Result<(), RunFault
     requires few { length batch.now ≤ 64 }
     ensures ok { OnOk result (edited_by ops.old batch.now ≡ Ok ops.new) }
     ensures fault { IfErr result (λ e. (e ≡ Memory) ⊎ (edited_by ops.old batch.now ≡ Err e)) }
+    ensures trace { IsTrace ops.old → OnOk result (IsTrace ops.new) }
 {
     for i in 0..batch.len() {
         edit_one(ops, &batch[i], i as u64)?;
@@ -61,6 +62,7 @@ pub fn edit<'a>(ops: &mut Listing<'a>, batch: &'a [Edit]) -> Result<(), RunFault
 fn edit_one<'a>(ops: &mut Listing<'a>, edit: &'a Edit, index: u64) -> Result<(), RunFault>
     ensures ok { OnOk result (edited_one index ops.old edit.now ≡ Ok ops.new) }
     ensures fault { IfErr result (λ e. (e ≡ Memory) ⊎ (edited_one index ops.old edit.now ≡ Err e)) }
+    ensures trace { IsTrace ops.old → OnOk result (IsTrace ops.new) }
 {
     match edit {
         Edit::Insert { after, op } => insert(ops, *after, op, index),
@@ -72,6 +74,7 @@ fn edit_one<'a>(ops: &mut Listing<'a>, edit: &'a Edit, index: u64) -> Result<(),
 fn insert<'a>(ops: &mut Listing<'a>, after: u32, op: &'a Op, index: u64) -> Result<(), RunFault>
     ensures ok { OnOk result (inserted index ops.old op.now (place_after after ops.old) ≡ Ok ops.new) }
     ensures fault { IfErr result (λ e. (e ≡ Memory) ⊎ (inserted index ops.old op.now (place_after after ops.old) ≡ Err e)) }
+    ensures trace { IsTrace ops.old → OnOk result (IsTrace ops.new) }
 {
     let Some(place) = place_after(ops, after) else {
         return Err(RunFault::NoSuchOp(index));
@@ -82,15 +85,16 @@ fn insert<'a>(ops: &mut Listing<'a>, after: u32, op: &'a Op, index: u64) -> Resu
     if ops.len() >= MAX_OPS {
         return Err(RunFault::TooMany(index));
     }
-    if ops.insert(place, op).is_err() {
-        return Err(RunFault::Memory);
+    match ops.insert(place, op) {
+        Ok(()) => Ok(()),
+        Err(_) => Err(RunFault::Memory),
     }
-    Ok(())
 }
 
 fn remove(ops: &mut Listing, id: u32, index: u64) -> Result<(), RunFault>
     ensures ok { OnOk result (removed index ops.old (place_of id ops.old) ≡ Ok ops.new) }
     ensures fault { IfErr result (λ e. removed index ops.old (place_of id ops.old) ≡ Err e) }
+    ensures trace { IsTrace ops.old → OnOk result (IsTrace ops.new) }
 {
     let Some(place) = ops.place(id) else {
         return Err(RunFault::NoSuchOp(index));
@@ -102,6 +106,7 @@ fn remove(ops: &mut Listing, id: u32, index: u64) -> Result<(), RunFault>
 fn change<'a>(ops: &mut Listing<'a>, id: u32, op: &'a Op, index: u64) -> Result<(), RunFault>
     ensures ok { OnOk result (changed index ops.old id op.now (place_of id ops.old) ≡ Ok ops.new) }
     ensures fault { IfErr result (λ e. changed index ops.old id op.now (place_of id ops.old) ≡ Err e) }
+    ensures trace { IsTrace ops.old → OnOk result (IsTrace ops.new) }
 {
     let Some(place) = ops.place(id) else {
         return Err(RunFault::NoSuchOp(index));
@@ -127,8 +132,8 @@ fn place_after(ops: &Listing, after: u32) -> Option<usize>
     }
 }
 
-// A trace of copies of the operations. Their numbers are distinct, so that only memory can be wanting.
-fn copied(alloc: Global, ops: &Listing) -> Result<Trace, RunFault>
+/// A trace of copies of the operations. Their numbers are distinct, so that only memory can be wanting.
+pub fn copied(alloc: Global, ops: &Listing) -> Result<Trace, RunFault>
     ensures ok { IfOk result (λ t. t ≡ ops.now) }
     ensures fault { IfErr result (λ e. e ≡ Memory) }
 {

@@ -1,6 +1,17 @@
 //! A run: a trace that was replayed, its outcomes and its checkpoints, and what stays of it when the trace is edited.
 #![tactic(auto)]
 
+mod common;
+mod contents;
+mod converge;
 pub mod edits;
 pub mod faults;
 mod listing;
+mod piece;
+mod restart;
+pub mod run;
+mod seek;
+mod segment;
+mod stretch;
+#[cfg(test)]
+mod tests;

@@ -1,6 +1,7 @@
 //! Operations that stand elsewhere, in an order of their own.
 ghost use Rattle.std.specs.Prelude.{◌≡◌, ◌<◌, ◌≤◌, ◌++◌, ◌∷◌, [], length, IfOk, OnOk, IfSome, slice_index_or, insert, remove, slice_set};
 ghost use Rattle.trace_types.specs.Trace.{place_of, is_taken};
+ghost use Rattle.run_engine.specs.Part.{part};
 
 use std::alloc::{AllocError, Global};
 use std::marker::Model;
@@ -45,6 +46,19 @@ impl<'a> Listing<'a> {
         ensures { result.now ≡ slice_index_or self.now place result.now }
     {
         self.ops[place]
+    }
+
+    /// Copies of the operations from one place to another.
+    pub fn copies(&self, alloc: Global, from: usize, to: usize) -> Result<Vec<Op>, AllocError>
+        requires order { from ≤ to }
+        requires within { to ≤ length self.now }
+        ensures { IfOk result (λ v. v.items ≡ part self.now from to) }
+    {
+        let mut copies = Vec::with_capacity(alloc, to - from)?;
+        for place in from..to {
+            copies.push(self.at(place).copy(alloc)?)?;
+        }
+        Ok(copies)
     }
 
     /// Adds operations at the end.

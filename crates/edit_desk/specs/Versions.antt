@@ -1,0 +1,59 @@
+-- What a desk has, and what it prepares.
+use Rattle.std.specs.Prelude.{◌≡◌, ℕ, ◌==◌, List, Ok, if◌then◌else◌}
+use Rattle.trace_types.specs.Operation.{Operation}
+use Rattle.trace_types.specs.declared.edits.Edit.{Edit}
+use Rattle.run_engine.specs.RunView.{RunView}
+use Rattle.run_engine.specs.Bounds.{IsBoundedFrom}
+use Rattle.edit_desk.specs.declared.entries.Entry.{Entry}
+use Rattle.edit_desk.specs.declared.entries.Request.{Request}
+use Rattle.edit_desk.specs.declared.replies.Reply.{Reply}
+use Rattle.edit_desk.specs.declared.replies.Reply.TheVariants.{Accepted, Stale, Refused, HistoryFull}
+use Rattle.run_engine.specs.Edited.{edited_by}
+use Rattle.edit_desk.specs.Answers.{Standing, settled, reply_to, edited_or, after}
+
+-- a version of the trace, with its run
+pub record Version : Type 0 where
+  pub version : ℕ
+  pub run : RunView
+
+-- what stands, the checkpoints of its run, how many entries more the history has room for, and how many operations were replayed
+pub record DeskView : Type 0 where
+  pub standing : Standing
+  pub marks : List ℕ
+  pub room : ℕ
+  pub meter : ℕ
+
+-- a request with the reply to it, and what will stand
+pub record PreparedView : Type 0 where
+  pub entry : Entry
+  pub next : Version
+
+-- this was prepared for what stands
+pub record IsDue (s : Standing) (p : PreparedView) : Type 0 where
+  pub reply : p.entry.reply ≡ reply_to s p.entry.request
+  pub trace : p.next.run.trace ≡ (after s p.entry.session p.entry.request).trace
+  pub version : p.next.version ≡ (after s p.entry.session p.entry.request).version
+
+-- the version after an accepted reply
+abbrev pub next_version : ℕ → Reply → ℕ
+next_version now (Accepted version) = version
+next_version now (Stale version) = now
+next_version now (Refused fault) = now
+next_version now HistoryFull = now
+
+-- the trace after a reply
+abbrev pub next_trace : Version → Request → Reply → List Operation
+next_trace v r (Accepted version) = edited_or v.run.trace (edited_by v.run.trace r.batch)
+next_trace v r (Stale version) = v.run.trace
+next_trace v r (Refused fault) = v.run.trace
+next_trace v r HistoryFull = v.run.trace
+
+-- the reply to a request that a history has room for, and what stands then
+pub record IsSettled (v : Version) (r : Request) (reply : Reply) (next : Version) : Type 0 where
+  pub reply_is : reply ≡ (if r.base == v.version then settled v.version (edited_by v.run.trace r.batch) else Stale v.version)
+  pub trace : next.run.trace ≡ next_trace v r reply
+  pub version : next.version ≡ next_version v.version reply
+
+-- edits of a trace whose run has these checkpoints replay at most what they have to, from one count to another
+unfoldable pub ReplaysWithin : List Operation → List ℕ → List Edit → ℕ → ℕ → Type 0
+ReplaysWithin trace marks batch before after = (ops : List Operation) → edited_by trace batch ≡ Ok ops → IsBoundedFrom trace ops marks before after

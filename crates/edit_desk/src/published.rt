@@ -1,0 +1,85 @@
+//! A version of the trace, with its run.
+ghost use Rattle.std.specs.Prelude.{◌≡◌, ◌⊎◌, IfOk, IfErr, Ok, Err};
+ghost use Rattle.run_engine.specs.Edited.{edited_by};
+ghost use Rattle.run_engine.specs.declared.faults.RunFault.TheVariants.{Memory};
+ghost use Rattle.trace_reader.specs.Writing.{lines_text};
+
+use op_step::meter::Meter;
+use run_engine::faults::RunFault;
+use run_engine::run::Run;
+use std::alloc::{AllocError, Global};
+use std::marker::Model;
+use std::sync::Arc;
+use trace_reader::write_trace;
+use trace_types::edits::Batch;
+
+/// A version of the trace, with its run, which shares of it share.
+#[derive(Drop)]
+pub struct Published {
+    version: u32,
+    run: Arc<Run>,
+}
+
+impl Model for Published {
+    ghost use Rattle.std.specs.Arc.{arc_value};
+    ghost use Rattle.edit_desk.specs.Versions.{Version};
+
+    ghost Value = { Version };
+
+    ghost view = { λ p. record { version = p.version; run = arc_value p.run } };
+}
+
+impl Published {
+    pub(crate) fn new(alloc: Global, version: u32, run: Run) -> Result<Published, AllocError>
+        ensures { IfOk result (λ p. p ≡ record { version = version; run = run }) }
+    {
+        Ok(Published {
+            version,
+            run: Arc::new(alloc, run)?,
+        })
+    }
+
+    /// The version: how many requests were accepted before.
+    pub fn version(&self) -> u32
+        ensures { result ≡ self.now.version }
+    {
+        self.version
+    }
+
+    /// The run of the trace.
+    pub fn run(&self) -> &Run
+        ensures { result.now ≡ self.now.run }
+    {
+        &self.run
+    }
+
+    /// The same version again. Copies nothing of the run.
+    pub fn share(&self) -> Result<Published, AllocError>
+        ensures { IfOk result (λ p. p ≡ self.now) }
+    {
+        Ok(Published {
+            version: self.version,
+            run: Arc::try_clone(&self.run)?,
+        })
+    }
+}
+
+/// The run of the version's trace after edits, which nobody else sees.
+pub fn what_if(
+    alloc: Global,
+    published: &Published,
+    batch: &Batch,
+    meter: &mut Meter,
+) -> Result<Run, RunFault>
+    ensures trace { IfOk result (λ r. edited_by published.now.run.trace batch.now ≡ Ok r.trace) }
+    ensures fault { IfErr result (λ e. (e ≡ Memory) ⊎ (edited_by published.now.run.trace batch.now ≡ Err e)) }
+{
+    published.run.edited(alloc, batch, meter)
+}
+
+/// The canonical lines of a run's trace.
+pub fn export(alloc: Global, run: &Run) -> Result<Vec<u8>, AllocError>
+    ensures { IfOk result (λ text. text.items ≡ lines_text run.now.trace) }
+{
+    write_trace(alloc, &run.trace(alloc)?)
+}

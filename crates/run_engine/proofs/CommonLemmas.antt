@@ -1,0 +1,106 @@
+-- Heads and tails of two traces.
+use Rattle.std.proofs.Common.{◌≡◌, ℕ, ◌+◌, ◌-◌, ◌<◌, ◌≤◌, suc, List, [], ◌∷◌, ◌++◌, length, take, drop, get_or, refl, ap, sym, subst, ◌∙◌, arith}
+use Rattle.std.proofs.lemmas.Bool.{cases_lt}
+use Rattle.std.proofs.lemmas.List.{take_more, same_from_push, drop-drop, drop_all}
+use mathlib.Core.Logic.{⊎_elim}
+use Rattle.std.specs.Prelude.{Contains}
+use Rattle.trace_types.specs.Operation.{Operation}
+use Rattle.run_engine.specs.Common.{ShareEnd, IsHead, IsTail, AreShared}
+use Rattle.run_engine.specs.Marks.{IsGreatest}
+use Rattle.run_engine.specs.Bounds.{IsBounded, IsBoundedFrom}
+use Rattle.run_engine.specs.Steps.{AreSteppedFrom}
+use Rattle.run_engine.proofs.ListingLemmas.{around, take-shorter}
+
+-- the first operations and one more
+one-more : (xs : List Operation) (i : ℕ) (x : Operation) → i < length xs → x ≡ get_or xs i x → take (i + 1) xs ≡ take i xs ++ x ∷ []
+one-more xs i x lt is = take_more xs i x lt ∙ ap (λ y. take i xs ++ y ∷ []) (sym is)
+
+pub head-more : (old new : List Operation) (i : ℕ) (x y : Operation) → i < length old → i < length new → x ≡ get_or old i x → y ≡ get_or new i y → x ≡ y
+    → take i old ≡ take i new → take (i + 1) old ≡ take (i + 1) new
+head-more old new i x y a b is js e same = one-more old i x a is ∙ ap (λ zs. zs ++ x ∷ []) same ∙ ap (λ z. take i new ++ z ∷ []) e ∙ sym (one-more new i y b js)
+
+-- where the operations at i differ, no longer prefix is common
+pub head-ends : (old new : List Operation) (i : ℕ) (x y : Operation) → i < length old → i < length new → x ≡ get_or old i x → y ≡ get_or new i y → (x ≡ y → ⊥)
+    → (n : ℕ) → take n old ≡ take n new → n ≤ i
+head-ends old new i x y a b is js differ n same = ⊎_elim
+    (λ lt.
+    let first : take (i + 1) old ≡ take (i + 1) new = sym (take-shorter (i + 1) n old (omega arith)) ∙ ap (take (i + 1)) same ∙ take-shorter (i + 1) n new (omega arith) in
+    absurd (differ (same_from_push (take i old) (take i new) x y (sym (one-more old i x a is) ∙ first ∙ one-more new i y b js)).1))
+    (λ le. le)
+    (cases_lt i n)
+
+-- the last operations and one more
+one-before : (xs : List Operation) (n : ℕ) (x : Operation) → n < length xs → x ≡ get_or xs (length xs - 1 - n) x → drop (length xs - (n + 1)) xs ≡ x ∷ drop (length xs - n) xs
+one-before xs n x lt is =
+    let at : length xs - (n + 1) ≡ length xs - 1 - n = omega arith in
+    let next : length xs - 1 - n + 1 ≡ length xs - n = omega arith in
+    ap (λ k. drop k xs) at ∙ around xs (length xs - 1 - n) x (omega arith) is ∙ ap (λ k. x ∷ drop k xs) next
+
+pub tail-more : (old new : List Operation) (n : ℕ) (x y : Operation) → n < length old → n < length new → x ≡ get_or old (length old - 1 - n) x → y ≡ get_or new (length new - 1 - n) y → x ≡ y
+    → drop (length old - n) old ≡ drop (length new - n) new → drop (length old - (n + 1)) old ≡ drop (length new - (n + 1)) new
+tail-more old new n x y a b is js e same = one-before old n x a is ∙ ap (λ zs. x ∷ zs) same ∙ ap (λ z. z ∷ drop (length new - n) new) e ∙ sym (one-before new n y b js)
+
+first-same : (x y : Operation) (xs ys : List Operation) → x ∷ xs ≡ y ∷ ys → x ≡ y
+first-same x y xs ys e = cc
+
+-- the last n of the last k
+last-of-last : (xs : List Operation) (n k : ℕ) → n ≤ k → k ≤ length xs → drop (length xs - n) xs ≡ drop (k - n) (drop (length xs - k) xs)
+last-of-last xs n k le fits = let at : length xs - k + (k - n) ≡ length xs - n = omega arith in sym (drop-drop (k - n) (length xs - k) xs ∙ ap (λ m. drop m xs) at)
+
+pub tail-ends : (old new : List Operation) (n : ℕ) (x y : Operation) → n < length old → n < length new → x ≡ get_or old (length old - 1 - n) x → y ≡ get_or new (length new - 1 - n) y → (x ≡ y → ⊥)
+    → (k : ℕ) → k ≤ length old → k ≤ length new → drop (length old - k) old ≡ drop (length new - k) new → k ≤ n
+tail-ends old new n x y a b is js differ k fits within same = ⊎_elim
+    (λ lt.
+    let last : drop (length old - (n + 1)) old ≡ drop (length new - (n + 1)) new =
+    last-of-last old (n + 1) k (omega arith) fits ∙ ap (drop (k - (n + 1))) same ∙ sym (last-of-last new (n + 1) k (omega arith) within) in
+    absurd (differ (first-same x y _ _ (sym (one-before old n x a is) ∙ last ∙ one-before new n y b js))))
+    (λ le. le)
+    (cases_lt n k)
+
+pub ShareEnd-tail : (old new : List Operation) (head tail : ℕ) → IsTail old new head tail → ShareEnd old new (length old - tail) (length new - tail)
+ShareEnd-tail old new head tail h = record { old_within = omega arith; within = omega arith; same = h.same }
+
+same-head : (old new : List Operation) (h k : ℕ) → IsHead old new h → IsHead old new k → h ≡ k
+same-head old new h k a b =
+    let le = b.most h a.old_within a.within a.same in
+    let ge = a.most k b.old_within b.within b.same in
+    omega arith
+
+same-tail : (old new : List Operation) (head t u : ℕ) → IsTail old new head t → IsTail old new head u → t ≡ u
+same-tail old new head t u a b =
+    let le = b.most t a.old_within a.within a.same in
+    let ge = a.most u b.old_within b.within b.same in
+    omega arith
+
+-- there is one head, one tail and one restart
+pub from-greatest : (P : ℕ → ℕ → Type 0) (old ops : List Operation) (marks : List ℕ) (head tail at : ℕ) → AreShared old ops head tail → IsGreatest marks head at → P tail at
+    → (other last r : ℕ) → AreShared old ops other last → IsGreatest marks other r → P last r
+from-greatest P old ops marks head tail at shared greatest h other last r both is =
+    let he : head ≡ other = same-head old ops head other shared.head_is both.head_is in
+    let te : tail ≡ last = same-tail old ops head tail last shared.tail_is (subst (λ k. IsTail old ops k last) (sym he) both.tail_is) in
+    let early = greatest.early in
+    let is_early = is.early in
+    let le : r ≤ at = greatest.most r is.mark (omega arith) in
+    let ge : at ≤ r = is.most at greatest.mark (omega arith) in
+    let re : at ≡ r = omega arith in
+    subst (λ t. P t r) te (subst (λ x. P tail x) re h)
+
+-- the bound by other names
+pub bound-as : (old old_is ops : List Operation) (marks marks_are : List ℕ) (before after : ℕ) → old ≡ old_is → marks ≡ marks_are → IsBoundedFrom old ops marks before after → IsBoundedFrom old_is ops marks_are before after
+bound-as old old_is ops marks marks_are before after e f h =
+    subst (λ o. IsBoundedFrom o ops marks_are before after) e (subst (λ ms. IsBoundedFrom old ops ms before after) f h)
+
+-- what is stepped, by other names
+pub stepped-as : (old old_is ops : List Operation) (marks marks_are : List ℕ) (before after : ℕ) → old ≡ old_is → marks ≡ marks_are → AreSteppedFrom old ops marks before after → AreSteppedFrom old_is ops marks_are before after
+stepped-as old old_is ops marks marks_are before after e f h =
+    subst (λ o. AreSteppedFrom o ops marks_are before after) e (subst (λ ms. AreSteppedFrom old ops ms before after) f h)
+
+-- nothing was stepped
+pub bounded-none : (old ops : List Operation) (marks : List ℕ) (before : ℕ) → IsBoundedFrom old ops marks before before
+bounded-none old ops marks before head tail r both is =
+    let within = both.tail_is.within in
+    let early = is.early in
+    record { whole = omega arith; stop = λ p m behind agrees. omega arith }
+
+pub tail-none : (old new : List Operation) → drop (length old - 0) old ≡ drop (length new - 0) new
+tail-none old new = drop_all (length old - 0) old (omega arith) ∙ sym (drop_all (length new - 0) new (omega arith))

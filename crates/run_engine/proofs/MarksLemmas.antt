@@ -1,0 +1,260 @@
+-- The marks of an edited trace.
+use Rattle.std.proofs.Common.{IsTrue, IfSome, is_some, add-zero, suc, true, false}
+use Rattle.run_engine.proofs.SegmentLemmas.{trace_of-append}
+use Rattle.std.proofs.Common.{◌≡◌, ℕ, ◌+◌, ◌-◌, ◌<◌, ◌≤◌, List, [], ◌∷◌, ◌++◌, length, take, drop, get_or, refl, ap, sym, subst, ◌∙◌, arith, append_assoc, length-append, take-append-drop}
+use Rattle.std.specs.Prelude.{Some, None, Option, map, Contains}
+use Rattle.std.proofs.lemmas.List.{append-nil, take_more, map-append, length-take, drop-drop}
+use mathlib.Core.Logic.{⊎_elim, inl, inr}
+use Rattle.std.proofs.lemmas.List.Elements.{Contains-append_cases}
+use Rattle.ownership_model.specs.State.{State}
+use Rattle.trace_types.specs.Operation.{Operation}
+use Rattle.run_engine.specs.Stretch.{Stretch}
+use Rattle.run_engine.specs.Segments.{ops_of, trace_of, mark_here, marks_from, all_marks, AreFull, BeginsMarked, IsRun, IsRestart, IsReached, IsPiece}
+use Rattle.run_engine.specs.Common.{ShareEnd, AreShared}
+use Rattle.run_engine.specs.Bounds.{AgreesAt}
+use Rattle.run_engine.specs.NewMarks.{places, past, Each, IsGap, AreNeighbours, AreLaid, AreMarksOf, AreMarksAfter}
+use Rattle.run_engine.proofs.SegmentLemmas.{marks_from-append}
+use Rattle.run_engine.proofs.ListingLemmas.{around}
+use Rattle.run_engine.proofs.PieceLemmas.{AreFull-front, mark-is}
+use Rattle.std.proofs.Math.Seq.{take-append_seam, drop-append_seam}
+use Rattle.ownership_model.specs.State.{nothing_held}
+use Rattle.ownership_model.specs.Step.{end_from}
+use Rattle.run_engine.specs.Steps.{IsOldStretch}
+use Rattle.run_engine.proofs.ConvergeLemmas.{marks-at, ShareEnd-length, place-within, Contains-none, Contains-one, mark_here-place, marks_from-least}
+
+places-append : (r : ℕ) (gaps : List ℕ) (g : ℕ) → places r (gaps ++ g ∷ []) ≡ places r gaps ++ past r gaps ∷ []
+places-append r [] g = refl
+places-append r (h ∷ gaps) g = ap (λ ps. r ∷ ps) (places-append (r + h) gaps g)
+
+past-append : (r : ℕ) (gaps : List ℕ) (g : ℕ) → past r (gaps ++ g ∷ []) ≡ past r gaps + g
+past-append r [] g = refl
+past-append r (h ∷ gaps) g = past-append (r + h) gaps g
+
+Each-append : (P : ℕ → Type 0) (gaps : List ℕ) (g : ℕ) → Each P gaps → P g → Each P (gaps ++ g ∷ [])
+Each-append P [] g h k = (k, tt)
+Each-append P (x ∷ gaps) g h k = (h.0, Each-append P gaps g h.1 k)
+
+pub AreLaid-none : (old kept : List ℕ) (r : ℕ) → AreLaid old kept r r kept
+AreLaid-none old kept r = record { gaps = []; laid = sym (append-nil kept); reach = refl; some = tt }
+
+pub AreLaid-next : (ops rest : List Operation) (old kept : List ℕ) (r at len : ℕ) (segments more : List Stretch) (heap end : State)
+    → IsReached ops at segments heap → IsPiece heap rest more end len → IsGap old len → AreLaid old kept r at (marks_from 0 segments) → AreLaid old kept r (at + len) (marks_from 0 (segments ++ more))
+AreLaid-next ops rest old kept r at len segments more heap end h piece gap laid =
+    let within = h.within in
+    let long : length (trace_of segments) ≡ at = ap length h.trace ∙ omega (arith, length-take at ops) in
+    let place : 0 + length (trace_of segments) ≡ past r laid.gaps = omega (arith, laid.reach) in
+    record {
+      gaps = laid.gaps ++ len ∷ [];
+      laid = marks_from-append 0 segments more ∙ ap (λ ps. ps ++ marks_from (0 + length (trace_of segments)) more) laid.laid ∙ ap (λ ps. (kept ++ places r laid.gaps) ++ ps) (piece.marks (0 + length (trace_of segments)) ∙ ap (λ p. p ∷ []) place)
+          ∙ append_assoc kept (places r laid.gaps) ((past r laid.gaps) ∷ []) ∙ ap (λ ps. kept ++ ps) (sym (places-append r laid.gaps len));
+      reach = past-append r laid.gaps len ∙ ap (λ n. n + len) laid.reach;
+      some = Each-append (IsGap old) laid.gaps len laid.some gap;
+    }
+
+-- segments that begin elsewhere
+pub marks_from-moved : (a b at : ℕ) (segments : List Stretch) → a ≤ at → marks_from (at - a + b) segments ≡ map (λ p. p - a + b) (marks_from at segments)
+marks_from-moved a b at [] le = refl
+marks_from-moved a b at (s ∷ segments) le =
+    let e : at - a + b + length (ops_of s) ≡ at + length (ops_of s) - a + b = omega arith in
+    ap (λ ps. mark_here (at - a + b) s.mark ++ ps) (ap (λ p. marks_from p segments) e ∙ marks_from-moved a b (at + length (ops_of s)) segments (omega arith))
+    ∙ here-moved a b at s.mark (marks_from (at + length (ops_of s)) segments)
+  where
+    here-moved : (a b at : ℕ) (o : Option State) (rest : List ℕ) → mark_here (at - a + b) o ++ map (λ p. p - a + b) rest ≡ map (λ p. p - a + b) (mark_here at o ++ rest)
+    here-moved a b at None rest = refl
+    here-moved a b at (Some m) rest = refl
+
+-- after a stop at the segment i, which begins at `at`
+pub AreMarksOf-stop : (old segments : List Stretch) (ops : List Operation) (kept : List ℕ) (a b i at r : ℕ) (s : Stretch)
+    → ShareEnd (trace_of old) ops a b → i < length old → s ≡ get_or old i s → (m : State) → s.mark ≡ Some m → length (trace_of (take i old)) ≡ at → a ≤ at
+    → AgreesAt (trace_of old) ops a b at → ((p : ℕ) → Contains (all_marks old) p → a ≤ p → AgreesAt (trace_of old) ops a b p → at ≤ p)
+    → length (trace_of segments) ≡ at - a + b → trace_of (segments ++ drop i old) ≡ ops → AreLaid (all_marks old) kept r (at - a + b) (marks_from 0 segments)
+    → AreMarksOf (trace_of old) ops kept (all_marks old) (all_marks (segments ++ drop i old)) r a b
+AreMarksOf-stop old segments ops kept a b i at r s shared lt is m mark place behind agrees first long trace laid =
+    let n : ℕ = length (trace_of old) in
+    let later : List ℕ = marks_from (at + length (ops_of s)) (drop (i + 1) old) ++ n ∷ [] in
+    let list : marks_from at (drop i old) ++ n ∷ [] ≡ at ∷ later =
+    ap (λ ss. marks_from at ss ++ n ∷ []) (around old i s lt is) ∙ ap (λ o. (mark_here at o ++ marks_from (at + length (ops_of s)) (drop (i + 1) old)) ++ n ∷ []) mark in
+    let zero_front : 0 + length (trace_of segments) ≡ at - a + b = omega arith in
+    let fits : at ≤ n = place-within old i at place in
+    let across = ShareEnd-length (trace_of old) ops a b shared in
+    let last : length (trace_of (segments ++ drop i old)) ≡ n - a + b = ap length trace ∙ omega (arith, shared.old_within, shared.within) in
+    record {
+      before = marks_from 0 (take i old);
+      after = later;
+      gaps = laid.gaps;
+      stop = at;
+      old_is = marks-at old i at s m lt is mark place;
+      behind = behind;
+      agrees = inl agrees;
+      first = first;
+      new_is = ap (λ l. marks_from 0 (segments ++ drop i old) ++ l ∷ []) last
+          ∙ ap (λ ps. ps ++ (n - a + b) ∷ []) (marks_from-append 0 segments (drop i old) ∙ ap (λ p. marks_from 0 segments ++ marks_from p (drop i old)) zero_front)
+          ∙ append_assoc (marks_from 0 segments) (marks_from (at - a + b) (drop i old)) ((n - a + b) ∷ [])
+          ∙ ap (λ ps. marks_from 0 segments ++ (ps ++ (n - a + b) ∷ [])) (marks_from-moved a b at (drop i old) behind)
+          ∙ ap (λ ps. marks_from 0 segments ++ ps) (sym (map-append (λ p. p - a + b) (marks_from at (drop i old)) (n ∷ [])) ∙ ap (map (λ p. p - a + b)) list)
+          ∙ ap (λ ps. ps ++ map (λ p. p - a + b) (at ∷ later)) laid.laid
+          ∙ append_assoc kept (places r laid.gaps) (map (λ p. p - a + b) (at ∷ later));
+      reach = laid.reach;
+      some = laid.some;
+    }
+
+-- with no stop
+pub AreMarksOf-end : (old segments : List Stretch) (ops : List Operation) (kept : List ℕ) (a b r : ℕ)
+    → ShareEnd (trace_of old) ops a b → ((p : ℕ) → Contains (all_marks old) p → a ≤ p → AgreesAt (trace_of old) ops a b p → length (trace_of old) ≤ p)
+    → trace_of segments ≡ ops → AreLaid (all_marks old) kept r (length ops) (marks_from 0 segments) → AreMarksOf (trace_of old) ops kept (all_marks old) (all_marks segments) r a b
+AreMarksOf-end old segments ops kept a b r shared first trace laid =
+    let n : ℕ = length (trace_of old) in
+    let across = ShareEnd-length (trace_of old) ops a b shared in
+    let last : length ops ≡ n - a + b = omega (arith, shared.old_within, shared.within) in
+    record {
+      before = marks_from 0 old;
+      after = [];
+      gaps = laid.gaps;
+      stop = n;
+      old_is = refl;
+      behind = shared.old_within;
+      agrees = inr refl;
+      first = first;
+      new_is = ap (λ l. marks_from 0 segments ++ l ∷ []) (ap length trace ∙ last) ∙ ap (λ ps. ps ++ (n - a + b) ∷ []) laid.laid ∙ append_assoc kept (places r laid.gaps) ((n - a + b) ∷ []);
+      reach = laid.reach ∙ last;
+      some = laid.some;
+    }
+
+pub IsReached-length : (ops : List Operation) (at : ℕ) (segments : List Stretch) (heap : State) → IsReached ops at segments heap → length (trace_of segments) ≡ at
+IsReached-length ops at segments heap h = let within = h.within in ap length h.trace ∙ omega (arith, length-take at ops)
+
+-- the marks of segments that are not empty are before their end
+marks_from-below : (at : ℕ) (segments : List Stretch) (p : ℕ) → AreFull segments → Contains (marks_from at segments) p → p < at + length (trace_of segments)
+marks_from-below at [] p full h = absurd (Contains-none p h)
+marks_from-below at (s ∷ segments) p full h =
+    let long = length-append (ops_of s) (trace_of segments) in
+    let some = full.0 in
+    ⊎_elim
+    (λ here. let e : p ≡ at = mark_here-place at p s.mark here in omega arith)
+    (λ later. let lt : p < at + length (ops_of s) + length (trace_of segments) = marks_from-below (at + length (ops_of s)) segments p full.1 later in omega arith)
+    (Contains-append_cases (mark_here at s.mark) (marks_from (at + length (ops_of s)) segments) p h)
+
+pub AreMarksAfter-restart : (segments front : List Stretch) (end heap : State) (ops : List Operation) (new : List ℕ) (head tail i at : ℕ)
+    → IsRun segments end → IsRestart segments head i at heap → front ≡ take i segments → AreShared (trace_of segments) ops head tail
+    → AreMarksOf (trace_of segments) ops (marks_from 0 front) (all_marks segments) new at (length (trace_of segments) - tail) (length ops - tail)
+    → AreMarksAfter (record { trace = trace_of segments; marks = all_marks segments }) (record { trace = ops; marks = new })
+AreMarksAfter-restart segments front end heap ops new head tail i at run h is shared marks =
+    let n : ℕ = length (trace_of segments) in
+    let place : 0 + length (trace_of (take i segments)) ≡ at = omega (arith, h.place) in
+    let fits : at ≤ n = place-within segments i at h.place in
+    let full : AreFull (take i segments) = AreFull-front (take i segments) (drop i segments) (subst AreFull (sym (take-append-drop i segments)) run.full) in
+    record {
+      head = head;
+      tail = tail;
+      shared = shared;
+      kept = marks_from 0 (take i segments);
+      behind = marks_from at (drop i segments) ++ n ∷ [];
+      restart = at;
+      old_is = ap (λ ss. marks_from 0 ss ++ n ∷ []) (sym (take-append-drop i segments)) ∙ ap (λ ps. ps ++ n ∷ []) (marks_from-append 0 (take i segments) (drop i segments))
+          ∙ append_assoc (marks_from 0 (take i segments)) (marks_from (0 + length (trace_of (take i segments))) (drop i segments)) (n ∷ [])
+          ∙ ap (λ p. marks_from 0 (take i segments) ++ (marks_from p (drop i segments) ++ n ∷ [])) place;
+      kept_before = λ p k. let lt : p < 0 + length (trace_of (take i segments)) = marks_from-below 0 (take i segments) p full k in omega arith;
+      others_behind = λ p k. ⊎_elim (λ x. marks_from-least at (drop i segments) p x) (λ x. let e : n ≡ p = Contains-one n p x in omega arith) (Contains-append_cases (marks_from at (drop i segments)) (n ∷ []) p k);
+      greatest = h.greatest;
+      laid = subst (λ ss. AreMarksOf (trace_of segments) ops (marks_from 0 ss) (all_marks segments) new at (n - tail) (length ops - tail)) is marks;
+    }
+
+abbrev pub first-mark : (at : ℕ) (c : List Stretch) → BeginsMarked c → List ℕ
+first-mark at [] h = []
+first-mark at (t ∷ c) h = marks_from (at + length (ops_of t)) c ++ (at + length (trace_of (t ∷ c))) ∷ []
+
+mark_here-is : (at : ℕ) (o : Option State) → IsTrue (is_some o) → mark_here at o ≡ at ∷ []
+mark_here-is at None h = cc
+mark_here-is at (Some m) h = refl
+
+first-mark-is : (at : ℕ) (c : List Stretch) (h : BeginsMarked c) → marks_from at c ++ (at + length (trace_of c)) ∷ [] ≡ at ∷ first-mark at c h
+first-mark-is at [] h = ap (λ n. n ∷ []) (add-zero at)
+first-mark-is at (t ∷ c) h = ap (λ ps. (ps ++ marks_from (at + length (ops_of t)) c) ++ (at + length (trace_of (t ∷ c))) ∷ []) (mark_here-is at t.mark h)
+
+-- a stretch from a mark to the next
+pub stretch-neighbours : (a b c : List Stretch) (s : Stretch) (m : State) (len : ℕ) → s.mark ≡ Some m → ((at : ℕ) → marks_from at b ≡ []) → length (trace_of (s ∷ b)) ≡ len → BeginsMarked c
+    → AreNeighbours (all_marks (a ++ ((s ∷ b) ++ c))) len
+stretch-neighbours a b c s m len mark bare long begins =
+    let p : ℕ = 0 + length (trace_of a) in
+    let n : ℕ = length (trace_of (a ++ ((s ∷ b) ++ c))) in
+    let whole : length (trace_of (a ++ ((s ∷ b) ++ c))) ≡ 0 + length (trace_of a) + len + length (trace_of c) =
+    ap length (trace_of-append a ((s ∷ b) ++ c) ∙ ap (λ t. trace_of a ++ t) (trace_of-append (s ∷ b) c))
+    ∙ omega (arith, length-append (trace_of a) (trace_of (s ∷ b) ++ trace_of c), length-append (trace_of (s ∷ b)) (trace_of c)) in
+    let own : marks_from p (s ∷ b) ≡ p ∷ [] = ap (λ o. mark_here p o ++ marks_from (p + length (ops_of s)) b) mark ∙ ap (λ ps. p ∷ ps) (bare (p + length (ops_of s))) in
+    record {
+      before = marks_from 0 a;
+      after = first-mark (p + len) c begins;
+      at = p;
+      marks_are = ap (λ ps. ps ++ n ∷ []) (marks_from-append 0 a ((s ∷ b) ++ c) ∙ ap (λ ps. marks_from 0 a ++ ps) (marks_from-append p (s ∷ b) c ∙ ap (λ ps. ps ++ marks_from (p + length (trace_of (s ∷ b))) c) own ∙ ap (λ l. p ∷ marks_from (p + l) c) long))
+          ∙ append_assoc (marks_from 0 a) (p ∷ marks_from (p + len) c) (n ∷ [])
+          ∙ ap (λ l. marks_from 0 a ++ (p ∷ (marks_from (p + len) c ++ l ∷ []))) whole
+          ∙ ap (λ ps. marks_from 0 a ++ (p ∷ ps)) (first-mark-is (p + len) c begins);
+    }
+
+pub old-neighbours : (old : List Stretch) (i k : ℕ) (s : Stretch) (heap : State) (ops : List Operation) (len : ℕ)
+    → i < length old → s ≡ get_or old i s → s.mark ≡ Some heap → ((at : ℕ) → marks_from at (take k (drop (i + 1) old)) ≡ [])
+    → len ≤ length ops → trace_of (take (suc k) (drop i old)) ≡ take len ops → BeginsMarked (drop (i + suc k) old) → AreNeighbours (all_marks old) len
+old-neighbours old i k s heap ops len lt is mark bare fits same begins =
+    let b : List Stretch = take k (drop (i + 1) old) in
+    let c : List Stretch = drop k (drop (i + 1) old) in
+    let here : drop i old ≡ s ∷ drop (i + 1) old = around old i s lt is in
+    let stretch : take (suc k) (drop i old) ≡ s ∷ take k (drop (i + 1) old) = ap (take (suc k)) here in
+    let parts : take i old ++ ((s ∷ b) ++ c) ≡ old = ap (λ xs. take i old ++ (s ∷ xs)) (take-append-drop k (drop (i + 1) old)) ∙ ap (λ xs. take i old ++ xs) (sym here) ∙ take-append-drop i old in
+    let long : length (trace_of (s ∷ b)) ≡ len = ap (λ ss. length (trace_of ss)) (sym stretch) ∙ ap length same ∙ omega (arith, length-take len ops) in
+    let j : i + 1 + k ≡ i + suc k = omega arith in
+    let rest : drop k (drop (i + 1) old) ≡ drop (i + suc k) old = drop-drop k (i + 1) old ∙ ap (λ n. drop n old) j in
+    subst (λ ss. AreNeighbours (all_marks ss) len) parts (stretch-neighbours (take i old) b c s heap len mark bare long (subst BeginsMarked (sym rest) begins))
+
+pub IfSome-begins : (segments : List Stretch) (j : ℕ) (s : Stretch) → j < length segments → s ≡ get_or segments j s → IfSome s.mark (λ h. BeginsMarked (drop j segments))
+IfSome-begins segments j s lt is = go s.mark refl
+  where
+    go : (o : Option State) → s.mark ≡ o → IfSome o (λ h. BeginsMarked (drop j segments))
+    go None e = tt
+    go (Some m) e = subst BeginsMarked (sym (around segments j s lt is)) (ap is_some e)
+
+pub marks_from-next : (segments : List Stretch) (j : ℕ) (s : Stretch) (at : ℕ) → j < length segments → s ≡ get_or segments j s → at ≡ length (trace_of (take j segments))
+    → marks_from 0 (take (j + 1) segments) ≡ marks_from 0 (take j segments) ++ mark_here at s.mark
+marks_from-next segments j s at lt is place =
+    let here : 0 + length (trace_of (take j segments)) ≡ at = omega arith in
+    ap (marks_from 0) (take_more segments j s lt ∙ ap (λ t. take j segments ++ t ∷ []) (sym is))
+    ∙ marks_from-append 0 (take j segments) (s ∷ [])
+    ∙ ap (λ p. marks_from 0 (take j segments) ++ (mark_here p s.mark ++ [])) here
+    ∙ ap (λ ps. marks_from 0 (take j segments) ++ ps) (append-nil (mark_here at s.mark))
+
+pub mark_here-bare : (at : ℕ) (o : Option State) → is_some o ≡ false → mark_here at o ≡ []
+mark_here-bare at None e = refl
+mark_here-bare at (Some m) e = cc
+
+pub mark_here-marked : (at : ℕ) (o : Option State) → is_some o ≡ true → mark_here at o ≡ at ∷ []
+mark_here-marked at None e = cc
+mark_here-marked at (Some m) e = refl
+
+-- a stretch from a mark to the next is one of the old trace
+stretch-old : (a b c : List Stretch) (s : Stretch) (m : State) (ops : List Operation) (len : ℕ) → s.mark ≡ Some m → ((at : ℕ) → marks_from at b ≡ []) → length (trace_of (s ∷ b)) ≡ len → BeginsMarked c
+    → m ≡ end_from nothing_held (trace_of a) → trace_of (s ∷ b) ≡ take len ops → IsOldStretch (trace_of (a ++ ((s ∷ b) ++ c))) (all_marks (a ++ ((s ∷ b) ++ c))) m ops len
+unfolding stretch-neighbours
+stretch-old a b c s m ops len mark bare long begins is same =
+    let rest : List Operation = trace_of ((s ∷ b) ++ c) in
+    let place : 0 + length (trace_of a) ≡ length (trace_of a) = omega arith in
+    let whole : trace_of (a ++ ((s ∷ b) ++ c)) ≡ trace_of a ++ rest = trace_of-append a ((s ∷ b) ++ c) in
+    record {
+      place = stretch-neighbours a b c s m len mark bare long begins;
+      start_is = is ∙ ap (end_from nothing_held) (sym (ap (take (0 + length (trace_of a))) whole ∙ ap (λ n. take n (trace_of a ++ rest)) place ∙ take-append_seam (trace_of a) rest));
+      ops_are = ap (take len) (ap (drop (0 + length (trace_of a))) whole ∙ ap (λ n. drop n (trace_of a ++ rest)) place ∙ drop-append_seam (trace_of a) rest ∙ trace_of-append (s ∷ b) c)
+          ∙ ap (λ n. take n (trace_of (s ∷ b) ++ trace_of c)) (sym long) ∙ take-append_seam (trace_of (s ∷ b)) (trace_of c) ∙ same;
+    }
+
+pub old-stretch-is : (old : List Stretch) (end : State) (i k : ℕ) (s : Stretch) (heap : State) (ops : List Operation) (len : ℕ)
+    → IsRun old end → i < length old → s ≡ get_or old i s → s.mark ≡ Some heap → ((at : ℕ) → marks_from at (take k (drop (i + 1) old)) ≡ [])
+    → len ≤ length ops → trace_of (take (suc k) (drop i old)) ≡ take len ops → BeginsMarked (drop (i + suc k) old) → IsOldStretch (trace_of old) (all_marks old) heap ops len
+old-stretch-is old end i k s heap ops len run lt is mark bare fits same begins =
+    let b : List Stretch = take k (drop (i + 1) old) in
+    let c : List Stretch = drop k (drop (i + 1) old) in
+    let here : drop i old ≡ s ∷ drop (i + 1) old = around old i s lt is in
+    let stretch : take (suc k) (drop i old) ≡ s ∷ take k (drop (i + 1) old) = ap (take (suc k)) here in
+    let parts : take i old ++ ((s ∷ b) ++ c) ≡ old = ap (λ xs. take i old ++ (s ∷ xs)) (take-append-drop k (drop (i + 1) old)) ∙ ap (λ xs. take i old ++ xs) (sym here) ∙ take-append-drop i old in
+    let long : length (trace_of (s ∷ b)) ≡ len = ap (λ ss. length (trace_of ss)) (sym stretch) ∙ ap length same ∙ omega (arith, length-take len ops) in
+    let j : i + 1 + k ≡ i + suc k = omega arith in
+    let rest : drop k (drop (i + 1) old) ≡ drop (i + suc k) old = drop-drop k (i + 1) old ∙ ap (λ n. drop n old) j in
+    subst (λ ss. IsOldStretch (trace_of ss) (all_marks ss) heap ops len) parts
+    (stretch-old (take i old) b c s heap ops len mark bare long (subst BeginsMarked (sym rest) begins) (mark-is old i s heap run.replay lt is (sym mark)) (ap trace_of (sym stretch) ∙ same))

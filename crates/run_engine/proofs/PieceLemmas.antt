@@ -1,0 +1,193 @@
+-- Stretches of a run as pieces of another.
+use Rattle.std.proofs.Common.{◌≡◌, ℕ, ◌+◌, ◌-◌, ◌<◌, ◌≤◌, suc, zero, List, [], ◌∷◌, ◌++◌, length, take, drop, get_or, false, refl, ap, sym, subst, ◌∙◌, arith, length-append, length-drop, drop-cons, add-one}
+use Rattle.std.specs.Prelude.{Some, None, Option, is_some, IsTrue}
+use Rattle.std.proofs.lemmas.List.{append-nil, take_more, length-take, take-append-drop, drop-take, drop-drop}
+use Rattle.std.proofs.Math.Seq.{take-add, take-length}
+use Rattle.std.specs.Prelude.{IfSome}
+use Rattle.ownership_model.specs.State.{State, nothing_held}
+use Rattle.trace_types.specs.Operation.{Operation}
+use Rattle.run_engine.specs.Stretch.{Stretch}
+use Rattle.trace_types.specs.declared.outcomes.Outcome.{Outcome}
+use Rattle.ownership_model.specs.Step.{end_from, outcomes_from, AreNew}
+use Rattle.run_engine.specs.Segments.{ops_of, trace_of, mark_here, marks_from, IsMarkOf, IsSegmentFrom, AreReplayFrom, AreFull, BeginsMarked, IsRun, IsReached, IsPiece}
+use Rattle.run_engine.specs.Part.{part}
+use Rattle.ownership_model.proofs.ReplayLemmas.{end_from-append, new_front, new_rest}
+use Rattle.run_engine.proofs.ListingLemmas.{around, take-shorter}
+use Rattle.run_engine.proofs.SegmentLemmas.{trace_of-append, marks_from-append, AreReplayFrom-append, AreReplayFrom-front, AreReplayFrom-back}
+
+pub AreFull-append : (a b : List Stretch) → AreFull a → AreFull b → AreFull (a ++ b)
+AreFull-append [] b h k = k
+AreFull-append (s ∷ a) b h k = (h.0, AreFull-append a b h.1 k)
+
+pub AreFull-front : (a b : List Stretch) → AreFull (a ++ b) → AreFull a
+AreFull-front [] b h = tt
+AreFull-front (s ∷ a) b h = (h.0, AreFull-front a b h.1)
+
+pub AreFull-back : (a b : List Stretch) → AreFull (a ++ b) → AreFull b
+AreFull-back [] b h = h
+AreFull-back (s ∷ a) b h = AreFull-back a b h.1
+
+pub BeginsMarked-append : (a b : List Stretch) → BeginsMarked a → BeginsMarked b → BeginsMarked (a ++ b)
+BeginsMarked-append [] b h k = k
+BeginsMarked-append (s ∷ a) b h k = h
+
+pub BeginsMarked-front : (a b : List Stretch) → BeginsMarked (a ++ b) → BeginsMarked a
+BeginsMarked-front [] b h = tt
+BeginsMarked-front (s ∷ a) b h = h
+
+-- a kept mark is the state
+pub IsMarkOf-some : (m n : State) (o : Option State) → o ≡ Some n → IsMarkOf m o → n ≡ m
+IsMarkOf-some m n o e h = subst (IsMarkOf m) e h
+
+-- the state at a kept mark
+pub mark-state : (a b : List Stretch) (s : Stretch) (m : State) → AreReplayFrom nothing_held (a ++ s ∷ b) → s.mark ≡ Some m → m ≡ end_from nothing_held (trace_of a)
+mark-state a b s m h e = IsMarkOf-some (end_from nothing_held (trace_of a)) m s.mark e ((AreReplayFrom-back nothing_held a (s ∷ b) h).0.mark)
+
+pub stretch-piece : (a b c : List Stretch) (s : Stretch) (end heap after : State) (ops : List Operation) (len : ℕ)
+    → IsRun (a ++ ((s ∷ b) ++ c)) end → s.mark ≡ Some heap → ((at : ℕ) → marks_from at b ≡ []) → trace_of (s ∷ b) ≡ take len ops → len ≤ length ops
+    → after ≡ end_from nothing_held (trace_of (a ++ s ∷ b)) → IsPiece heap ops (s ∷ b) after len
+stretch-piece a b c s end heap after ops len run mark bare same fits is =
+    let m = end_from nothing_held (trace_of a) in
+    let e : heap ≡ m = mark-state a (b ++ c) s heap run.replay mark in
+    let here : AreReplayFrom m (s ∷ b) = AreReplayFrom-front m (s ∷ b) c (AreReplayFrom-back nothing_held a ((s ∷ b) ++ c) run.replay) in
+    let full : AreFull (s ∷ b) = AreFull-front (s ∷ b) c (AreFull-back a ((s ∷ b) ++ c) run.full) in
+    let long : length (ops_of s ++ trace_of b) ≡ length (take len ops) = ap length same in
+    record {
+      some = omega (arith, full.0, long, length-append (ops_of s) (trace_of b), length-take len ops);
+      fits = fits;
+      trace = same;
+      replay = subst (λ n. AreReplayFrom n (s ∷ b)) (sym e) here;
+      full = full;
+      begins = subst (λ o. IsTrue (is_some o)) (sym mark) refl;
+      state = is ∙ ap (end_from nothing_held) (trace_of-append a (s ∷ b)) ∙ end_from-append (trace_of a) (trace_of (s ∷ b)) nothing_held ∙ ap (λ xs. end_from m xs) same ∙ ap (λ n. end_from n (take len ops)) (sym e);
+      marks = λ at. ap (λ o. mark_here at o ++ marks_from (at + length (ops_of s)) b) mark ∙ ap (λ ps. at ∷ ps) (bare (at + length (ops_of s)));
+    }
+
+pub take-rest : {X : Type 0} (n : ℕ) (xs : List X) → take (length xs - n) (drop n xs) ≡ drop n xs
+take-rest n xs = ap (λ m. take m (drop n xs)) (sym (length-drop n xs)) ∙ take-length (drop n xs)
+
+pub is_some-none : {X : Type 0} (o : Option X) → is_some o ≡ false → o ≡ None
+is_some-none None h = refl
+is_some-none (Some x) h = cc
+
+IfSome-mark : (m : State) (o : Option State) → IsMarkOf m o → IfSome o (λ h. h ≡ m)
+IfSome-mark m None h = tt
+IfSome-mark m (Some n) h = h
+
+-- a segment of a run and the state where it begins
+pub segment-at : (m : State) (segments : List Stretch) (i : ℕ) (s : Stretch) → AreReplayFrom m segments → i < length segments → s ≡ get_or segments i s
+    → IsSegmentFrom (end_from m (trace_of (take i segments))) s
+segment-at m segments i s h lt is =
+    let e : take i segments ++ (s ∷ drop (i + 1) segments) ≡ segments = ap (λ ss. take i segments ++ ss) (sym (around segments i s lt is)) ∙ take-append-drop i segments in
+    (AreReplayFrom-back m (take i segments) (s ∷ drop (i + 1) segments) (subst (AreReplayFrom m) (sym e) h)).0
+
+pub mark-at : (m : State) (segments : List Stretch) (i : ℕ) (s : Stretch) → AreReplayFrom m segments → i < length segments → s ≡ get_or segments i s
+    → IfSome s.mark (λ h. h ≡ end_from m (trace_of (take i segments)))
+mark-at m segments i s h lt is = IfSome-mark _ s.mark ((segment-at m segments i s h lt is).mark)
+
+-- one more segment without a mark
+pub marks-bare-next : (segments : List Stretch) (i : ℕ) (s : Stretch) → i < length segments → s ≡ get_or segments i s → is_some s.mark ≡ false
+    → ((at : ℕ) → marks_from at (take i segments) ≡ []) → (at : ℕ) → marks_from at (take (i + 1) segments) ≡ []
+marks-bare-next segments i s lt is none h at =
+    let o : s.mark ≡ None = is_some-none s.mark none in
+    let p : ℕ = at + length (trace_of (take i segments)) in
+    ap (marks_from at) (take_more segments i s lt ∙ ap (λ t. take i segments ++ t ∷ []) (sym is))
+    ∙ marks_from-append at (take i segments) (s ∷ [])
+    ∙ ap (λ ps. ps ++ (mark_here p s.mark ++ [])) (h at)
+    ∙ ap (λ m. mark_here p m ++ []) o
+
+-- the segments in front and one more are the first of the operations
+pub begins-next : (ops : List Operation) (segments : List Stretch) (i at : ℕ) (s : Stretch) → i < length segments → s ≡ get_or segments i s
+    → trace_of (take i segments) ≡ take at ops → s.ops ≡ take (length s.ops) (drop at ops) → trace_of (take (i + 1) segments) ≡ take (at + length s.ops) ops
+begins-next ops segments i at s lt is h e =
+    ap trace_of (take_more segments i s lt ∙ ap (λ t. take i segments ++ t ∷ []) (sym is))
+    ∙ trace_of-append (take i segments) (s ∷ [])
+    ∙ ap (λ xs. trace_of (take i segments) ++ xs) (append-nil s.ops ∙ e)
+    ∙ ap (λ xs. xs ++ take (length s.ops) (drop at ops)) h
+    ∙ sym (take-add at (length s.ops) ops)
+
+-- a stretch of a run, from i on, with k further segments that have no mark
+pub old-piece : (old : List Stretch) (end : State) (i k : ℕ) (s : Stretch) (heap after : State) (ops : List Operation) (len : ℕ)
+    → IsRun old end → i < length old → s ≡ get_or old i s → s.mark ≡ Some heap → ((at : ℕ) → marks_from at (take k (drop (i + 1) old)) ≡ [])
+    → len ≤ length ops → trace_of (take (suc k) (drop i old)) ≡ take len ops → after ≡ end_from nothing_held (trace_of (take (i + suc k) old))
+    → IsPiece heap ops (take (suc k) (drop i old)) after len
+old-piece old end i k s heap after ops len run lt is mark bare fits same state =
+    let b : List Stretch = take k (drop (i + 1) old) in
+    let c : List Stretch = drop k (drop (i + 1) old) in
+    let here : drop i old ≡ s ∷ drop (i + 1) old = around old i s lt is in
+    let stretch : take (suc k) (drop i old) ≡ s ∷ b = ap (take (suc k)) here in
+    let parts : take i old ++ ((s ∷ b) ++ c) ≡ old = ap (λ xs. take i old ++ (s ∷ xs)) (take-append-drop k (drop (i + 1) old)) ∙ ap (λ xs. take i old ++ xs) (sym here) ∙ take-append-drop i old in
+    let front : take (i + suc k) old ≡ take i old ++ (s ∷ b) = take-add i (suc k) old ∙ ap (λ xs. take i old ++ xs) stretch in
+    subst (λ ss. IsPiece heap ops ss after len) (sym stretch)
+    (stretch-piece (take i old) b c s end heap after ops len (subst (λ ss. IsRun ss end) (sym parts) run) mark bare (ap trace_of (sym stretch) ∙ same) fits (state ∙ ap (λ ss. end_from nothing_held (trace_of ss)) front))
+
+-- what stands inside a part
+pub part-inside : (ops : List Operation) (at to len n : ℕ) → len + n ≤ to - at → take n (drop len (part ops at to)) ≡ take n (drop (at + len) ops)
+part-inside ops at to len n le =
+    let e : to - at ≡ len + (to - at - len) = omega arith in
+    ap (λ k. take n (drop len (take k (drop at ops)))) e ∙ ap (take n) (drop-take len (to - at - len) (drop at ops)) ∙ take-shorter n (to - at - len) (drop len (drop at ops)) (omega arith) ∙ ap (take n) (drop-drop len at ops)
+
+-- a replay goes on by a piece
+pub IsReached-next : (ops : List Operation) (at to len : ℕ) (segments more : List Stretch) (heap end : State)
+    → IsReached ops at segments heap → at ≤ to → to ≤ length ops → IsPiece heap (take (to - at) (drop at ops)) more end len
+    → IsReached ops (at + len) (segments ++ more) end
+IsReached-next ops at to len segments more heap end h le within piece =
+    let long : len ≤ to - at = omega (arith, piece.fits, length-take (to - at) (drop at ops)) in
+    let cut : take len (take (to - at) (drop at ops)) ≡ take len (drop at ops) = take-shorter len (to - at) (drop at ops) long in
+    let here : heap ≡ end_from nothing_held (trace_of segments) = h.state ∙ ap (end_from nothing_held) (sym h.trace) in
+    record {
+      within = omega arith;
+      trace = trace_of-append segments more ∙ ap (λ xs. xs ++ trace_of more) h.trace ∙ ap (λ xs. take at ops ++ xs) (piece.trace ∙ cut) ∙ sym (take-add at len ops);
+      replay = AreReplayFrom-append nothing_held segments more h.replay (subst (λ m. AreReplayFrom m more) here piece.replay);
+      full = AreFull-append segments more h.full piece.full;
+      begins = BeginsMarked-append segments more h.begins piece.begins;
+      state = piece.state ∙ ap (end_from heap) cut ∙ ap (λ m. end_from m (take len (drop at ops))) h.state ∙ sym (end_from-append (take at ops) (take len (drop at ops)) nothing_held) ∙ ap (end_from nothing_held) (sym (take-add at len ops));
+    }
+
+pub mark-is : (old : List Stretch) (i : ℕ) (s : Stretch) (n : State) → AreReplayFrom nothing_held old → i < length old → s ≡ get_or old i s → Some n ≡ s.mark → n ≡ end_from nothing_held (trace_of (take i old))
+mark-is old i s n h lt is e = subst (λ o. IfSome o (λ h. h ≡ end_from nothing_held (trace_of (take i old)))) (sym e) (mark-at nothing_held old i s h lt is)
+
+-- a piece of the first n operations is one of more of them
+pub IsPiece-of-more : (start end : State) (ops : List Operation) (n m len : ℕ) (segments : List Stretch) → n ≤ m → IsPiece start (take n ops) segments end len → IsPiece start (take m ops) segments end len
+IsPiece-of-more start end ops n m len segments le h =
+    let long : len ≤ n = omega (arith, h.fits, length-take n ops) in
+    let cut : take len (take n ops) ≡ take len (take m ops) = take-shorter len n ops long ∙ sym (take-shorter len m ops (omega arith)) in
+    record {
+      some = h.some;
+      fits = omega (arith, h.fits, length-take n ops, length-take m ops);
+      trace = h.trace ∙ cut;
+      replay = h.replay;
+      full = h.full;
+      begins = h.begins;
+      state = h.state ∙ ap (end_from start) cut;
+      marks = h.marks;
+    }
+
+-- operations of a part are new where the part begins
+pub new-part : (ops : List Operation) (heap : State) (at to : ℕ) → AreNew nothing_held ops → heap ≡ end_from nothing_held (take at ops) → AreNew heap (part ops at to)
+new-part ops heap at to new is =
+    let m : State = end_from nothing_held (take at ops) in
+    let rest : AreNew m (drop at ops) = new_rest (take at ops) (drop at ops) nothing_held (subst (AreNew nothing_held) (sym (take-append-drop at ops)) new) in
+    let first : AreNew m (part ops at to) = new_front (part ops at to) (drop (to - at) (drop at ops)) m (subst (AreNew m) (sym (take-append-drop (to - at) (drop at ops))) rest) in
+    subst (λ n. AreNew n (part ops at to)) (sym is) first
+
+-- and so are the first of them
+pub new-first : (heap : State) (ops : List Operation) (n m : ℕ) → n ≤ m → AreNew heap (take m ops) → AreNew heap (take n ops)
+new-first heap ops n m le new =
+    subst (AreNew heap) (take-shorter n m ops le) (new_front (take n (take m ops)) (drop n (take m ops)) heap (subst (AreNew heap) (sym (take-append-drop n (take m ops))) new))
+
+-- one segment is a piece
+pub IsPiece-one : (start end : State) (ops : List Operation) (outcomes : List Outcome) → 0 < length ops → outcomes ≡ outcomes_from start ops → end ≡ end_from start ops
+    → IsPiece start ops (record { mark = Some start; ops = ops; outcomes = outcomes } ∷ []) end (length ops)
+IsPiece-one start end ops outcomes some out is =
+    let whole : take (length ops) ops ≡ ops = take-length ops in
+    record {
+      some = some;
+      fits = omega arith;
+      trace = append-nil ops ∙ sym whole;
+      replay = (record { mark = refl; outcomes = out }, tt);
+      full = (some, tt);
+      begins = refl;
+      state = is ∙ ap (end_from start) (sym whole);
+      marks = λ at. refl;
+    }

@@ -1,0 +1,53 @@
+-- Which operations of an edited trace are stepped.
+use Rattle.std.specs.Prelude.{◌≡◌, ℕ, ◌+◌, ◌-◌, ◌<◌, ◌≤◌, List, [], ◌∷◌, length, take, drop, Contains, ◌⊎◌}
+use Rattle.trace_types.specs.Operation.{Operation}
+use Rattle.ownership_model.specs.State.{State, nothing_held}
+use Rattle.ownership_model.specs.Step.{end_from}
+use Rattle.op_step.specs.Meter.{raised}
+use Rattle.run_engine.specs.Common.{AreShared}
+use Rattle.run_engine.specs.Marks.{IsGreatest}
+use Rattle.run_engine.specs.Bounds.{AgreesAt}
+use Rattle.run_engine.specs.NewMarks.{Each, AreNeighbours}
+
+-- an old stretch between neighbouring checkpoints begins with the state, and has the first `len` of the operations
+pub record IsOldStretch (old : List Operation) (marks : List ℕ) (start : State) (ops : List Operation) (len : ℕ) : Type 0 where
+  pub place : AreNeighbours marks len
+  pub start_is : start ≡ end_from nothing_held (take place.at old)
+  pub ops_are : take len (drop place.at old) ≡ take len ops
+
+-- of the first `len` operations none is stepped, since an old stretch has them, or each one
+abbrev pub AreTaken : List Operation → List ℕ → State → List Operation → ℕ → ℕ → ℕ → Type 0
+AreTaken old marks start ops len before after = (IsOldStretch old marks start ops len × (after ≡ before)) ⊎ (after ≡ raised before len)
+
+-- the operation at p of the edited trace lies in a stretch that begins and goes on as an old one
+pub record IsCovered (old ops : List Operation) (marks : List ℕ) (p : ℕ) : Type 0 where
+  pub at : ℕ
+  pub len : ℕ
+  pub from_there : at ≤ p
+  pub before_end : p < at + len
+  pub stretch : IsOldStretch old marks (end_from nothing_held (take at ops)) (drop at ops) len
+
+-- the numbers rise, from the first one on and below the second
+abbrev pub AreRising : ℕ → ℕ → List ℕ → Type 0
+AreRising from to [] = Unit {0}
+AreRising from to (p ∷ ps) = (from ≤ p) × (p < to) × AreRising (p + 1) to ps
+
+-- as many operations were stepped as there are from r to `at` that no old stretch covers
+abbrev pub HaveStepped : List Operation → List Operation → List ℕ → ℕ → ℕ → ℕ → ℕ → Type 0
+HaveStepped old ops marks r at before after =
+    (ps : List ℕ) → AreRising r at ps → Each (λ p. IsCovered old ops marks p → ⊥) ps → raised before (length ps) ≤ after
+
+-- the operation at p of the edited trace is before each place where the replay may stop, and no old stretch covers it
+pub record MustStep (old ops : List Operation) (a b : ℕ) (marks : List ℕ) (p : ℕ) : Type 0 where
+  pub early : (q : ℕ) → Contains marks q → a ≤ q → AgreesAt old ops a b q → p < q - a + b
+  pub bare : IsCovered old ops marks p → ⊥
+
+-- each such operation from r on was stepped
+abbrev pub AreStepped : List Operation → List Operation → ℕ → ℕ → List ℕ → ℕ → ℕ → ℕ → Type 0
+AreStepped old ops a b marks r before after =
+    (ps : List ℕ) → AreRising r (length ops) ps → Each (MustStep old ops a b marks) ps → raised before (length ps) ≤ after
+
+-- the same from the greatest checkpoint at or before the head
+abbrev pub AreSteppedFrom : List Operation → List Operation → List ℕ → ℕ → ℕ → Type 0
+AreSteppedFrom old ops marks before after =
+    (head tail r : ℕ) → AreShared old ops head tail → IsGreatest marks head r → AreStepped old ops (length old - tail) (length ops - tail) marks r before after

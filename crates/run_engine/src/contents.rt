@@ -1,0 +1,77 @@
+//! What all segments of a run have.
+ghost use Rattle.std.specs.Prelude.{◌≡◌, ◌≤◌, ◌++◌, IfOk, OnOk, length};
+ghost use Rattle.run_engine.specs.Segments.{trace_of, outcomes_in, mark_here, all_marks};
+
+use crate::listing::Listing;
+use crate::segment::Segment;
+use std::alloc::{AllocError, Global};
+use trace_types::outcomes::Outcome;
+use trace_types::sequence::Sequence;
+
+/// How many operations there are.
+pub fn len_in(segments: &[Segment]) -> usize
+    requires { length (trace_of segments.now) ≤ 65536 }
+    ensures { result ≡ length (trace_of segments.now) }
+{
+    let mut len = 0;
+    for segment in segments {
+        len += segment.ops().len();
+    }
+    len
+}
+
+/// The operations, where they stand.
+pub fn ops_in<'a>(alloc: Global, segments: &'a [Segment]) -> Result<Listing<'a>, AllocError>
+    ensures { IfOk result (λ v. v ≡ trace_of segments.now) }
+{
+    let mut ops = Listing::empty(alloc);
+    for segment in segments {
+        ops.extend(segment.ops())?;
+    }
+    Ok(ops)
+}
+
+/// Copies of the outcomes.
+pub fn outcomes_in(alloc: Global, segments: &[Segment]) -> Result<Sequence<Outcome>, AllocError>
+    ensures { IfOk result (λ v. v ≡ outcomes_in segments.now) }
+{
+    let mut all = Sequence::empty(alloc);
+    for segment in segments {
+        extend(alloc, &mut all, segment.outcomes())?;
+    }
+    Ok(all)
+}
+
+fn extend(alloc: Global, all: &mut Sequence<Outcome>, more: &[Outcome]) -> Result<(), AllocError>
+    ensures { OnOk result (all.new ≡ all.old ++ more.now) }
+{
+    for outcome in more {
+        all.push(outcome.copy(alloc)?)?;
+    }
+    Ok(())
+}
+
+/// The positions of the checkpoints, rising.
+pub fn marks_in(alloc: Global, segments: &[Segment]) -> Result<Sequence<usize>, AllocError>
+    requires { length (trace_of segments.now) ≤ 65536 }
+    ensures { IfOk result (λ v. v ≡ all_marks segments.now) }
+{
+    let mut marks = Sequence::empty(alloc);
+    let mut at = 0;
+    for segment in segments {
+        push_mark(&mut marks, at, segment)?;
+        at += segment.ops().len();
+    }
+    marks.push(at)?;
+    Ok(marks)
+}
+
+// Adds the position of a segment's checkpoint, if it has one.
+fn push_mark(marks: &mut Sequence<usize>, at: usize, segment: &Segment) -> Result<(), AllocError>
+    ensures { OnOk result (marks.new ≡ marks.old ++ mark_here at segment.now.mark) }
+{
+    if segment.is_marked() {
+        marks.push(at)?;
+    }
+    Ok(())
+}

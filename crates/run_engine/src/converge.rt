@@ -1,0 +1,151 @@
+//! A replay beside an old one, as far as the two come together.
+ghost use Rattle.std.specs.Prelude.{◌≡◌, ℕ, List, ◌++◌, ◌+◌, ◌-◌, ◌^◌, ◌<◌, ◌≤◌, IfOk, length};
+ghost use Rattle.ownership_model.specs.State.{nothing_held};
+ghost use Rattle.ownership_model.specs.Step.{AreNew};
+ghost use Rattle.run_engine.specs.Segments.{trace_of, marks_from, all_marks, IsRun, IsReached, IsPiece};
+ghost use Rattle.run_engine.specs.Part.{part};
+ghost use Rattle.run_engine.specs.Common.{ShareEnd};
+ghost use Rattle.run_engine.specs.Bounds.{IsBounded};
+ghost use Rattle.run_engine.specs.NewMarks.{AreLaid, AreMarksOf, IsGap};
+ghost use Rattle.run_engine.specs.Steps.{AreTaken, HaveStepped, AreStepped};
+
+use crate::listing::Listing;
+use crate::piece::{Piece, stepped_up_to};
+use crate::segment::{Segment, append, share_segments};
+use crate::stretch::old_stretch;
+use object_heap::heap::Heap;
+use op_step::meter::Meter;
+use std::alloc::{AllocError, Global};
+
+/// How far a replay has come: its segments, the heap after them, and how many operations they have.
+#[derive(Drop)]
+pub struct Front {
+    pub segments: Vec<Segment>,
+    pub heap: Heap,
+    pub at: usize,
+}
+
+// What a replay goes on with: an old stretch, or else operations that are stepped.
+fn next_piece(
+    alloc: Global,
+    old: &[Segment],
+    end: &Heap,
+    heap: &Heap,
+    ops: &Listing,
+    at: usize,
+    to: usize,
+    meter: &mut Meter,
+) -> Result<Piece, AllocError>
+    requires some { at < to }
+    requires within { to ≤ length ops.now }
+    requires run { IsRun old.now end.now }
+    requires new { AreNew heap.now (part ops.now at to) }
+    ensures piece { IfOk result (λ p. IsPiece heap.now (part ops.now at to) p.segments.items p.end p.len) }
+    ensures gap { IfOk result (λ p. IsGap (all_marks old.now) p.len) }
+    ensures steps { IfOk result (λ p. meter.new ≤ meter.old + p.len) }
+    ensures taken { IfOk result (λ p. AreTaken (trace_of old.now) (all_marks old.now) heap.now (part ops.now at to) p.len meter.old meter.new) }
+    ensures rise { meter.new + at ≤ meter.old + to }
+{
+    let found = old_stretch(alloc, old, end, heap, ops, at, to)?;
+    if let Some(piece) = found {
+        return Ok(piece);
+    }
+    let piece = stepped_up_to(alloc, heap, ops, at, to, meter)?;
+    Ok(piece)
+}
+
+/// The front and a piece behind it.
+pub fn joined(front: Front, piece: Piece) -> Result<Front, AllocError>
+    requires { front.at + piece.len < 2 ^ 64 }
+    ensures segments { IfOk result (λ f. f.segments.items ≡ front.segments.items ++ piece.segments.items) }
+    ensures heap { IfOk result (λ f. f.heap ≡ piece.end) }
+    ensures at { IfOk result (λ f. f.at ≡ front.at + piece.len) }
+{
+    let mut segments = front.segments;
+    append(&mut segments, piece.segments)?;
+    Ok(Front {
+        segments,
+        heap: piece.end,
+        at: front.at + piece.len,
+    })
+}
+
+// Goes on with the replay up to the position `to`.
+fn advance(
+    alloc: Global,
+    old: &[Segment],
+    end: &Heap,
+    front: Front,
+    ops: &Listing,
+    to: usize,
+    meter: &mut Meter,
+) -> Result<Front, AllocError>
+    requires run { IsRun old.now end.now }
+    requires front { IsReached ops.now front.at front.segments.items front.heap }
+    requires order { front.at ≤ to }
+    requires within { to ≤ length ops.now }
+    requires new { AreNew nothing_held ops.now }
+    ensures front { IfOk result (λ f. IsReached ops.now f.at f.segments.items f.heap) }
+    ensures there { IfOk result (λ f. f.at ≡ to) }
+    ensures rise { meter.new + front.at ≤ meter.old + to }
+    ensures stepped { (r before : ℕ) → HaveStepped (trace_of old.now) ops.now (all_marks old.now) r front.at before meter.old → IfOk result (λ f. HaveStepped (trace_of old.now) ops.now (all_marks old.now) r f.at before meter.new) }
+    ensures marks { (kept : List ℕ) (r : ℕ) → AreLaid (all_marks old.now) kept r front.at (marks_from 0 front.segments.items) → IfOk result (λ f. AreLaid (all_marks old.now) kept r f.at (marks_from 0 f.segments.items)) }
+{
+    let mut front = front;
+    while front.at < to {
+        let piece = next_piece(alloc, old, end, &front.heap, ops, front.at, to, meter)?;
+        front = joined(front, piece)?;
+    }
+    Ok(front)
+}
+
+// The segments of the front, and then shares of others.
+fn spliced(alloc: Global, front: Front, rest: &[Segment]) -> Result<Vec<Segment>, AllocError>
+    ensures { IfOk result (λ v. v.items ≡ front.segments.items ++ rest.now) }
+{
+    let mut segments = front.segments;
+    append(&mut segments, share_segments(alloc, rest)?)?;
+    Ok(segments)
+}
+
+/// Goes on with the replay to its end, or to the first mark behind `a` with the old heap.
+pub fn converge(
+    alloc: Global,
+    old: &[Segment],
+    end: &Heap,
+    front: Front,
+    ops: &Listing,
+    a: usize,
+    b: usize,
+    meter: &mut Meter,
+) -> Result<(Vec<Segment>, Heap), AllocError>
+    requires run { IsRun old.now end.now }
+    requires front { IsReached ops.now front.at front.segments.items front.heap }
+    requires shared { ShareEnd (trace_of old.now) ops.now a b }
+    requires order { front.at ≤ b }
+    requires new { AreNew nothing_held ops.now }
+    requires few { length ops.now < 2 ^ 32 }
+    requires old_few { length (trace_of old.now) < 2 ^ 32 }
+    ensures run { IfOk result (λ r. IsRun r.0.items r.1) }
+    ensures trace { IfOk result (λ r. trace_of r.0.items ≡ ops.now) }
+    ensures marks { IfOk result (λ r. AreMarksOf (trace_of old.now) ops.now (marks_from 0 front.segments.items) (all_marks old.now) (all_marks r.0.items) front.at a b) }
+    ensures bound { IsBounded (trace_of old.now) ops.now a b (all_marks old.now) front.at meter.old meter.new }
+    ensures stepped { IfOk result (λ _. AreStepped (trace_of old.now) ops.now a b (all_marks old.now) front.at meter.old meter.new) }
+{
+    let mut front = front;
+    let mut at = 0;
+    for (i, segment) in old.iter().enumerate() {
+        if at >= a {
+            if let Some(mark) = segment.mark() {
+                front = advance(alloc, old, end, front, ops, at - a + b, meter)?;
+                if front.heap.same(mark) {
+                    let segments = spliced(alloc, front, &old[i..])?;
+                    return Ok((segments, end.share()?));
+                }
+            }
+        }
+        at += segment.ops().len();
+    }
+    front = advance(alloc, old, end, front, ops, ops.len(), meter)?;
+    Ok((front.segments, front.heap))
+}

@@ -1,0 +1,101 @@
+//! Where the replay of an edited trace begins again.
+ghost use Rattle.std.specs.Prelude.{◌≡◌, ◌^◌, ◌<◌, ◌≤◌, IfOk, length, take};
+ghost use Rattle.trace_types.specs.Trace.{IsTrace};
+ghost use Rattle.run_engine.specs.Segments.{trace_of, all_marks, IsRun, IsRestart};
+ghost use Rattle.run_engine.specs.Bounds.{IsBoundedFrom};
+ghost use Rattle.run_engine.specs.NewMarks.{AreMarksAfter};
+ghost use Rattle.run_engine.specs.Steps.{AreSteppedFrom};
+
+use crate::common::{head, tail};
+use crate::converge::{Front, converge};
+use crate::listing::Listing;
+use crate::segment::{Segment, share_segments};
+use object_heap::heap::Heap;
+use op_step::meter::Meter;
+use std::alloc::{AllocError, Global};
+
+// Where a replay begins again: a segment's index, its position, and the heap there.
+#[derive(Drop)]
+struct Restart {
+    index: usize,
+    at: usize,
+    heap: Heap,
+}
+
+// The greatest kept checkpoint at or before the head.
+fn greatest_mark(segments: &[Segment], end: &Heap, head: usize) -> Result<Restart, AllocError>
+    requires run { IsRun segments.now end.now }
+    requires few { length (trace_of segments.now) < 2 ^ 32 }
+    ensures { IfOk result (λ r. IsRestart segments.now head r.index r.at r.heap) }
+{
+    let mut best = Restart {
+        index: 0,
+        at: 0,
+        heap: Heap::empty(),
+    };
+    let mut here = 0;
+    for (i, segment) in segments.iter().enumerate() {
+        if here > head {
+            return Ok(best);
+        }
+        if let Some(mark) = segment.mark() {
+            best = Restart {
+                index: i,
+                at: here,
+                heap: mark.share()?,
+            };
+        }
+        here += segment.ops().len();
+    }
+    if here > head {
+        return Ok(best);
+    }
+    Ok(Restart {
+        index: segments.len(),
+        at: here,
+        heap: end.share()?,
+    })
+}
+
+// The front of the replay of an edited trace.
+fn front(alloc: Global, segments: &[Segment], end: &Heap, head: usize) -> Result<Front, AllocError>
+    requires run { IsRun segments.now end.now }
+    requires few { length (trace_of segments.now) < 2 ^ 32 }
+    ensures kept { IfOk result (λ f. IsRestart segments.now head (length f.segments.items) f.at f.heap) }
+    ensures segments { IfOk result (λ f. f.segments.items ≡ take (length f.segments.items) segments.now) }
+{
+    let best = greatest_mark(segments, end, head)?;
+    let kept = share_segments(alloc, &segments[..best.index])?;
+    Ok(Front {
+        segments: kept,
+        heap: best.heap,
+        at: best.at,
+    })
+}
+
+/// The replay of an edited trace beside that of the old one.
+pub fn resumed(
+    alloc: Global,
+    segments: &[Segment],
+    end: &Heap,
+    old: &Listing,
+    ops: &Listing,
+    meter: &mut Meter,
+) -> Result<(Vec<Segment>, Heap), AllocError>
+    requires run { IsRun segments.now end.now }
+    requires old { old.now ≡ trace_of segments.now }
+    requires old_trace { IsTrace old.now }
+    requires trace { IsTrace ops.now }
+    ensures run { IfOk result (λ r. IsRun r.0.items r.1) }
+    ensures trace { IfOk result (λ r. trace_of r.0.items ≡ ops.now) }
+    ensures marks { IfOk result (λ r. AreMarksAfter (record { trace = old.now; marks = all_marks segments.now }) (record { trace = ops.now; marks = all_marks r.0.items })) }
+    ensures bound { IsBoundedFrom old.now ops.now (all_marks segments.now) meter.old meter.new }
+    ensures stepped { IfOk result (λ _. AreSteppedFrom old.now ops.now (all_marks segments.now) meter.old meter.new) }
+{
+    let first = head(old, ops);
+    let last = tail(old, ops, first);
+    let front = front(alloc, segments, end, first)?;
+    let (a, b) = (old.len() - last, ops.len() - last);
+    let (segments, end) = converge(alloc, segments, end, front, ops, a, b, meter)?;
+    Ok((segments, end))
+}

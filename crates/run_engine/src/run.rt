@@ -1,0 +1,203 @@
+//! A run of a trace.
+ghost use Rattle.std.specs.Prelude.{◌≡◌, ◌+◌, ◌<◌, ◌≤◌, List, length, slice_get, take, IfOk, IfErr, IfSome, IsTrue, IsErr, ◌↔◌, ◌⊎◌, if◌then◌else◌, Ok, Err};
+ghost use Rattle.std.specs.Option.{option_copied};
+ghost use Rattle.trace_types.specs.Operation.{Operation};
+ghost use Rattle.trace_types.specs.Trace.{IsTrace};
+ghost use Rattle.ownership_model.specs.State.{nothing_held};
+ghost use Rattle.ownership_model.specs.Step.{end_from, outcomes_from};
+ghost use Rattle.op_step.specs.Meter.{raised};
+ghost use Rattle.run_engine.specs.declared.faults.RunFault.TheVariants.{EmptyBatch, TooManyEdits, Memory};
+ghost use Rattle.run_engine.specs.Edited.{edited_by};
+ghost use Rattle.run_engine.specs.Segments.{without, IsInner};
+ghost use Rattle.run_engine.specs.Marks.{load_marks};
+ghost use Rattle.run_engine.specs.Bounds.{IsBoundedFrom};
+ghost use Rattle.run_engine.specs.NewMarks.{AreMarksAfter};
+ghost use Rattle.run_engine.specs.Steps.{AreSteppedFrom};
+
+use crate::contents::{len_in, marks_in, ops_in, outcomes_in};
+use crate::converge::{Front, joined};
+use crate::edits::{copied, edit, try_size};
+use crate::faults::RunFault;
+use crate::listing::Listing;
+use crate::piece::{STRIDE, stepped};
+use crate::restart::resumed;
+use crate::seek::{clear_mark, op_at, outcome_at, segment_at};
+use crate::segment::Segment;
+use object_heap::heap::Heap;
+use op_step::chunk_run::copy_ops;
+use op_step::meter::Meter;
+use std::alloc::{AllocError, Global};
+use std::marker::Model;
+use trace_types::edits::Batch;
+use trace_types::ops::Op;
+use trace_types::outcomes::Outcome;
+use trace_types::sequence::Sequence;
+use trace_types::trace::Trace;
+
+/// The replay of a trace, with its outcomes and heaps at some positions, its checkpoints. Contracts see the trace and
+/// the rising positions of the checkpoints, 0 and the end among them.
+///
+/// The outcomes, the end and each checkpoint are those of the trace's replay. The versions of a run share what they have
+/// in common: an edit copies no operation of a stretch that stays.
+#[derive(Drop)]
+pub struct Run {
+    segments: Vec<Segment>,
+    end: Heap,
+}
+
+impl Model for Run {
+    ghost use Rattle.run_engine.specs.RunView.{RunView, run_code};
+    ghost use Rattle.run_engine.specs.Segments.{trace_of, all_marks, IsKept};
+
+    ghost Value = { RunView };
+
+    ghost coded = { run_code };
+
+    ghost view = { λ r. record { trace = trace_of r.segments.items; marks = all_marks r.segments.items } };
+
+    ghost invariant = { λ r. IsKept r.segments.items r.end };
+}
+
+impl Run {
+    /// The replay of a trace, with checkpoints at all multiples of 64 and at the end. The meter rises by the operations.
+    pub fn load(alloc: Global, trace: Trace, meter: &mut Meter) -> Result<Run, AllocError>
+        ensures trace { IfOk result (λ r. r.trace ≡ trace) }
+        ensures marks { IfOk result (λ r. r.marks ≡ load_marks (length trace)) }
+        ensures count { IfOk result (λ r. meter.new ≡ raised meter.old (length trace)) }
+        ensures rise { meter.new ≤ meter.old + length trace }
+    {
+        let ops = trace.as_slice();
+        let mut front = Front {
+            segments: Vec::new(alloc),
+            heap: Heap::empty(),
+            at: 0,
+        };
+        while front.at < ops.len() {
+            let to = front.at + (ops.len() - front.at).min(STRIDE);
+            let copies = copy_ops(alloc, &ops[front.at..to])?;
+            let piece = stepped(alloc, &front.heap, copies, meter)?;
+            front = joined(front, piece)?;
+        }
+        Ok(Run {
+            segments: front.segments,
+            end: front.heap,
+        })
+    }
+
+    /// The run of the trace after the edits. This run stays as it is.
+    ///
+    /// The size of the batch is tried first, which takes no memory. Then the edits are tried in order, each on the result
+    /// of those before it. The replay begins again at the greatest checkpoint at or before the first operation that
+    /// differs, takes old stretches where they begin with the same heap and have the same operations, and stops at the
+    /// first old checkpoint behind the last operation that differs where the heap is the same.
+    pub fn edited(&self, alloc: Global, batch: &Batch, meter: &mut Meter) -> Result<Run, RunFault>
+        ensures trace { IfOk result (λ r. edited_by self.now.trace batch.now ≡ Ok r.trace) }
+        ensures marks { IfOk result (λ r. AreMarksAfter self.now r) }
+        ensures fault { IfErr result (λ e. (e ≡ Memory) ⊎ (edited_by self.now.trace batch.now ≡ Err e)) }
+        ensures empty { length batch.now ≡ 0 → result ≡ Err EmptyBatch }
+        ensures too_many { 64 < length batch.now → result ≡ Err TooManyEdits }
+        ensures bound { (ops : List Operation) → edited_by self.now.trace batch.now ≡ Ok ops → IsBoundedFrom self.now.trace ops self.now.marks meter.old meter.new }
+        ensures stepped { IfOk result (λ r. AreSteppedFrom self.now.trace r.trace self.now.marks meter.old meter.new) }
+        ensures refused { IsErr (edited_by self.now.trace batch.now) → meter.new ≡ meter.old }
+    {
+        try_size(batch.len())?;
+        let Ok(old) = ops_in(alloc, &self.segments) else {
+            return Err(RunFault::Memory);
+        };
+        let Ok(mut ops) = ops_in(alloc, &self.segments) else {
+            return Err(RunFault::Memory);
+        };
+        edit(&mut ops, batch.as_slice())?;
+        match self.beside(alloc, &old, &ops, meter) {
+            Ok(run) => Ok(run),
+            Err(_) => Err(RunFault::Memory),
+        }
+    }
+
+    // The run of a trace that replaces this run's.
+    fn beside(
+        &self,
+        alloc: Global,
+        old: &Listing,
+        ops: &Listing,
+        meter: &mut Meter,
+    ) -> Result<Run, AllocError>
+        requires old { old.now ≡ self.now.trace }
+        requires trace { IsTrace ops.now }
+        ensures trace { IfOk result (λ r. r.trace ≡ ops.now) }
+        ensures marks { IfOk result (λ r. AreMarksAfter self.now r) }
+        ensures bound { IsBoundedFrom self.now.trace ops.now self.now.marks meter.old meter.new }
+        ensures stepped { IfOk result (λ _. AreSteppedFrom self.now.trace ops.now self.now.marks meter.old meter.new) }
+    {
+        let (segments, end) = resumed(alloc, &self.segments, &self.end, old, ops, meter)?;
+        Ok(Run { segments, end })
+    }
+
+    /// Gives up the checkpoint at a position, if it is an inner one, and tells whether it was. Takes no memory.
+    pub fn give_up(&mut self, position: usize) -> bool
+        ensures trace { self.new.trace ≡ self.old.trace }
+        ensures answer { IsTrue result ↔ IsInner self.old.marks (length self.old.trace) position }
+        ensures marks { self.new.marks ≡ (if result then without position self.old.marks else self.old.marks) }
+    {
+        match segment_at(&self.segments, position) {
+            None => false,
+            Some(i) => {
+                if i == 0 {
+                    return false;
+                }
+                clear_mark(&mut self.segments, i)
+            }
+        }
+    }
+
+    /// How many operations the trace has.
+    pub fn len(&self) -> usize
+        ensures { result ≡ length self.now.trace }
+    {
+        len_in(&self.segments)
+    }
+
+    /// The operation at a place, from 0.
+    pub fn op(&self, place: usize) -> Option<&Op>
+        ensures { option_copied result ≡ slice_get self.now.trace place }
+    {
+        op_at(&self.segments, place)
+    }
+
+    /// The outcome of the operation at a place, from 0.
+    pub fn outcome(&self, place: usize) -> Option<&Outcome>
+        ensures { option_copied result ≡ slice_get (outcomes_from nothing_held self.now.trace) place }
+    {
+        outcome_at(&self.segments, place)
+    }
+
+    /// The heap after all operations.
+    pub fn end(&self) -> &Heap
+        ensures { result.now ≡ end_from nothing_held self.now.trace }
+    {
+        &self.end
+    }
+
+    /// A copy of the trace.
+    pub fn trace(&self, alloc: Global) -> Result<Trace, AllocError>
+        ensures { IfOk result (λ t. t ≡ self.now.trace) }
+    {
+        let ops = ops_in(alloc, &self.segments)?;
+        copied(alloc, &ops).map_err(|_| AllocError)
+    }
+
+    /// Copies of the outcomes, in order.
+    pub fn outcomes(&self, alloc: Global) -> Result<Sequence<Outcome>, AllocError>
+        ensures { IfOk result (λ v. v ≡ outcomes_from nothing_held self.now.trace) }
+    {
+        let outcomes = outcomes_in(alloc, &self.segments)?;
+        Ok(outcomes)
+    }
+
+    /// The positions of the kept checkpoints, rising.
+    pub fn marks(&self, alloc: Global) -> Result<Sequence<usize>, AllocError>
+        ensures { IfOk result (λ v. v ≡ self.now.marks) }
+    {
+        marks_in(alloc, &self.segments)
+    }
+}

@@ -1,0 +1,118 @@
+//! A stretch of a run.
+ghost use Rattle.std.specs.Prelude.{◌≡◌, ◌++◌, IfOk, OnOk, None, is_some};
+ghost use Rattle.std.specs.Option.{option_copied};
+
+use object_heap::heap::Heap;
+use std::alloc::{AllocError, Global};
+use std::marker::Model;
+use std::sync::Arc;
+use trace_types::ops::Op;
+use trace_types::outcomes::Outcome;
+use trace_types::sequence::Sequence;
+
+#[derive(Drop)]
+struct Replayed {
+    ops: Vec<Op>,
+    outcomes: Sequence<Outcome>,
+}
+
+/// Operations with their outcomes, which the versions of a run share, and the heap where they begin, if that is kept.
+#[derive(Drop)]
+pub struct Segment {
+    mark: Option<Heap>,
+    body: Arc<Replayed>,
+}
+
+impl Model for Segment {
+    ghost use Rattle.std.specs.Arc.{arc_value};
+    ghost use Rattle.run_engine.specs.Stretch.{Stretch, stretch_code};
+
+    ghost Value = { Stretch };
+
+    ghost coded = { stretch_code };
+
+    ghost view = { λ s. record { mark = s.mark; ops = (arc_value s.body).ops.items; outcomes = (arc_value s.body).outcomes } };
+}
+
+impl Segment {
+    pub fn new(
+        alloc: Global,
+        mark: Option<Heap>,
+        ops: Vec<Op>,
+        outcomes: Sequence<Outcome>,
+    ) -> Result<Self, AllocError>
+        ensures { IfOk result (λ s. s ≡ record { mark = mark; ops = ops.items; outcomes = outcomes }) }
+    {
+        Ok(Segment {
+            mark,
+            body: Arc::new(alloc, Replayed { ops, outcomes })?,
+        })
+    }
+
+    /// The same segment again, whose operations and outcomes are shared.
+    pub fn share(&self) -> Result<Self, AllocError>
+        ensures { IfOk result (λ s. s ≡ self.now) }
+    {
+        let mark = match &self.mark {
+            None => None,
+            Some(heap) => Some(heap.share()?),
+        };
+        Ok(Segment {
+            mark,
+            body: Arc::try_clone(&self.body)?,
+        })
+    }
+
+    pub fn ops(&self) -> &[Op]
+        ensures { result.now ≡ self.now.ops }
+    {
+        self.body.ops.as_slice()
+    }
+
+    pub fn outcomes(&self) -> &[Outcome]
+        ensures { result.now ≡ self.now.outcomes }
+    {
+        self.body.outcomes.as_slice()
+    }
+
+    pub fn is_marked(&self) -> bool
+        ensures { result ≡ is_some self.now.mark }
+    {
+        self.mark.is_some()
+    }
+
+    pub fn mark(&self) -> Option<&Heap>
+        ensures { option_copied result ≡ self.now.mark }
+    {
+        self.mark.as_ref()
+    }
+
+    /// Gives up the mark, and tells whether there was one.
+    pub fn clear_mark(&mut self) -> bool
+        ensures answer { result ≡ is_some self.old.mark }
+        ensures rest { self.new ≡ record self.old { mark = None } }
+    {
+        self.mark.take().is_some()
+    }
+}
+
+/// The same segments again.
+pub fn share_segments(alloc: Global, segments: &[Segment]) -> Result<Vec<Segment>, AllocError>
+    ensures { IfOk result (λ v. v.items ≡ segments.now) }
+{
+    let mut shares = Vec::new(alloc);
+    for segment in segments {
+        shares.push(segment.share()?)?;
+    }
+    Ok(shares)
+}
+
+/// Puts segments behind others.
+pub fn append(segments: &mut Vec<Segment>, more: Vec<Segment>) -> Result<(), AllocError>
+    ensures { OnOk result (segments.new.items ≡ segments.old.items ++ more.items) }
+{
+    for segment in more {
+        segments.push(segment)?;
+    }
+    Ok(())
+}
