@@ -258,3 +258,12 @@ told-shown (op ∷ ops) done m a =
 -- so the replay of a trace is found by computation
 pub replayed : (ops : List Operation) → outcomes_from nothing_held ops ≡ told ops
 replayed ops = sym (told-shown ops [] nothing_listed (record { handles = tt; cells = tt; objects = tt }))
+
+-- and so are the events of a release of what changes make of nothing
+pub cascaded : (changes : List Change) (pending : List Item) → (release (changed nothing_held changes) pending).events ≡ (cascade_in (changes_in nothing_listed changes) pending).events
+cascaded changes pending =
+    let n : Lists = changes_in nothing_listed changes in
+    let apart : IsApart n = changes_apart changes nothing_listed (record { handles = tt; cells = tt; objects = tt }) in
+    let e : Ends (cascade_in n pending) [] (release (changed nothing_held changes) pending) =
+    subst (λ s. Ends (cascade_in n pending) [] (release s pending)) (changes-shown changes nothing_listed) (cascade-shown n pending apart) in
+    sym e.events
