@@ -5,6 +5,7 @@ pub mod laws;
 pub mod leaks;
 pub mod link;
 pub mod number_map;
+pub mod plain_release;
 pub mod plain_state;
 pub mod plan;
 pub mod reach_laws;

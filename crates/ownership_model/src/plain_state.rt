@@ -5,6 +5,7 @@ ghost use Rattle.std.specs.FinMap as map;
 ghost use Rattle.ownership_model.specs.Totals.{total_in};
 ghost use Rattle.ownership_model.specs.State.{nothing_held, slots_weight, holding_weight, entry_weight, items_weight, weight};
 ghost use Rattle.ownership_model.specs.State as State;
+ghost use Rattle.ownership_model.specs.Bounds.{IsBounded};
 ghost use Rattle.ownership_model.specs.Plain.{state_of};
 
 use crate::number_map::NumberMap;
@@ -34,6 +35,13 @@ impl PlainState {
     /// How many slots name an object as `counted` does, strongly or weakly: those of handles, of cells, of the fields of
     /// objects, and those that are still to be dropped.
     pub fn count(&self, counted: Slot, pending: &[Item]) -> u64
+        requires { IsBounded (state_of self.now) }
+        ensures { result ≡ weight (State.hits counted) (state_of self.now) pending.now }
+    {
+        self.total(counted, pending)
+    }
+
+    fn total(&self, counted: Slot, pending: &[Item]) -> u64
         requires { weight (State.hits counted) (state_of self.now) pending.now < 2 ^ 64 }
         ensures { result ≡ weight (State.hits counted) (state_of self.now) pending.now }
     {
