@@ -1,11 +1,9 @@
-//! What the operations of a trace do to what its program holds: the definitions and their laws.
+//! What the operations of a trace do to what its program holds: the definitions, their laws, and the plain program.
 #![tactic(auto)]
 
 pub mod laws;
 pub mod leaks;
 pub mod link;
-pub mod number_map;
-pub mod plain_release;
-pub mod plain_state;
+pub mod plain;
 pub mod plan;
 pub mod reach_laws;
