@@ -1,20 +1,19 @@
 -- A map as a list that is sorted by number.
-use Rattle.std.proofs.Common.{◌≡◌, ℕ, ◌+◌, ◌<◌, ◌≢◌, suc, zero, List, [], ◌∷◌, ◌++◌, length, get_or, set, refl, ap, ◌∙◌, sym, subst, arith, Bool, true, false, cond}
-use Rattle.std.specs.Prelude.{not, Option, Some, None, IsTrue, ◌==◌, nat_le, is_some}
+use Rattle.std.proofs.Common.{◌≡◌, ℕ, ◌+◌, ◌<◌, ◌≢◌, suc, zero, List, [], ◌∷◌, ◌++◌, length, get_or, set, refl, ap, ◌∙◌, sym, subst, arith, Bool, true, false}
+use Rattle.std.specs.Prelude.{not, Some, None, IsTrue, ◌==◌}
 use Rattle.std.proofs.Math.Dec.{T}
 use Rattle.std.specs.List.{insert, filter, remove}
 use Rattle.std.specs.List as List
 use Rattle.std.specs.Option.{option_map}
 use Rattle.std.proofs.lemmas.Bool.Decides.{nat_tests}
-use Rattle.std.proofs.lemmas.Grind.{common_steps}
-use Rattle.std.specs.declared.cmp.Ordering.TheVariants.{Less, Equal, Greater}
-use Rattle.std.specs.Ordering.{nat_cmp, is_lt, is_eq, eq_by_cmp}
+use Rattle.std.specs.declared.cmp.Ordering.TheVariants.{Less}
+use Rattle.std.specs.Ordering.{nat_cmp, is_lt, eq_by_cmp}
 use Rattle.std.specs.Cmp.{nat_cmp_total}
-use Rattle.std.specs.FinMap.{FinMap, entries, entries_sorted, empty, get, len, same_map, same_entries_map, nat_cmp-IsAntisymmetric, from_sorted, get-from_sorted, entries-from_sorted, entries-insert, empty_of_len, len-entries}
+use Rattle.std.specs.FinMap.{FinMap, entries, empty, get, same_entries_map, from_sorted, get-from_sorted, entries-from_sorted, entries-insert, empty_of_len, len-entries}
 use Rattle.std.specs.FinMap as map
 use Rattle.std.specs.FinMap.Entries.{below_all, put, find, where_key, is_sorted, is_sorted-put, is_sorted-where_key}
 use Rattle.ownership_model.specs.Places.{place_from}
-use Rattle.ownership_model.proofs.TotalLemmas.{entries-remove, without, first, second, less, below_less, below_tied}
+use Rattle.ownership_model.proofs.TotalLemmas.{entries-remove, first, second, less, below_less, below_tied}
 
 pub so : (b : Bool) → IsTrue b → T b
 so b e = subst T (sym e) tt

@@ -1,6 +1,6 @@
 -- A cascade over plain lists, item by item; a plan carried out; a handle that is named twice.
-use Rattle.std.proofs.Common.{◌≡◌, ℕ, ◌+◌, ◌<◌, zero, suc, List, [], ◌∷◌, ◌++◌, length, refl, ap, ◌∙◌, sym, subst, arith, append_assoc, slice_index_or, get_or, drop, Bool, true, false}
-use Rattle.std.specs.Prelude.{Option, Some, None, Result, Ok, Err, OnOk, IfOk, ◌==◌, if◌then◌else◌}
+use Rattle.std.proofs.Common.{◌≡◌, ℕ, ◌+◌, ◌<◌, List, [], ◌∷◌, ◌++◌, length, ap, ◌∙◌, sym, subst, arith, append_assoc, slice_index_or, get_or, drop, true, false}
+use Rattle.std.specs.Prelude.{Option, Some, Result, Ok, Err, OnOk, IfOk, ◌==◌, if◌then◌else◌}
 use Rattle.std.specs.List.{remove, list_any}
 use Rattle.std.proofs.lemmas.List.{append-nil, drop_more}
 use Rattle.trace_types.specs.Operation.{Operation}

@@ -1,5 +1,5 @@
 //! Objects and pointers that are made: new, new_cyclic, new_from, weak_new, null.
-ghost use Rattle.std.specs.Prelude.{◌≡◌, IfOk, []};
+ghost use Rattle.std.specs.Prelude.{◌≡◌, IfOk};
 ghost use Rattle.std.specs.FinMap as map;
 ghost use Rattle.trace_types.specs.declared.kinds.Kind.TheVariants as kind;
 ghost use Rattle.ownership_model.specs.View.{elements_of};

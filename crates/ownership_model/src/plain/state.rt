@@ -1,7 +1,5 @@
 //! A state as plain lists, whose slots are counted by walking them.
-ghost use Rattle.std.specs.Prelude.{◌≡◌, ◌<◌, ◌^◌, []};
-ghost use Rattle.std.specs.Option.{option_copied};
-ghost use Rattle.std.specs.FinMap as map;
+ghost use Rattle.std.specs.Prelude.{◌≡◌, ◌<◌, ◌^◌};
 ghost use Rattle.ownership_model.specs.Totals.{total_in};
 ghost use Rattle.ownership_model.specs.State.{nothing_held, slots_weight, holding_weight, entry_weight, items_weight, weight};
 ghost use Rattle.ownership_model.specs.State as State;

@@ -1,5 +1,5 @@
 //! Values that one handle alone keeps: try_unwrap, into_inner, get_mut, make_mut.
-ghost use Rattle.std.specs.Prelude.{◌≡◌, IfOk, [], ◌∷◌};
+ghost use Rattle.std.specs.Prelude.{◌≡◌, IfOk};
 ghost use Rattle.trace_types.specs.declared.kinds.Kind.TheVariants as kind;
 ghost use Rattle.ownership_model.specs.Bounds.{IsBounded};
 ghost use Rattle.ownership_model.specs.Table as Table;

@@ -1,8 +1,6 @@
 //! What the members of an operation want: each question of the table, asked of plain lists.
-ghost use Rattle.std.specs.Prelude.{◌≡◌, IfOk, List, Option, ℕ};
-ghost use Rattle.std.specs.Option.{option_copied};
-ghost use Rattle.std.specs.FinMap as map;
 ghost use Rattle.std.specs.Prelude.{slice_get};
+ghost use Rattle.std.specs.FinMap as map;
 ghost use Rattle.ownership_model.specs.View.{seen, elements_of};
 ghost use Rattle.ownership_model.specs.View as View;
 ghost use Rattle.ownership_model.specs.Table as Table;
