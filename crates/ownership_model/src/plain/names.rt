@@ -30,62 +30,31 @@ fn apart_handles(alloc: Global, kind: &Kind) -> Result<Vec<u32>, AllocError>
             push_held(&mut handles, fields.as_slice())?;
             Ok(handles)
         }
-        Kind::NewFrom {
-            from: one,
-            to: other,
-        }
-        | Kind::Clone {
-            from: one,
-            to: other,
-        }
-        | Kind::Downgrade {
-            from: one,
-            to: other,
-        }
-        | Kind::Upgrade {
-            from: one,
-            to: other,
-        }
-        | Kind::Set {
-            h: one,
-            i: _,
-            from: other,
-        }
-        | Kind::Take {
-            h: one,
-            i: _,
-            to: other,
-        }
-        | Kind::Get {
-            h: one,
-            i: _,
-            to: other,
-        }
-        | Kind::CellSwap {
+        Kind::NewFrom { from, to }
+        | Kind::Clone { from, to }
+        | Kind::Downgrade { from, to }
+        | Kind::Upgrade { from, to } => Ok(vec![in alloc; *from, *to]?),
+        Kind::Set { h, i: _, from } => Ok(vec![in alloc; *h, *from]?),
+        Kind::Take { h, i: _, to } | Kind::Get { h, i: _, to } => Ok(vec![in alloc; *h, *to]?),
+        Kind::CellCas {
             c: _,
-            from: one,
-            to: Some(other),
+            expected,
+            desired,
+        } => Ok(vec![in alloc; *expected, *desired]?),
+        Kind::CellSwap { c: _, from, to } => match to {
+            Some(to) => Ok(vec![in alloc; *from, *to]?),
+            None => Ok(vec![in alloc; *from]?),
+        },
+        Kind::CellNew { c: _, from } => Ok(vec![in alloc; *from]?),
+        Kind::WeakNew { to } | Kind::Null { to } | Kind::CellLoad { c: _, to } => {
+            Ok(vec![in alloc; *to]?)
         }
-        | Kind::CellCas {
-            c: _,
-            expected: one,
-            desired: other,
-        } => { Ok(vec![in alloc; *one, *other]?) }
-        Kind::WeakNew { to: h }
-        | Kind::Null { to: h }
-        | Kind::Drop { h }
+        Kind::Drop { h }
         | Kind::TryUnwrap { h }
         | Kind::IntoInner { h }
         | Kind::GetMut { h }
         | Kind::MakeMut { h }
-        | Kind::Counts { h }
-        | Kind::CellNew { c: _, from: h }
-        | Kind::CellLoad { c: _, to: h }
-        | Kind::CellSwap {
-            c: _,
-            from: h,
-            to: None,
-        } => Ok(vec![in alloc; *h]?),
+        | Kind::Counts { h } => Ok(vec![in alloc; *h]?),
         Kind::PtrEq { a: _, b: _ } | Kind::CellDrop { c: _ } => Ok(Vec::new(alloc)),
     }
 }
