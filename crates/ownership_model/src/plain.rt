@@ -32,7 +32,7 @@ use trace_types::trace::Trace;
 
 /// Replays a whole trace, of a program that holds nothing as it begins: the outcomes in order, and what is held in the end.
 ///
-/// Each count is found by a walk over all slots, so the time is that of the operations times that of all slots.
+/// Each look-up walks a list, and each count, of which each drop asks for one, walks all slots. Takes memory at each operation.
 pub fn plain_replay(
     alloc: Global,
     trace: &Trace,
