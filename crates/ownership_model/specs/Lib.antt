@@ -1,3 +1,5 @@
+pub mod Places
+pub mod Plain
 pub mod Totals
 pub mod State
 pub mod Release

@@ -1,8 +1,9 @@
-//! What the operations of a trace do to what its program holds: the definitions and their laws.
+//! What the operations of a trace do to what its program holds: the definitions, their laws, and the plain program.
 #![tactic(auto)]
 
 pub mod laws;
 pub mod leaks;
 pub mod link;
+pub mod plain;
 pub mod plan;
 pub mod reach_laws;

@@ -1,0 +1,123 @@
+//! Cells: cell_new, cell_load, cell_swap, cell_cas, cell_drop.
+ghost use Rattle.std.specs.Prelude.{◌≡◌, IfOk};
+ghost use Rattle.trace_types.specs.declared.kinds.Kind.TheVariants as kind;
+ghost use Rattle.ownership_model.specs.Table as Table;
+ghost use Rattle.ownership_model.specs.Plain.{row_in, Tells};
+
+use crate::plain::effects::{act, hold};
+use crate::plain::state::PlainState;
+use crate::plain::stop::Stop;
+use crate::plain::view::named_by;
+use crate::plain::wants::{free, free_cell, held, in_cell, pointer_in};
+use crate::plan::Plan;
+use std::alloc::{AllocError, Global};
+use trace_types::outcomes::Answer;
+use trace_types::slots::{Change, Holding, Item, Slot};
+
+/// `atomic<shared_ptr<T>>`'s constructor
+pub fn cell_new(alloc: Global, state: &PlainState, c: u32, from: u32) -> Result<Plan, Stop>
+    ensures { Tells result (row_in state.now 0 (kind.CellNew c from)) }
+{
+    let slot = pointer_in(from, held(alloc, state, from)?)?;
+    free_cell(state, c)?;
+    let changes = vec![in alloc; Change::EndHandle(from), Change::SetCell(c, slot)]?;
+    Ok(act(Answer::Done, changes, Vec::new(alloc), named_by(slot)))
+}
+
+/// `atomic<shared_ptr<T>>::load`
+pub fn cell_load(alloc: Global, state: &PlainState, c: u32, to: u32) -> Result<Plan, Stop>
+    ensures { Tells result (row_in state.now 0 (kind.CellLoad c to)) }
+{
+    let slot = in_cell(state, c)?;
+    free(state, to)?;
+    Ok(hold(alloc, Answer::Done, to, slot, named_by(slot))?)
+}
+
+/// `atomic<shared_ptr<T>>::exchange`, or `store` where there is no `to`
+pub fn cell_swap(
+    alloc: Global,
+    state: &PlainState,
+    c: u32,
+    from: u32,
+    to: Option<u32>,
+) -> Result<Plan, Stop>
+    ensures { Tells result (row_in state.now 0 (kind.CellSwap c from to)) }
+{
+    let old = in_cell(state, c)?;
+    let slot = pointer_in(from, held(alloc, state, from)?)?;
+    let mut changes = vec![in alloc; Change::EndHandle(from), Change::SetCell(c, slot)]?;
+    match to {
+        None => {
+            let pending = vec![in alloc; Item::Slot(old)]?;
+            Ok(act(Answer::Done, changes, pending, named_by(slot)))
+        }
+        Some(to) => {
+            free(state, to)?;
+            changes.push(Change::SetHandle(to, Holding::Slot(old)))?;
+            Ok(act(Answer::Done, changes, Vec::new(alloc), named_by(slot)))
+        }
+    }
+}
+
+/// `atomic<shared_ptr<T>>::compare_exchange_strong`
+pub fn cell_cas(
+    alloc: Global,
+    state: &PlainState,
+    c: u32,
+    expected: u32,
+    desired: u32,
+) -> Result<Plan, Stop>
+    ensures { Tells result (row_in state.now 0 (kind.CellCas c expected desired)) }
+{
+    let old = in_cell(state, c)?;
+    let expected_held = held(alloc, state, expected)?;
+    let desired_held = held(alloc, state, desired)?;
+    let guess = pointer_in(expected, expected_held)?;
+    let slot = pointer_in(desired, desired_held)?;
+    Ok(exchanged(alloc, c, expected, desired, old, guess, slot)?)
+}
+
+// Where the guess is right, the cell takes the new pointer; else the guess becomes what the cell holds.
+fn exchanged(
+    alloc: Global,
+    c: u32,
+    expected: u32,
+    desired: u32,
+    old: Slot,
+    guess: Slot,
+    slot: Slot,
+) -> Result<Plan, AllocError>
+    ensures { IfOk result (λ plan. plan ≡ Table.exchanged c expected desired old guess slot) }
+{
+    if is_same_pointer(old, guess) {
+        let changes = vec![in alloc; Change::EndHandle(desired), Change::SetCell(c, slot)]?;
+        let pending = vec![in alloc; Item::Slot(old)]?;
+        return Ok(act(Answer::Yes, changes, pending, named_by(slot)));
+    }
+    let changes = vec![in alloc;
+        Change::SetHandle(expected, Holding::Slot(old)),
+        Change::EndHandle(desired),
+    ]?;
+    let pending = vec![in alloc; Item::Slot(guess), Item::Slot(slot)]?;
+    Ok(act(Answer::No, changes, pending, named_by(old)))
+}
+
+fn is_same_pointer(slot: Slot, other: Slot) -> bool
+    ensures { result ≡ Table.same_pointer slot other }
+{
+    match (slot, other) {
+        (Slot::Nothing, Slot::Nothing) => true,
+        (Slot::Strong(object), Slot::Strong(another)) => object == another,
+        (Slot::Nothing | Slot::Strong(_) | Slot::Weak(_) | Slot::Dangling, _) => false,
+    }
+}
+
+/// `atomic<shared_ptr<T>>`'s destructor
+pub fn cell_drop(alloc: Global, state: &PlainState, c: u32) -> Result<Plan, Stop>
+    ensures { Tells result (row_in state.now 0 (kind.CellDrop c)) }
+{
+    let slot = in_cell(state, c)?;
+    let changes = vec![in alloc; Change::EndCell(c)]?;
+    let pending = vec![in alloc; Item::Slot(slot)]?;
+    Ok(act(Answer::Done, changes, pending, named_by(slot)))
+}

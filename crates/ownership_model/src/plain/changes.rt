@@ -1,0 +1,60 @@
+//! The changes of an operation, made on plain lists.
+ghost use Rattle.std.specs.Prelude.{◌≡◌, IfOk, OnOk};
+ghost use Rattle.std.specs.Option.{option_copied};
+ghost use Rattle.ownership_model.specs.Changes.{changed_by, changed};
+ghost use Rattle.ownership_model.specs.Changes as Changes;
+ghost use Rattle.ownership_model.specs.Plain.{state_of};
+
+use crate::plain::fields::with_slot;
+use crate::plain::state::PlainState;
+use std::alloc::{AllocError, Global};
+use trace_types::slots::{Change, Entry, Slot};
+
+impl PlainState {
+    /// Makes the changes in order.
+    pub fn apply(&mut self, alloc: Global, changes: &[Change]) -> Result<(), AllocError>
+        ensures { OnOk result (state_of self.new ≡ changed (state_of self.old) changes.now) }
+    {
+        for change in changes {
+            self.change(alloc, change)?;
+        }
+        Ok(())
+    }
+
+    fn change(&mut self, alloc: Global, change: &Change) -> Result<(), AllocError>
+        ensures { OnOk result (state_of self.new ≡ changed_by (state_of self.old) change.now) }
+    {
+        match change {
+            Change::SetHandle(handle, held) => self.handles.insert(*handle, held.copy(alloc)?),
+            Change::EndHandle(handle) => Ok(self.handles.remove(*handle)),
+            Change::SetCell(cell, slot) => self.cells.insert(*cell, *slot),
+            Change::EndCell(cell) => Ok(self.cells.remove(*cell)),
+            Change::SetField(object, index, slot) => {
+                let entry = with_field(alloc, self.objects.get(*object), *index, *slot)?;
+                self.objects.insert(*object, entry)
+            }
+            Change::Make(object, fields) => {
+                self.objects
+                    .insert(*object, Entry::Alive(fields.copy(alloc)?))
+            }
+            Change::TurnHusk(object) => self.objects.insert(*object, Entry::Husk),
+        }
+    }
+}
+
+// The object with another slot in a field.
+fn with_field(
+    alloc: Global,
+    entry: Option<&Entry>,
+    index: u32,
+    slot: Slot,
+) -> Result<Entry, AllocError>
+    ensures { IfOk result (λ e. e ≡ Changes.with_field (option_copied entry.entry) index slot) }
+{
+    match entry {
+        Some(Entry::Alive(fields)) => {
+            Ok(Entry::Alive(with_slot(fields.copy(alloc)?, index, slot)))
+        }
+        Some(Entry::Husk) | None => Ok(Entry::Husk),
+    }
+}
