@@ -20,7 +20,8 @@ use Rattle.std.proofs.Math.Seq.{take-append_seam, drop-append_seam}
 use Rattle.ownership_model.specs.State.{nothing_held}
 use Rattle.ownership_model.specs.Step.{end_from}
 use Rattle.run_engine.specs.Steps.{IsOldStretch}
-use Rattle.run_engine.proofs.ConvergeLemmas.{marks-at, ShareEnd-length, place-within, Contains-none, Contains-one, mark_here-place, marks_from-least}
+use Rattle.run_engine.proofs.PlaceLemmas.{marks-at, place-within, Contains-none, Contains-one, mark_here-place, marks_from-least}
+use Rattle.run_engine.proofs.ConvergeLemmas.{ShareEnd-length}
 
 places-append : (r : ℕ) (gaps : List ℕ) (g : ℕ) → places r (gaps ++ g ∷ []) ≡ places r gaps ++ past r gaps ∷ []
 places-append r [] g = refl

@@ -6,7 +6,7 @@ use Rattle.run_engine.specs.Bounds.{IsBounded}
 use Rattle.run_engine.specs.Steps.{AreStepped}
 use Rattle.run_engine.specs.Common.{ShareEnd, AreShared}
 use Rattle.run_engine.proofs.CommonLemmas.{ShareEnd-tail, from-greatest, bounded-none}
-use Rattle.run_engine.proofs.ConvergeLemmas.{IsReached-restart}
+use Rattle.run_engine.proofs.RestartLemmas.{IsReached-restart}
 use Rattle.run_engine.proofs.MarksLemmas.{AreMarksAfter-restart}
 use Rattle.run_engine.proofs.restart.resumed.Goals as goal
 
