@@ -1,22 +1,22 @@
 -- A replay that goes on beside an old one.
-use Rattle.std.proofs.Common.{◌≡◌, ℕ, ◌+◌, ◌-◌, ◌<◌, ◌≤◌, suc, zero, List, [], ◌∷◌, ◌++◌, length, take, drop, get_or, true, false, refl, ap, sym, subst, ◌∙◌, arith, append_assoc, length-append, length-drop, take-append-drop}
-use Rattle.std.specs.Prelude.{Some, None, Option, is_some, Contains, IsTrue}
-use mathlib.Core.Logic.{◌⊎◌, inl, inr, ⊎_elim}
+use Rattle.std.proofs.Common.{◌≡◌, ℕ, ◌+◌, ◌-◌, ◌<◌, ◌≤◌, List, [], ◌∷◌, ◌++◌, length, take, drop, get_or, true, refl, ap, sym, subst, ◌∙◌, arith, append_assoc, length-drop, take-append-drop}
+use Rattle.std.specs.Prelude.{is_some, Contains}
+use mathlib.Core.Logic.{⊎_elim}
 use Rattle.std.proofs.lemmas.List.{drop-drop}
-use Rattle.std.proofs.lemmas.List.Elements.{Contains-append_cases, Contains-append_left, Contains-append_right}
-use Rattle.std.proofs.Math.Seq.{take-length, drop-append_seam, take-append_seam}
+use Rattle.std.proofs.lemmas.List.Elements.{Contains-append_cases}
+use Rattle.std.proofs.Math.Seq.{take-length}
 use Rattle.ownership_model.specs.State.{State, nothing_held}
 use Rattle.trace_types.specs.Operation.{Operation}
 use Rattle.run_engine.specs.Stretch.{Stretch}
 use Rattle.ownership_model.specs.Step.{end_from}
-use Rattle.run_engine.specs.Segments.{ops_of, trace_of, mark_here, marks_from, AreReplayFrom, AreFull, BeginsMarked, IsRun, IsReached, all_marks, IsRestart, IsKept, without_mark}
+use Rattle.run_engine.specs.Segments.{trace_of, mark_here, marks_from, AreReplayFrom, AreFull, BeginsMarked, IsRun, IsReached, all_marks}
 use Rattle.run_engine.specs.Common.{ShareEnd}
 use Rattle.run_engine.specs.Bounds.{AgreesAt, IsBounded}
 use Rattle.ownership_model.proofs.ReplayLemmas.{end_from-append}
-use Rattle.run_engine.proofs.SegmentLemmas.{trace_of-append, marks_from-append, trace_of-without_mark, AreReplayFrom-without_mark, AreReplayFrom-append, AreReplayFrom-front, AreReplayFrom-back, length-trace_of-next}
-use Rattle.run_engine.proofs.ListingLemmas.{around, take-shorter}
-use Rattle.run_engine.proofs.PieceLemmas.{AreFull-append, AreFull-front, AreFull-back, BeginsMarked-front}
-use Rattle.run_engine.proofs.PlaceLemmas.{Contains-one, Contains-none, mark_here-place, mark_here-some, marks_from-least, trace_of-front, trace_of-back, place-within, marks-at, mark-there, end-mark, first-mark-there, all-within}
+use Rattle.run_engine.proofs.SegmentLemmas.{trace_of-append, AreReplayFrom-append, AreReplayFrom-back, length-trace_of-next}
+use Rattle.run_engine.proofs.ListingLemmas.{around}
+use Rattle.run_engine.proofs.PieceLemmas.{AreFull-append, AreFull-back}
+use Rattle.run_engine.proofs.PlaceLemmas.{Contains-one, mark_here-place, mark_here-some, marks_from-least, trace_of-back, place-within}
 
 pub ShareEnd-length : (old ops : List Operation) (a b : ℕ) → ShareEnd old ops a b → length old - a ≡ length ops - b
 ShareEnd-length old ops a b h = sym (length-drop a old) ∙ ap length h.same ∙ length-drop b ops

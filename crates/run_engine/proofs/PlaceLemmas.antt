@@ -1,21 +1,14 @@
 -- Where segments and their marks stand.
-use Rattle.std.proofs.Common.{◌≡◌, ℕ, ◌+◌, ◌-◌, ◌<◌, ◌≤◌, suc, zero, List, [], ◌∷◌, ◌++◌, length, take, drop, get_or, true, false, refl, ap, sym, subst, ◌∙◌, arith, append_assoc, length-append, length-drop, take-append-drop}
+use Rattle.std.proofs.Common.{◌≡◌, ℕ, ◌+◌, ◌<◌, ◌≤◌, suc, zero, List, [], ◌∷◌, ◌++◌, length, take, drop, get_or, true, refl, ap, sym, subst, ◌∙◌, arith, append_assoc, length-append, take-append-drop}
 use Rattle.std.specs.Prelude.{Some, None, Option, is_some, Contains, IsTrue}
-use mathlib.Core.Logic.{◌⊎◌, inl, inr, ⊎_elim}
-use Rattle.std.proofs.lemmas.List.{drop-drop}
+use mathlib.Core.Logic.{⊎_elim}
 use Rattle.std.proofs.lemmas.List.Elements.{Contains-append_cases, Contains-append_left, Contains-append_right}
-use Rattle.std.proofs.Math.Seq.{take-length, drop-append_seam, take-append_seam}
-use Rattle.ownership_model.specs.State.{State, nothing_held}
-use Rattle.trace_types.specs.Operation.{Operation}
+use Rattle.std.proofs.Math.Seq.{drop-append_seam, take-append_seam}
+use Rattle.ownership_model.specs.State.{State}
 use Rattle.run_engine.specs.Stretch.{Stretch}
-use Rattle.ownership_model.specs.Step.{end_from}
-use Rattle.run_engine.specs.Segments.{ops_of, trace_of, mark_here, marks_from, AreReplayFrom, AreFull, BeginsMarked, IsRun, IsReached, all_marks, IsRestart, IsKept, without_mark}
-use Rattle.run_engine.specs.Common.{ShareEnd}
-use Rattle.run_engine.specs.Bounds.{AgreesAt, IsBounded}
-use Rattle.ownership_model.proofs.ReplayLemmas.{end_from-append}
-use Rattle.run_engine.proofs.SegmentLemmas.{trace_of-append, marks_from-append, trace_of-without_mark, AreReplayFrom-without_mark, AreReplayFrom-append, AreReplayFrom-front, AreReplayFrom-back, length-trace_of-next}
-use Rattle.run_engine.proofs.ListingLemmas.{around, take-shorter}
-use Rattle.run_engine.proofs.PieceLemmas.{AreFull-append, AreFull-front, AreFull-back, BeginsMarked-front}
+use Rattle.run_engine.specs.Segments.{ops_of, trace_of, mark_here, marks_from, BeginsMarked, all_marks}
+use Rattle.run_engine.proofs.SegmentLemmas.{trace_of-append, marks_from-append}
+use Rattle.run_engine.proofs.ListingLemmas.{around}
 
 pub Contains-one : (x p : ℕ) → Contains (x ∷ []) p → x ≡ p
 Contains-one x p (zero, lt, e) = e

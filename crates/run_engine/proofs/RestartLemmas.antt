@@ -1,22 +1,18 @@
 -- The greatest mark at or before the head.
-use Rattle.std.proofs.Common.{◌≡◌, ℕ, ◌+◌, ◌-◌, ◌<◌, ◌≤◌, suc, zero, List, [], ◌∷◌, ◌++◌, length, take, drop, get_or, true, false, refl, ap, sym, subst, ◌∙◌, arith, append_assoc, length-append, length-drop, take-append-drop}
-use Rattle.std.specs.Prelude.{Some, None, Option, is_some, Contains, IsTrue}
+use Rattle.std.proofs.Common.{◌≡◌, ℕ, ◌+◌, ◌<◌, ◌≤◌, List, [], ◌∷◌, ◌++◌, length, take, drop, get_or, true, false, refl, ap, sym, subst, ◌∙◌, arith, append_assoc, take-append-drop}
+use Rattle.std.specs.Prelude.{Some, is_some, Contains}
 use mathlib.Core.Logic.{◌⊎◌, inl, inr, ⊎_elim}
-use Rattle.std.proofs.lemmas.List.{drop-drop}
-use Rattle.std.proofs.lemmas.List.Elements.{Contains-append_cases, Contains-append_left, Contains-append_right}
-use Rattle.std.proofs.Math.Seq.{take-length, drop-append_seam, take-append_seam}
+use Rattle.std.proofs.lemmas.List.Elements.{Contains-append_cases}
+use Rattle.std.proofs.Math.Seq.{take-length}
 use Rattle.ownership_model.specs.State.{State, nothing_held}
 use Rattle.trace_types.specs.Operation.{Operation}
 use Rattle.run_engine.specs.Stretch.{Stretch}
 use Rattle.ownership_model.specs.Step.{end_from}
-use Rattle.run_engine.specs.Segments.{ops_of, trace_of, mark_here, marks_from, AreReplayFrom, AreFull, BeginsMarked, IsRun, IsReached, all_marks, IsRestart, IsKept, without_mark}
-use Rattle.run_engine.specs.Common.{ShareEnd}
-use Rattle.run_engine.specs.Bounds.{AgreesAt, IsBounded}
-use Rattle.ownership_model.proofs.ReplayLemmas.{end_from-append}
-use Rattle.run_engine.proofs.SegmentLemmas.{trace_of-append, marks_from-append, trace_of-without_mark, AreReplayFrom-without_mark, AreReplayFrom-append, AreReplayFrom-front, AreReplayFrom-back, length-trace_of-next}
+use Rattle.run_engine.specs.Segments.{trace_of, mark_here, marks_from, AreReplayFrom, AreFull, BeginsMarked, IsRun, IsReached, all_marks, IsRestart}
+use Rattle.run_engine.proofs.SegmentLemmas.{AreReplayFrom-front, length-trace_of-next}
 use Rattle.run_engine.proofs.ListingLemmas.{around, take-shorter}
-use Rattle.run_engine.proofs.PieceLemmas.{AreFull-append, AreFull-front, AreFull-back, BeginsMarked-front}
-use Rattle.run_engine.proofs.PlaceLemmas.{Contains-one, Contains-none, mark_here-place, mark_here-some, marks_from-least, trace_of-front, trace_of-back, place-within, marks-at, mark-there, end-mark, first-mark-there, all-within}
+use Rattle.run_engine.proofs.PieceLemmas.{AreFull-front, BeginsMarked-front}
+use Rattle.run_engine.proofs.PlaceLemmas.{Contains-one, mark_here-place, mark_here-some, marks_from-least, trace_of-front, place-within, mark-there, end-mark, first-mark-there, all-within}
 
 -- a loop that looks for the restart: it stands at segment j, which begins at `here`
 pub record IsSought (segments : List Stretch) (head j here i at : ℕ) (heap : State) : Type 0 where

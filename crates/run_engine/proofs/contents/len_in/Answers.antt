@@ -1,4 +1,4 @@
-use Rattle.std.proofs.Common.{◌≡◌, ◌≤◌, ◌+◌, length, take, ap, refl, arith}
+use Rattle.std.proofs.Common.{◌≤◌, ◌+◌, length, take, ap, refl, arith}
 use Rattle.run_engine.specs.Segments.{trace_of}
 use Rattle.run_engine.proofs.SegmentLemmas.{length-trace_of-next}
 use Rattle.run_engine.proofs.PlaceLemmas.{place-within}
