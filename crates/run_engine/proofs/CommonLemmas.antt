@@ -1,13 +1,12 @@
 -- Heads and tails of two traces.
-use Rattle.std.proofs.Common.{◌≡◌, ℕ, ◌+◌, ◌-◌, ◌<◌, ◌≤◌, suc, List, [], ◌∷◌, ◌++◌, length, take, drop, get_or, refl, ap, sym, subst, ◌∙◌, arith}
+use Rattle.std.proofs.Common.{◌≡◌, ℕ, ◌+◌, ◌-◌, ◌<◌, ◌≤◌, List, [], ◌∷◌, ◌++◌, length, take, drop, get_or, ap, sym, subst, ◌∙◌, arith}
 use Rattle.std.proofs.lemmas.Bool.{cases_lt}
 use Rattle.std.proofs.lemmas.List.{take_more, same_from_push, drop-drop, drop_all}
 use mathlib.Core.Logic.{⊎_elim}
-use Rattle.std.specs.Prelude.{Contains}
 use Rattle.trace_types.specs.Operation.{Operation}
 use Rattle.run_engine.specs.Common.{ShareEnd, IsHead, IsTail, AreShared}
 use Rattle.run_engine.specs.Marks.{IsGreatest}
-use Rattle.run_engine.specs.Bounds.{IsBounded, IsBoundedFrom}
+use Rattle.run_engine.specs.Bounds.{IsBoundedFrom}
 use Rattle.run_engine.specs.Steps.{AreSteppedFrom}
 use Rattle.run_engine.proofs.ListingLemmas.{around, take-shorter}
 

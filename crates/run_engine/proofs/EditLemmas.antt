@@ -1,6 +1,6 @@
 -- Edits keep the numbers distinct.
-use Rattle.std.proofs.Common.{◌≡◌, ℕ, zero, suc, ◌+◌, ◌-◌, ◌<◌, ◌≤◌, List, [], ◌∷◌, ◌++◌, length, take, drop, get_or, set, Bool, true, false, refl, ap, sym, subst, ◌∙◌, arith, length-set}
-use Rattle.std.specs.Prelude.{Option, Some, None, if◌then◌else◌, nat_le, ◌==◌, ◌&&◌, ◌||◌, not, IsTrue, insert, remove, slice_set}
+use Rattle.std.proofs.Common.{◌≡◌, ℕ, zero, suc, ◌+◌, ◌-◌, ◌<◌, ◌≤◌, List, [], ◌∷◌, length, get_or, Bool, true, false, refl, ap, sym, subst, ◌∙◌, arith, length-set}
+use Rattle.std.specs.Prelude.{Some, if◌then◌else◌, ◌==◌, ◌&&◌, ◌||◌, not, IsTrue, insert, remove, slice_set}
 use Rattle.std.specs.List.{position_from}
 use Rattle.std.proofs.lemmas.List.Edits.{length-insert, length-remove}
 use Rattle.std.proofs.lemmas.Bool.Decides.{nat_tests}

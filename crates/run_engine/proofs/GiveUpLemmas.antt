@@ -5,13 +5,14 @@ use mathlib.Core.Logic.{⊎_elim}
 use Rattle.std.proofs.lemmas.Bool.{ne_eqb}
 use Rattle.std.proofs.lemmas.List.{drop_all}
 use Rattle.std.proofs.lemmas.List.Elements.{filter-append, Contains-append_cases, Contains-append_left, Contains-append_right}
-use Rattle.ownership_model.specs.State.{State}
+use Rattle.ownership_model.specs.State.{State, nothing_held}
+use Rattle.ownership_model.specs.Step.{end_from}
 use Rattle.run_engine.specs.Stretch.{Stretch}
-use Rattle.run_engine.specs.Segments.{ops_of, trace_of, mark_here, marks_from, all_marks, AreFull, IsInner, IsNoMark, has_mark, without, without_mark}
-use Rattle.run_engine.proofs.SegmentLemmas.{trace_of-without_mark}
+use Rattle.run_engine.specs.Segments.{ops_of, trace_of, mark_here, marks_from, all_marks, AreFull, BeginsMarked, IsKept, IsInner, IsNoMark, has_mark, without, without_mark}
+use Rattle.run_engine.proofs.SegmentLemmas.{trace_of-without_mark, AreReplayFrom-without_mark}
 use Rattle.run_engine.proofs.ListingLemmas.{around}
 use Rattle.run_engine.proofs.PieceLemmas.{is_some-none}
-use Rattle.run_engine.proofs.ConvergeLemmas.{Contains-one, Contains-none, mark_here-place, mark_here-some, marks_from-least}
+use Rattle.run_engine.proofs.PlaceLemmas.{Contains-one, Contains-none, mark_here-place, mark_here-some, marks_from-least}
 
 without-here : (p at : ℕ) (o : Option State) → at ≢ p → without p (mark_here at o) ≡ mark_here at o
 without-here p at None ne = refl
@@ -140,3 +141,26 @@ pub given-up : (segments : List Stretch) (i p : ℕ) (answer : Bool) → AreFull
     → all_marks (without_mark segments i) ≡ (if answer then without p (all_marks segments) else all_marks segments)
 given-up segments i p true full lt e is = all_marks-without segments i p full lt e
 given-up segments i p false full lt e is = ap all_marks (without_mark-none segments i (sym is))
+
+pub AreFull-without_mark : (segments : List Stretch) (i : ℕ) → AreFull segments → AreFull (without_mark segments i)
+AreFull-without_mark [] i h = tt
+AreFull-without_mark (s ∷ segments) zero h = h
+AreFull-without_mark (s ∷ segments) (suc i) h = (h.0, AreFull-without_mark segments i h.1)
+
+BeginsMarked-without_mark : (segments : List Stretch) (i : ℕ) → 0 < i → BeginsMarked segments → BeginsMarked (without_mark segments i)
+BeginsMarked-without_mark [] i lt h = tt
+BeginsMarked-without_mark (s ∷ segments) zero lt h = absurd (omega arith)
+BeginsMarked-without_mark (s ∷ segments) (suc i) lt h = h
+
+pub IsKept-without_mark : (segments : List Stretch) (end : State) (i : ℕ) → 0 < i → IsKept segments end → IsKept (without_mark segments i) end
+IsKept-without_mark segments end i lt h =
+    let t = trace_of-without_mark segments i in
+    record {
+      run = record {
+        replay = AreReplayFrom-without_mark nothing_held segments i h.run.replay;
+        full = AreFull-without_mark segments i h.run.full;
+        begins = BeginsMarked-without_mark segments i lt h.run.begins;
+        state = h.run.state ∙ ap (end_from nothing_held) (sym t);
+      };
+      trace = rw t h.trace;
+    }

@@ -3,7 +3,9 @@ mod EditLemmas
 mod CommonLemmas
 mod SegmentLemmas
 mod PieceLemmas
+mod PlaceLemmas
 mod ConvergeLemmas
+mod RestartLemmas
 mod MarksLemmas
 mod SteppedLemmas
 mod LoadLemmas

@@ -1,6 +1,6 @@
 -- Lists of references, and where an operation stands in a list.
-use Rattle.std.proofs.Common.{◌≡◌, ℕ, zero, suc, ◌+◌, ◌<◌, ◌≤◌, List, [], ◌∷◌, ◌++◌, length, take, drop, ◌-◌, get_or, map, Bool, true, false, cond, refl, ap, sym, ◌∙◌, arith, drop-cons, add-one, Bor}
-use Rattle.std.specs.Prelude.{◌==◌, Option, Some, None, is_some, insert, remove}
+use Rattle.std.proofs.Common.{◌≡◌, ℕ, zero, suc, ◌+◌, ◌<◌, ◌≤◌, List, [], ◌∷◌, ◌++◌, length, take, drop, ◌-◌, get_or, map, Bool, cond, refl, ap, sym, ◌∙◌, arith, drop-cons, add-one, Bor}
+use Rattle.std.specs.Prelude.{◌==◌, Some, None, is_some, insert, remove}
 use Rattle.std.specs.List.{list_any, position_from}
 use Rattle.std.proofs.lemmas.Grind.{common_steps}
 use Rattle.std.proofs.lemmas.List.{map-append, drop_all, take_more, length-drop, get_or-drop}

@@ -1,5 +1,5 @@
 -- A run that is loaded as far as a position.
-use Rattle.std.proofs.Common.{◌≡◌, ◌≢◌, ℕ, zero, suc, ◌+◌, ◌-◌, ◌%◌, ◌^◌, min, ◌<◌, ◌≤◌, Bool, false, cond, nat_eq, eq-eqb, List, [], ◌∷◌, ◌++◌, length, take, drop, refl, ap, sym, subst, ◌∙◌, arith, add-zero, zero-add}
+use Rattle.std.proofs.Common.{◌≡◌, ◌≢◌, ℕ, zero, suc, ◌+◌, ◌-◌, ◌%◌, min, ◌<◌, ◌≤◌, Bool, false, cond, nat_eq, eq-eqb, List, [], ◌∷◌, ◌++◌, length, drop, refl, ap, sym, ◌∙◌, arith, add-zero, zero-add}
 use Rattle.std.specs.Prelude.{filter}
 use Rattle.std.specs.List.{range_with_len}
 use Rattle.std.proofs.lemmas.Bool.{ne_eqb}
@@ -9,7 +9,6 @@ use Rattle.ownership_model.specs.State.{State, nothing_held}
 use Rattle.trace_types.specs.Operation.{Operation}
 use Rattle.op_step.specs.Meter.{raised}
 use Rattle.run_engine.specs.Stretch.{Stretch}
-use Rattle.ownership_model.specs.Step.{end_from}
 use Rattle.run_engine.specs.Segments.{trace_of, marks_from, IsReached, IsPiece}
 use Rattle.run_engine.specs.Part.{part}
 use Rattle.run_engine.specs.Marks.{multiples_below, load_marks}

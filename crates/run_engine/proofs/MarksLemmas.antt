@@ -19,8 +19,9 @@ use Rattle.run_engine.proofs.PieceLemmas.{AreFull-front, mark-is}
 use Rattle.std.proofs.Math.Seq.{take-append_seam, drop-append_seam}
 use Rattle.ownership_model.specs.State.{nothing_held}
 use Rattle.ownership_model.specs.Step.{end_from}
-use Rattle.run_engine.specs.Steps.{IsOldStretch}
-use Rattle.run_engine.proofs.ConvergeLemmas.{marks-at, ShareEnd-length, place-within, Contains-none, Contains-one, mark_here-place, marks_from-least}
+use Rattle.run_engine.specs.Steps.{IsOldStretch, AreRising}
+use Rattle.run_engine.proofs.PlaceLemmas.{marks-at, place-within, Contains-none, Contains-one, mark_here-place, marks_from-least}
+use Rattle.run_engine.proofs.ConvergeLemmas.{ShareEnd-length}
 
 places-append : (r : ℕ) (gaps : List ℕ) (g : ℕ) → places r (gaps ++ g ∷ []) ≡ places r gaps ++ past r gaps ∷ []
 places-append r [] g = refl
@@ -258,3 +259,20 @@ old-stretch-is old end i k s heap ops len run lt is mark bare fits same begins =
     let rest : drop k (drop (i + 1) old) ≡ drop (i + suc k) old = drop-drop k (i + 1) old ∙ ap (λ n. drop n old) j in
     subst (λ ss. IsOldStretch (trace_of ss) (all_marks ss) heap ops len) parts
     (stretch-old (take i old) b c s heap ops len mark bare long (subst BeginsMarked (sym rest) begins) (mark-is old i s heap run.replay lt is (sym mark)) (ap trace_of (sym stretch) ∙ same))
+
+rising-earlier : (a b to : ℕ) (ps : List ℕ) → a ≤ b → AreRising b to ps → AreRising a to ps
+rising-earlier a b to [] le h = tt
+rising-earlier a b to (p ∷ ps) le h = let first : b ≤ p = h.0 in (omega arith, h.1, h.2)
+
+rising-here : (at b n : ℕ) (o : Option State) (ps : List ℕ) → at < b → at ≤ n → AreRising b (n + 1) (ps ++ n ∷ []) → AreRising at (n + 1) ((mark_here at o ++ ps) ++ n ∷ [])
+rising-here at b n None ps lt le h = rising-earlier at b (n + 1) (ps ++ n ∷ []) (omega arith) h
+rising-here at b n (Some m) ps lt le h = (omega arith, omega arith, rising-earlier (at + 1) b (n + 1) (ps ++ n ∷ []) (omega arith) h)
+
+-- the marks rise
+pub rising-marks : (at n : ℕ) (segments : List Stretch) → n ≡ at + length (trace_of segments) → AreFull segments → AreRising at (n + 1) (marks_from at segments ++ n ∷ [])
+rising-marks at n [] e full = (omega arith, omega arith, tt)
+rising-marks at n (s ∷ segments) e full =
+    let long = length-append (ops_of s) (trace_of segments) in
+    let some : 0 < length (ops_of s) = full.0 in
+    let later : n ≡ at + length (ops_of s) + length (trace_of segments) = omega arith in
+    rising-here at (at + length (ops_of s)) n s.mark (marks_from (at + length (ops_of s)) segments) (omega arith) (omega arith) (rising-marks (at + length (ops_of s)) n segments later full.1)

@@ -1,5 +1,5 @@
 -- Stretches of a run as pieces of another.
-use Rattle.std.proofs.Common.{◌≡◌, ℕ, ◌+◌, ◌-◌, ◌<◌, ◌≤◌, suc, zero, List, [], ◌∷◌, ◌++◌, length, take, drop, get_or, false, refl, ap, sym, subst, ◌∙◌, arith, length-append, length-drop, drop-cons, add-one}
+use Rattle.std.proofs.Common.{◌≡◌, ℕ, ◌+◌, ◌-◌, ◌<◌, ◌≤◌, suc, List, [], ◌∷◌, ◌++◌, length, take, drop, get_or, false, refl, ap, sym, subst, ◌∙◌, arith, length-append, length-drop}
 use Rattle.std.specs.Prelude.{Some, None, Option, is_some, IsTrue}
 use Rattle.std.proofs.lemmas.List.{append-nil, take_more, length-take, take-append-drop, drop-take, drop-drop}
 use Rattle.std.proofs.Math.Seq.{take-add, take-length}

@@ -32,7 +32,7 @@ pub fn apply(alloc: Global, trace: &Trace, batch: &Batch) -> Result<Trace, RunFa
 }
 
 /// Whether a batch may have so many edits.
-pub fn try_size(len: usize) -> Result<(), RunFault>
+pub(crate) fn try_size(len: usize) -> Result<(), RunFault>
     ensures ok { OnOk result ((0 < len) × (len ≤ 64)) }
     ensures fault { IfErr result (λ e. ((e ≡ EmptyBatch) × (len ≡ 0)) ⊎ ((e ≡ TooManyEdits) × (64 < len))) }
 {
@@ -46,7 +46,7 @@ pub fn try_size(len: usize) -> Result<(), RunFault>
 }
 
 /// Carries out the edits in order. After a refusal those before it stay.
-pub fn edit<'a>(ops: &mut Listing<'a>, batch: &'a [Edit]) -> Result<(), RunFault>
+pub(crate) fn edit<'a>(ops: &mut Listing<'a>, batch: &'a [Edit]) -> Result<(), RunFault>
     requires some { 0 < length batch.now }
     requires few { length batch.now ≤ 64 }
     ensures ok { OnOk result (edited_by ops.old batch.now ≡ Ok ops.new) }
@@ -133,7 +133,7 @@ fn place_after(ops: &Listing, after: u32) -> Option<usize>
 }
 
 /// A trace of copies of the operations. Their numbers are distinct, so that only memory can be wanting.
-pub fn copied(alloc: Global, ops: &Listing) -> Result<Trace, RunFault>
+pub(crate) fn copied(alloc: Global, ops: &Listing) -> Result<Trace, RunFault>
     ensures ok { IfOk result (λ t. t ≡ ops.now) }
     ensures fault { IfErr result (λ e. e ≡ Memory) }
 {

@@ -1,5 +1,5 @@
 //! A run of a trace.
-ghost use Rattle.std.specs.Prelude.{◌≡◌, ◌+◌, ◌<◌, ◌≤◌, List, length, slice_get, take, IfOk, IfErr, IfSome, IsTrue, IsErr, ◌↔◌, ◌⊎◌, if◌then◌else◌, Ok, Err};
+ghost use Rattle.std.specs.Prelude.{◌≡◌, ◌+◌, ◌<◌, ◌≤◌, List, Contains, length, slice_get, take, IfOk, IfErr, IfSome, IsTrue, IsErr, ◌↔◌, ◌⊎◌, if◌then◌else◌, Ok, Err};
 ghost use Rattle.std.specs.Option.{option_copied};
 ghost use Rattle.trace_types.specs.Operation.{Operation};
 ghost use Rattle.trace_types.specs.Trace.{IsTrace};
@@ -12,7 +12,7 @@ ghost use Rattle.run_engine.specs.Segments.{without, IsInner};
 ghost use Rattle.run_engine.specs.Marks.{load_marks};
 ghost use Rattle.run_engine.specs.Bounds.{IsBoundedFrom};
 ghost use Rattle.run_engine.specs.NewMarks.{AreMarksAfter};
-ghost use Rattle.run_engine.specs.Steps.{AreSteppedFrom};
+ghost use Rattle.run_engine.specs.Steps.{AreRising, AreSteppedFrom};
 
 use crate::contents::{len_in, marks_in, ops_in, outcomes_in};
 use crate::converge::{Front, joined};
@@ -194,9 +194,13 @@ impl Run {
         Ok(outcomes)
     }
 
-    /// The positions of the kept checkpoints, rising.
+    /// The positions of the kept checkpoints. By its clauses a caller knows that they rise, and that 0 and the end are
+    /// among them.
     pub fn marks(&self, alloc: Global) -> Result<Sequence<usize>, AllocError>
-        ensures { IfOk result (λ v. v ≡ self.now.marks) }
+        ensures marks { IfOk result (λ v. v ≡ self.now.marks) }
+        ensures rising { AreRising 0 (length self.now.trace + 1) self.now.marks }
+        ensures first { Contains self.now.marks 0 }
+        ensures last { Contains self.now.marks (length self.now.trace) }
     {
         marks_in(alloc, &self.segments)
     }

@@ -1,4 +1,4 @@
-use Rattle.std.proofs.Common.{rules, subst, take, ◌≡◌, ◌<◌, length, true, false, arith}
+use Rattle.std.proofs.Common.{rules, subst, take, ◌≡◌, true, false, arith}
 use Rattle.run_engine.proofs.CommonLemmas.{head-more, head-ends}
 use Rattle.run_engine.proofs.common.head.Goals as goal
 

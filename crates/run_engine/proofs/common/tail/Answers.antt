@@ -1,4 +1,4 @@
-use Rattle.std.proofs.Common.{rules, subst, drop, ◌≡◌, ◌-◌, ◌<◌, get_or, length, true, false, ap, ◌∙◌, arith}
+use Rattle.std.proofs.Common.{rules, subst, drop, ◌≡◌, ◌-◌, length, true, false, arith}
 use Rattle.run_engine.proofs.CommonLemmas.{tail-more, tail-ends, tail-none}
 use Rattle.run_engine.proofs.common.tail.Goals as goal
 

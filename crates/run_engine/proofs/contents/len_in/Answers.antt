@@ -1,7 +1,7 @@
-use Rattle.std.proofs.Common.{◌≡◌, ◌≤◌, ◌+◌, length, take, ap, refl, arith}
+use Rattle.std.proofs.Common.{◌≤◌, ◌+◌, length, take, ap, refl, arith}
 use Rattle.run_engine.specs.Segments.{trace_of}
 use Rattle.run_engine.proofs.SegmentLemmas.{length-trace_of-next}
-use Rattle.run_engine.proofs.ConvergeLemmas.{place-within}
+use Rattle.run_engine.proofs.PlaceLemmas.{place-within}
 use Rattle.run_engine.proofs.contents.len_in.Goals as goal
 
 pub loop-segment-preserved : goal.loop-segment-preserved

@@ -1,8 +1,7 @@
-use Rattle.std.proofs.Common.{◌≡◌, ◌≤◌, ◌+◌, ◌++◌, ◌∷◌, [], length, take, ap, sym, refl, ◌∙◌, arith}
-use Rattle.std.proofs.Math.Seq.{take-length}
-use Rattle.run_engine.specs.Segments.{trace_of, mark_here, marks_from}
+use Rattle.std.proofs.Common.{◌≤◌, ◌+◌, ◌++◌, length, take, ap, sym, refl, ◌∙◌, arith}
+use Rattle.run_engine.specs.Segments.{trace_of, mark_here}
 use Rattle.run_engine.proofs.SegmentLemmas.{length-trace_of-next}
-use Rattle.run_engine.proofs.ConvergeLemmas.{place-within}
+use Rattle.run_engine.proofs.PlaceLemmas.{place-within}
 use Rattle.run_engine.proofs.MarksLemmas.{marks_from-next}
 use Rattle.run_engine.proofs.contents.marks_in.Goals as goal
 

@@ -10,7 +10,8 @@ use Rattle.run_engine.specs.Common.{ShareEnd}
 use Rattle.std.proofs.Math.Seq.{take-length}
 use Rattle.run_engine.proofs.SegmentLemmas.{length-trace_of-next}
 use Rattle.run_engine.proofs.PieceLemmas.{mark-is, take-rest}
-use Rattle.run_engine.proofs.ConvergeLemmas.{IsBeside-none, IsBeside-next, least-agreeing, mark-there, bounded, ShareEnd-length, place-within, trace_of-front, IsSpliced, IsSpliced-stop, IsSpliced-end}
+use Rattle.run_engine.proofs.PlaceLemmas.{mark-there, place-within, trace_of-front}
+use Rattle.run_engine.proofs.ConvergeLemmas.{IsBeside-none, IsBeside-next, least-agreeing, bounded, ShareEnd-length, IsSpliced, IsSpliced-stop, IsSpliced-end}
 use Rattle.run_engine.proofs.converge.converge.Goals.{then-at-a+in-Some+in_ok-front+else-same, then-at-a+in_default, else-at-a}
 use Rattle.run_engine.specs.NewMarks.{AreLaid}
 use Rattle.run_engine.proofs.MarksLemmas.{AreLaid-none, AreMarksOf-stop, AreMarksOf-end, IsReached-length}

@@ -1,5 +1,5 @@
 use Rattle.run_engine.proofs.EditLemmas.{trace-set, trace-set_same}
-use Rattle.std.proofs.Common.{◌≡◌, false, arith, sym, ◌∙◌}
+use Rattle.std.proofs.Common.{◌≡◌, false, arith}
 use Rattle.trace_types.specs.Trace.{is_taken}
 use Rattle.run_engine.proofs.edits.change.Goals.{else-id-via-then-id+else-is_taken, else-id-via-else-id}
 use Rattle.run_engine.proofs.edits.change.Goals as goal

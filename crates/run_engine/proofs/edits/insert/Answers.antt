@@ -1,5 +1,5 @@
 use Rattle.run_engine.proofs.EditLemmas.{trace-insert}
-use Rattle.std.proofs.Common.{◌≡◌, false, arith, sym, ◌∙◌}
+use Rattle.std.proofs.Common.{◌≡◌, false, arith}
 use Rattle.trace_types.specs.Trace.{is_taken}
 use Rattle.run_engine.proofs.edits.insert.Goals as goal
 

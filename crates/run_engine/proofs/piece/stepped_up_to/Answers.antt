@@ -1,4 +1,4 @@
-use Rattle.std.proofs.Common.{◌≡◌, ◌+◌, ◌-◌, ◌≤◌, length, take, drop, arith}
+use Rattle.std.proofs.Common.{◌+◌, ◌-◌, drop, arith}
 use Rattle.run_engine.proofs.PieceLemmas.{new-first, IsPiece-of-more}
 use Rattle.run_engine.proofs.piece.stepped_up_to.Goals as goal
 

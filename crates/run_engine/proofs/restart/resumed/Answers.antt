@@ -1,12 +1,11 @@
-use Rattle.std.proofs.Common.{◌≡◌, ◌-◌, length, take, sym, subst, arith}
+use Rattle.std.proofs.Common.{◌≡◌, ◌-◌, length, take, sym, subst}
 use Rattle.ownership_model.proofs.ReplayLemmas.{distinct_new}
-use Rattle.run_engine.specs.Segments.{marks_from, all_marks}
-use Rattle.run_engine.specs.NewMarks.{AreMarksOf}
+use Rattle.run_engine.specs.Segments.{all_marks}
 use Rattle.run_engine.specs.Bounds.{IsBounded}
 use Rattle.run_engine.specs.Steps.{AreStepped}
-use Rattle.run_engine.specs.Common.{ShareEnd, AreShared}
+use Rattle.run_engine.specs.Common.{AreShared}
 use Rattle.run_engine.proofs.CommonLemmas.{ShareEnd-tail, from-greatest, bounded-none}
-use Rattle.run_engine.proofs.ConvergeLemmas.{IsReached-restart}
+use Rattle.run_engine.proofs.RestartLemmas.{IsReached-restart}
 use Rattle.run_engine.proofs.MarksLemmas.{AreMarksAfter-restart}
 use Rattle.run_engine.proofs.restart.resumed.Goals as goal
 

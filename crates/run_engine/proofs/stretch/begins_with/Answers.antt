@@ -1,4 +1,4 @@
-use Rattle.std.proofs.Common.{◌≡◌, ◌+◌, ◌-◌, ◌≤◌, IsTrue, length, take, drop, rules, sym, ap, ◌∙◌, arith}
+use Rattle.std.proofs.Common.{◌≡◌, ◌+◌, ◌-◌, ◌≤◌, IsTrue, length, take, drop, rules, sym, ◌∙◌, arith}
 use Rattle.std.proofs.lemmas.List.{length-take, length-drop}
 use Rattle.run_engine.specs.Part.{part}
 use Rattle.run_engine.proofs.PieceLemmas.{begins-next, part-inside}

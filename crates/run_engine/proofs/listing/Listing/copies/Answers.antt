@@ -1,5 +1,4 @@
-use Rattle.std.proofs.Common.{◌≡◌, ◌++◌, ◌∷◌, [], ap, sym, ◌∙◌, arith, refl}
-use Rattle.run_engine.specs.Part.{part}
+use Rattle.std.proofs.Common.{sym, arith, refl}
 use Rattle.run_engine.proofs.ListingLemmas.{part-none, part-more}
 use Rattle.run_engine.proofs.listing.Listing.copies.Goals as goal
 

@@ -3,8 +3,7 @@ use Rattle.std.specs.Prelude.{if◌then◌else◌}
 use Rattle.run_engine.specs.RunView.{RunView}
 use Rattle.run_engine.specs.Segments.{trace_of, without, IsInner}
 use Rattle.run_engine.proofs.SegmentLemmas.{trace_of-without_mark}
-use Rattle.run_engine.proofs.ConvergeLemmas.{IsKept-without_mark}
-use Rattle.run_engine.proofs.GiveUpLemmas.{given-up, IsInner-answer}
+use Rattle.run_engine.proofs.GiveUpLemmas.{IsKept-without_mark, given-up, IsInner-answer}
 use Rattle.run_engine.proofs.run.Run.give_up.Goals as goal
 
 pub invariant_of-self : goal.invariant_of-self
