@@ -1,4 +1,4 @@
--- A mark that is given up.
+-- A checkpoint that is given up.
 use Rattle.std.proofs.Common.{◌≡◌, ◌≢◌, ℕ, ◌+◌, ◌<◌, ◌≤◌, suc, zero, Bool, true, false, cond, nat_eq, eq-eqb, List, [], ◌∷◌, ◌++◌, length, take, drop, get_or, refl, ap, sym, subst, ◌∙◌, arith, length-append}
 use Rattle.std.specs.Prelude.{Some, None, Option, is_some, Contains, not, ◌↔◌, if◌then◌else◌}
 use mathlib.Core.Logic.{⊎_elim}
@@ -122,7 +122,7 @@ has_mark-at [] i s lt is = absurd (omega arith)
 has_mark-at (t ∷ segments) zero s lt is = ap (λ (u : Stretch). is_some u.mark) (sym is)
 has_mark-at (t ∷ segments) (suc i) s lt is = has_mark-at segments i s (omega arith) is
 
--- a mark at p stands behind the segment i, which begins elsewhere
+-- a checkpoint at p stands behind the segment i, which begins elsewhere
 pub mark-later : (segments : List Stretch) (i at p : ℕ) (s : Stretch) → i < length segments → s ≡ get_or segments i s → at ≢ p
     → Contains (marks_from at (drop i segments)) p → Contains (marks_from (at + length s.ops) (drop (i + 1) segments)) p
 mark-later segments i at p s lt is ne h = ⊎_elim (λ x. absurd (ne (sym (mark_here-place at p s.mark x)))) (λ x. x)

@@ -1,4 +1,4 @@
--- The marks of an edited trace.
+-- The checkpoints of an edited trace.
 use Rattle.std.proofs.Common.{IsTrue, IfSome, is_some, add-zero, suc, true, false}
 use Rattle.run_engine.proofs.SegmentLemmas.{trace_of-append}
 use Rattle.std.proofs.Common.{◌≡◌, ℕ, ◌+◌, ◌-◌, ◌<◌, ◌≤◌, List, [], ◌∷◌, ◌++◌, length, take, drop, get_or, refl, ap, sym, subst, ◌∙◌, arith, append_assoc, length-append, take-append-drop}
@@ -124,7 +124,7 @@ AreMarksOf-end old segments ops kept a b r shared first trace laid =
 pub IsReached-length : (ops : List Operation) (at : ℕ) (segments : List Stretch) (heap : State) → IsReached ops at segments heap → length (trace_of segments) ≡ at
 IsReached-length ops at segments heap h = let within = h.within in ap length h.trace ∙ omega (arith, length-take at ops)
 
--- the marks of segments that are not empty are before their end
+-- the checkpoints of segments that are not empty are before their end
 marks_from-below : (at : ℕ) (segments : List Stretch) (p : ℕ) → AreFull segments → Contains (marks_from at segments) p → p < at + length (trace_of segments)
 marks_from-below at [] p full h = absurd (Contains-none p h)
 marks_from-below at (s ∷ segments) p full h =
@@ -172,7 +172,7 @@ first-mark-is : (at : ℕ) (c : List Stretch) (h : BeginsMarked c) → marks_fro
 first-mark-is at [] h = ap (λ n. n ∷ []) (add-zero at)
 first-mark-is at (t ∷ c) h = ap (λ ps. (ps ++ marks_from (at + length (ops_of t)) c) ++ (at + length (trace_of (t ∷ c))) ∷ []) (mark_here-is at t.mark h)
 
--- a stretch from a mark to the next
+-- a stretch from a checkpoint to the next
 pub stretch-neighbours : (a b c : List Stretch) (s : Stretch) (m : State) (len : ℕ) → s.mark ≡ Some m → ((at : ℕ) → marks_from at b ≡ []) → length (trace_of (s ∷ b)) ≡ len → BeginsMarked c
     → AreNeighbours (all_marks (a ++ ((s ∷ b) ++ c))) len
 stretch-neighbours a b c s m len mark bare long begins =
@@ -230,7 +230,7 @@ pub mark_here-marked : (at : ℕ) (o : Option State) → is_some o ≡ true → 
 mark_here-marked at None e = cc
 mark_here-marked at (Some m) e = refl
 
--- a stretch from a mark to the next is one of the old trace
+-- a stretch from a checkpoint to the next is one of the old trace
 stretch-old : (a b c : List Stretch) (s : Stretch) (m : State) (ops : List Operation) (len : ℕ) → s.mark ≡ Some m → ((at : ℕ) → marks_from at b ≡ []) → length (trace_of (s ∷ b)) ≡ len → BeginsMarked c
     → m ≡ end_from nothing_held (trace_of a) → trace_of (s ∷ b) ≡ take len ops → IsOldStretch (trace_of (a ++ ((s ∷ b) ++ c))) (all_marks (a ++ ((s ∷ b) ++ c))) m ops len
 unfolding stretch-neighbours
@@ -268,7 +268,7 @@ rising-here : (at b n : ℕ) (o : Option State) (ps : List ℕ) → at < b → a
 rising-here at b n None ps lt le h = rising-earlier at b (n + 1) (ps ++ n ∷ []) (omega arith) h
 rising-here at b n (Some m) ps lt le h = (omega arith, omega arith, rising-earlier (at + 1) b (n + 1) (ps ++ n ∷ []) (omega arith) h)
 
--- the marks rise
+-- the checkpoints rise
 pub rising-marks : (at n : ℕ) (segments : List Stretch) → n ≡ at + length (trace_of segments) → AreFull segments → AreRising at (n + 1) (marks_from at segments ++ n ∷ [])
 rising-marks at n [] e full = (omega arith, omega arith, tt)
 rising-marks at n (s ∷ segments) e full =

@@ -35,11 +35,11 @@ pub BeginsMarked-front : (a b : List Stretch) → BeginsMarked (a ++ b) → Begi
 BeginsMarked-front [] b h = tt
 BeginsMarked-front (s ∷ a) b h = h
 
--- a kept mark is the state
+-- a kept checkpoint is the state
 pub IsMarkOf-some : (m n : State) (o : Option State) → o ≡ Some n → IsMarkOf m o → n ≡ m
 IsMarkOf-some m n o e h = subst (IsMarkOf m) e h
 
--- the state at a kept mark
+-- the state at a kept checkpoint
 pub mark-state : (a b : List Stretch) (s : Stretch) (m : State) → AreReplayFrom nothing_held (a ++ s ∷ b) → s.mark ≡ Some m → m ≡ end_from nothing_held (trace_of a)
 mark-state a b s m h e = IsMarkOf-some (end_from nothing_held (trace_of a)) m s.mark e ((AreReplayFrom-back nothing_held a (s ∷ b) h).0.mark)
 
@@ -85,7 +85,7 @@ pub mark-at : (m : State) (segments : List Stretch) (i : ℕ) (s : Stretch) → 
     → IfSome s.mark (λ h. h ≡ end_from m (trace_of (take i segments)))
 mark-at m segments i s h lt is = IfSome-mark _ s.mark ((segment-at m segments i s h lt is).mark)
 
--- one more segment without a mark
+-- one more segment without a checkpoint
 pub marks-bare-next : (segments : List Stretch) (i : ℕ) (s : Stretch) → i < length segments → s ≡ get_or segments i s → is_some s.mark ≡ false
     → ((at : ℕ) → marks_from at (take i segments) ≡ []) → (at : ℕ) → marks_from at (take (i + 1) segments) ≡ []
 marks-bare-next segments i s lt is none h at =
@@ -106,7 +106,7 @@ begins-next ops segments i at s lt is h e =
     ∙ ap (λ xs. xs ++ take (length s.ops) (drop at ops)) h
     ∙ sym (take-add at (length s.ops) ops)
 
--- a stretch of a run, from i on, with k further segments that have no mark
+-- a stretch of a run, from i on, with k further segments that have no checkpoint
 pub old-piece : (old : List Stretch) (end : State) (i k : ℕ) (s : Stretch) (heap after : State) (ops : List Operation) (len : ℕ)
     → IsRun old end → i < length old → s ≡ get_or old i s → s.mark ≡ Some heap → ((at : ℕ) → marks_from at (take k (drop (i + 1) old)) ≡ [])
     → len ≤ length ops → trace_of (take (suc k) (drop i old)) ≡ take len ops → after ≡ end_from nothing_held (trace_of (take (i + suc k) old))

@@ -1,4 +1,4 @@
--- Where segments and their marks stand.
+-- Where segments and their checkpoints stand.
 use Rattle.std.proofs.Common.{◌≡◌, ℕ, ◌+◌, ◌<◌, ◌≤◌, suc, zero, List, [], ◌∷◌, ◌++◌, length, take, drop, get_or, true, refl, ap, sym, subst, ◌∙◌, arith, append_assoc, length-append, take-append-drop}
 use Rattle.std.specs.Prelude.{Some, None, Option, is_some, Contains, IsTrue}
 use mathlib.Core.Logic.{⊎_elim}
@@ -25,7 +25,7 @@ pub mark_here-some : (at p : ℕ) (o : Option State) → Contains (mark_here at 
 mark_here-some at p None h = absurd (Contains-none p h)
 mark_here-some at p (Some m) h = refl
 
--- the marks of segments that begin at `at` are there or behind
+-- the checkpoints of segments that begin at `at` are there or behind
 pub marks_from-least : (at : ℕ) (segments : List Stretch) (p : ℕ) → Contains (marks_from at segments) p → at ≤ p
 marks_from-least at [] p h = absurd (Contains-none p h)
 marks_from-least at (s ∷ segments) p h = ⊎_elim
@@ -51,7 +51,7 @@ place-within old i at e =
     let whole : length (trace_of old) ≡ length (trace_of (take i old) ++ trace_of (drop i old)) = ap length (ap trace_of (sym (take-append-drop i old)) ∙ trace_of-append (take i old) (drop i old)) in
     omega (arith, length-append (trace_of (take i old)) (trace_of (drop i old)))
 
--- the marks around the one of a segment
+-- the checkpoints around the one of a segment
 pub marks-at : (old : List Stretch) (i at : ℕ) (s : Stretch) (m : State) → i < length old → s ≡ get_or old i s → s.mark ≡ Some m → length (trace_of (take i old)) ≡ at
     → all_marks old ≡ marks_from 0 (take i old) ++ (at ∷ (marks_from (at + length (ops_of s)) (drop (i + 1) old) ++ length (trace_of old) ∷ []))
 marks-at old i at s m lt is mark place =
@@ -66,7 +66,7 @@ marks-at old i at s m lt is mark place =
 Contains-first : (x : ℕ) (xs : List ℕ) → Contains (x ∷ xs) x
 Contains-first x xs = (zero, omega arith, refl)
 
--- where a segment has its mark, there is one
+-- where a segment has its checkpoint, there is one
 pub mark-there : (old : List Stretch) (i at : ℕ) (s : Stretch) (m : State) → i < length old → s ≡ get_or old i s → s.mark ≡ Some m → length (trace_of (take i old)) ≡ at → Contains (all_marks old) at
 mark-there old i at s m lt is mark place =
     let rest : List ℕ = marks_from (at + length (ops_of s)) (drop (i + 1) old) ++ length (trace_of old) ∷ [] in
@@ -85,7 +85,7 @@ first-mark-there (s ∷ segments) h =
     let rest : List ℕ = marks_from (0 + length (ops_of s)) segments in
     Contains-append_left (mark_here 0 s.mark ++ rest) (length (trace_of (s ∷ segments)) ∷ []) 0 (marked-first s.mark rest h)
 
--- no mark stands behind the end
+-- no checkpoint stands behind the end
 pub marks_from-most : (at : ℕ) (segments : List Stretch) (p : ℕ) → Contains (marks_from at segments) p → p ≤ at + length (trace_of segments)
 marks_from-most at [] p h = absurd (Contains-none p h)
 marks_from-most at (s ∷ segments) p h =

@@ -1,4 +1,4 @@
--- The greatest mark at or before the head.
+-- The greatest checkpoint at or before the head.
 use Rattle.std.proofs.Common.{◌≡◌, ℕ, ◌+◌, ◌<◌, ◌≤◌, List, [], ◌∷◌, ◌++◌, length, take, drop, get_or, true, false, refl, ap, sym, subst, ◌∙◌, arith, append_assoc, take-append-drop}
 use Rattle.std.specs.Prelude.{Some, is_some, Contains}
 use mathlib.Core.Logic.{◌⊎◌, inl, inr, ⊎_elim}
@@ -60,7 +60,7 @@ later-passed segments head j here i at at_next heap s h lt is grows marked p mar
     (Contains-append_cases (mark_here here s.mark) rest p (subst (λ ps. Contains ps p) list k)))
     (h.later p mark le)
 
--- a segment without a mark
+-- a segment without a checkpoint
 pub IsSought-bare : (segments : List Stretch) (head j here i at : ℕ) (heap : State) (s : Stretch) → IsSought segments head j here i at heap → j < length segments → s ≡ get_or segments j s → is_some s.mark ≡ false
     → IsSought segments head (j + 1) (here + length s.ops) i at heap
 IsSought-bare segments head j here i at heap s h lt is bare = record {
@@ -73,7 +73,7 @@ IsSought-bare segments head j here i at heap s h lt is bare = record {
   later = later-passed segments head j here i at at heap s h lt is (omega arith) (λ t. cc);
 }
 
--- a segment with a mark at or before the head
+-- a segment with a checkpoint at or before the head
 pub IsSought-marked : (segments : List Stretch) (head j here i at : ℕ) (heap next m : State) (s : Stretch) → IsSought segments head j here i at heap → j < length segments → s ≡ get_or segments j s → s.mark ≡ Some m
     → at ≤ here → here ≤ head → next ≡ end_from nothing_held (trace_of (take j segments))
     → IsSought segments head (j + 1) (here + length s.ops) j here next

@@ -1,4 +1,4 @@
--- The marks of an edited trace.
+-- The checkpoints of an edited trace.
 use Rattle.std.specs.Prelude.{◌≡◌, ℕ, ◌+◌, ◌-◌, ◌<◌, ◌≤◌, List, [], ◌∷◌, ◌++◌, map, length, Contains, ◌⊎◌}
 use Rattle.trace_types.specs.Operation.{Operation}
 use Rattle.run_engine.specs.Common.{AreShared}
@@ -21,26 +21,26 @@ abbrev pub Each : (ℕ → Type 0) → List ℕ → Type 0
 Each P [] = Unit {0}
 Each P (n ∷ ns) = P n × Each P ns
 
--- g is how far two neighbouring marks are apart
+-- g is how far two neighbouring checkpoints are apart
 pub record AreNeighbours (marks : List ℕ) (g : ℕ) : Type 0 where
   pub before : List ℕ
   pub after : List ℕ
   pub at : ℕ
   pub marks_are : marks ≡ before ++ at ∷ (at + g) ∷ after
 
--- a gap of the new marks: up to 64, or as far as an old stretch is long
+-- a gap of the new checkpoints: up to 64, or as far as an old stretch is long
 pub record IsGap (old : List ℕ) (g : ℕ) : Type 0 where
   pub some : 0 < g
   pub small : (g ≤ 64) ⊎ AreNeighbours old g
 
--- the kept marks, and behind them new ones from r on, as far as `at`
+-- the kept checkpoints, and behind them new ones from r on, as far as `at`
 pub record AreLaid (old kept : List ℕ) (r at : ℕ) (marks : List ℕ) : Type 0 where
   pub gaps : List ℕ
   pub laid : marks ≡ kept ++ places r gaps
   pub reach : past r gaps ≡ at
   pub some : Each (IsGap old) gaps
 
--- the kept marks, new ones from r on, and the old ones from the stop on, moved. The stop is the first old mark behind a
+-- the kept checkpoints, new ones from r on, and the old ones from the stop on, moved. The stop is the first old one at or behind a
 -- where the states agree, or the end
 pub record AreMarksOf (trace ops : List Operation) (kept old new : List ℕ) (r a b : ℕ) : Type 0 where
   pub before : List ℕ

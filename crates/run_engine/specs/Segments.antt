@@ -16,7 +16,7 @@ abbrev pub trace_of : List Stretch → List Operation
 trace_of [] = []
 trace_of (s ∷ segments) = ops_of s ++ trace_of segments
 
--- the positions of the marks, where the first segment begins at `at`
+-- the positions of the checkpoints, where the first segment begins at `at`
 abbrev pub mark_here : ℕ → Option State → List ℕ
 mark_here at None = []
 mark_here at (Some m) = at ∷ []
@@ -25,7 +25,7 @@ abbrev pub marks_from : ℕ → List Stretch → List ℕ
 marks_from at [] = []
 marks_from at (s ∷ segments) = mark_here at s.mark ++ marks_from (at + length (ops_of s)) segments
 
--- a mark, if there is one, is the state m
+-- a checkpoint, if there is one, is the state m
 abbrev pub IsMarkOf : State → Option State → Type 0
 IsMarkOf m None = Unit {0}
 IsMarkOf m (Some n) = n ≡ m
@@ -47,7 +47,7 @@ abbrev pub outcomes_in : List Stretch → List Outcome
 outcomes_in [] = []
 outcomes_in (s ∷ segments) = s.outcomes ++ outcomes_in segments
 
--- the segments, where the one at i has no mark
+-- the segments, where the one at i has no checkpoint
 abbrev pub without_mark : List Stretch → ℕ → List Stretch
 without_mark [] i = []
 without_mark (s ∷ segments) zero = record s { mark = None } ∷ segments
@@ -58,7 +58,7 @@ abbrev pub AreFull : List Stretch → Type 0
 AreFull [] = Unit {0}
 AreFull (s ∷ segments) = (0 < length s.ops) × AreFull segments
 
--- the first segment, where there is one, has its mark
+-- the first segment, where there is one, has its checkpoint
 abbrev pub BeginsMarked : List Stretch → Type 0
 BeginsMarked [] = Unit {0}
 BeginsMarked (s ∷ segments) = IsTrue (is_some s.mark)
@@ -79,7 +79,7 @@ pub record IsReached (ops : List Operation) (at : ℕ) (segments : List Stretch)
   pub begins : BeginsMarked segments
   pub state : end ≡ end_from nothing_held (take at ops)
 
--- segments that go on from a state, with a mark where they begin and no other
+-- segments that go on from a state, with a checkpoint where they begin and no other
 pub record IsPiece (start : State) (ops : List Operation) (segments : List Stretch) (end : State) (len : ℕ) : Type 0 where
   pub some : 0 < len
   pub fits : len ≤ length ops
@@ -90,11 +90,11 @@ pub record IsPiece (start : State) (ops : List Operation) (segments : List Stret
   pub state : end ≡ end_from start (take len ops)
   pub marks : (at : ℕ) → marks_from at segments ≡ at ∷ []
 
--- the positions of all marks: the end is one
+-- the positions of all checkpoints: the end is one
 abbrev pub all_marks : List Stretch → List ℕ
 all_marks segments = marks_from 0 segments ++ length (trace_of segments) ∷ []
 
--- the greatest kept mark at or before the head: the segment i begins at `at`, with the heap there
+-- the greatest kept checkpoint at or before the head: the segment i begins at `at`, with the heap there
 pub record IsRestart (segments : List Stretch) (head i at : ℕ) (heap : State) : Type 0 where
   pub within : i ≤ length segments
   pub place : length (trace_of (take i segments)) ≡ at
@@ -106,22 +106,22 @@ pub record IsKept (segments : List Stretch) (end : State) : Type 0 where
   pub run : IsRun segments end
   pub trace : IsTrace (trace_of segments)
 
--- whether the segment at i has its mark
+-- whether the segment at i has its checkpoint
 abbrev pub has_mark : List Stretch → ℕ → Bool
 has_mark [] i = false
 has_mark (s ∷ segments) zero = is_some s.mark
 has_mark (s ∷ segments) (suc i) = has_mark segments i
 
--- an inner mark
+-- an inner checkpoint
 pub record IsInner (marks : List ℕ) (n p : ℕ) : Type 0 where
   pub mark : Contains marks p
   pub behind : 0 < p
   pub before : p < n
 
--- the marks without p
+-- the checkpoints without p
 abbrev pub without : ℕ → List ℕ → List ℕ
 without p marks = filter (λ q. not (nat_eq q p)) marks
 
--- no mark of the segments stands at p
+-- no checkpoint of the segments stands at p
 abbrev pub IsNoMark : List Stretch → ℕ → Type 0
 IsNoMark segments p = Contains (marks_from 0 segments) p → ⊥

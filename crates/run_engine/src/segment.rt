@@ -87,7 +87,7 @@ impl Segment {
         self.mark.as_ref()
     }
 
-    /// Gives up the mark, and tells whether there was one.
+    /// Gives up the checkpoint, and tells whether there was one.
     pub fn clear_mark(&mut self) -> bool
         ensures answer { result ≡ is_some self.old.mark }
         ensures rest { self.new ≡ record self.old { mark = None } }

@@ -19,7 +19,7 @@ use Rattle.run_engine.specs.Bounds.{AgreesAt}
 use Rattle.run_engine.proofs.SteppedLemmas.{HaveStepped-none, AreStepped-stop, AreStepped-end}
 use Rattle.run_engine.proofs.converge.converge.Goals as goal
 
--- the place of an old mark in the edited trace
+-- the place of an old checkpoint in the edited trace
 moved-within : (old ops : List Operation) (a b at : ℕ) → ShareEnd old ops a b → at ≤ length old → a ≤ at → at - a + b ≤ length ops
 moved-within old ops a b at h le behind = omega (arith, ShareEnd-length old ops a b h, h.old_within, h.within)
 
