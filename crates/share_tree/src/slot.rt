@@ -213,7 +213,7 @@ pub fn kid_remove<V, C: Level<V>>(
 }
 
 pub fn has_no_kids<C>(kids: &[Option<Arc<C>>; 16]) -> bool
-    ensures { IsTrue result → ((i : ℕ) → child_of arc_value kids.now i ≡ None) }
+    ensures { IsTrue result ↔ ((i : ℕ) → child_of arc_value kids.now i ≡ None) }
 {
     for i in 0..16 {
         if kid_at(kids, i).is_some() {
