@@ -1,3 +1,5 @@
+ghost use Rattle.std.specs.Prelude.{◌≡◌, [], IfOk};
+
 use crate::desk::Desk;
 use crate::entries::Request;
 use crate::published::{export, what_if};
@@ -11,7 +13,9 @@ use trace_types::ops::Op;
 use trace_types::sequence::Sequence;
 use trace_types::trace::Trace;
 
-fn opened(rt: &HostRuntime) -> Result<Desk, Fail> {
+fn opened(rt: &HostRuntime) -> Result<Desk, Fail>
+    ensures { IfOk result (λ d. d.standing.history ≡ []) }
+{
     let fields = Sequence::empty(rt.alloc());
     let op = Op::make(1, 0, Kind::New { to: 0, fields })?;
     let mut trace = Trace::new(rt.alloc());
