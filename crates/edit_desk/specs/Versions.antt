@@ -1,9 +1,10 @@
 -- What a desk has, and what it prepares.
-use Rattle.std.specs.Prelude.{◌≡◌, ℕ, ◌==◌, List, Ok, if◌then◌else◌}
+use Rattle.std.specs.Prelude.{◌≡◌, ◌⊎◌, ℕ, ◌==◌, List, Ok, if◌then◌else◌}
 use Rattle.trace_types.specs.Operation.{Operation}
 use Rattle.trace_types.specs.declared.edits.Edit.{Edit}
 use Rattle.run_engine.specs.RunView.{RunView}
 use Rattle.run_engine.specs.Bounds.{IsBoundedFrom}
+use Rattle.run_engine.specs.NewMarks.{AreMarksAfter}
 use Rattle.edit_desk.specs.declared.entries.Entry.{Entry}
 use Rattle.edit_desk.specs.declared.entries.Request.{Request}
 use Rattle.edit_desk.specs.declared.replies.Reply.{Reply}
@@ -57,3 +58,7 @@ pub record IsSettled (v : Version) (r : Request) (reply : Reply) (next : Version
 -- edits of a trace whose run has these checkpoints replay at most what they have to, from one count to another
 unfoldable pub ReplaysWithin : List Operation → List ℕ → List Edit → ℕ → ℕ → Type 0
 ReplaysWithin trace marks batch before after = (ops : List Operation) → edited_by trace batch ≡ Ok ops → IsBoundedFrom trace ops marks before after
+
+-- the next run is the one that stands, or that of an edit of its trace, with the checkpoints that such an edit leaves
+abbrev pub IsNextRun : List Operation → List ℕ → RunView → Type 0
+IsNextRun trace marks next = let now : RunView = record { trace = trace; marks = marks } in (next ≡ now) ⊎ AreMarksAfter now next

@@ -4,7 +4,10 @@ ghost use Rattle.std.specs.Option.{option_copied};
 ghost use Rattle.run_engine.specs.Edited.{edited_by};
 ghost use Rattle.edit_desk.specs.declared.entries.Entry.{Entry};
 ghost use Rattle.edit_desk.specs.Answers.{opened, reply_to, after, IsLegal};
-ghost use Rattle.edit_desk.specs.Versions.{IsDue, IsSettled, ReplaysWithin};
+ghost use Rattle.edit_desk.specs.Versions.{IsDue, IsSettled, IsNextRun, ReplaysWithin};
+ghost use Rattle.run_engine.specs.RunView.{RunView};
+ghost use Rattle.run_engine.specs.Marks.{load_marks};
+ghost use Rattle.op_step.specs.Meter.{raised};
 
 use crate::entries::{Entry, Request};
 use crate::prepared::Prepared;
@@ -15,6 +18,7 @@ use run_engine::faults::RunFault;
 use run_engine::run::Run;
 use std::alloc::{AllocError, Global};
 use std::marker::Model;
+use std::sync::Arc;
 use trace_types::trace::Trace;
 
 /// How many entries a history may have.
@@ -28,12 +32,13 @@ pub const MAX_ENTRIES: usize = 1_000_000;
 pub struct Desk {
     opening: Trace,
     published: Published,
-    history: Vec<Entry>,
+    history: Vec<Arc<Entry>>,
     meter: Meter,
 }
 
 impl Model for Desk {
-    ghost use Rattle.std.specs.Prelude.{◌≤◌, ◌-◌, length};
+    ghost use Rattle.std.specs.Prelude.{◌≤◌, ◌-◌, length, map};
+    ghost use Rattle.std.specs.Arc.{arc_value};
     ghost use Rattle.std.specs.Vec.{vec_len, vec_capacity};
     ghost use Rattle.edit_desk.specs.Answers.{IsLegal};
     ghost use Rattle.edit_desk.specs.Versions.{DeskView};
@@ -41,20 +46,22 @@ impl Model for Desk {
     ghost Value = { DeskView };
 
     ghost view = { λ d. record {
-      standing = record { opening = d.opening; trace = d.published.run.trace; version = d.published.version; history = d.history.items };
+      standing = record { opening = d.opening; trace = d.published.run.trace; version = d.published.version; history = map arc_value d.history.items };
       marks = d.published.run.marks;
       room = vec_capacity d.history - vec_len d.history;
       meter = d.meter;
     } };
 
     ghost invariant = { λ d. (d.published.version ≤ length d.history.items) × (length d.history.items ≤ 1000000)
-        × IsLegal (record { opening = d.opening; trace = d.published.run.trace; version = d.published.version; history = d.history.items }) };
+        × IsLegal (record { opening = d.opening; trace = d.published.run.trace; version = d.published.version; history = map arc_value d.history.items }) };
 }
 
 impl Desk {
     /// A desk with this trace, at version 0, which was asked nothing yet. The trace is replayed.
     pub fn open(alloc: Global, trace: Trace) -> Result<Desk, AllocError>
-        ensures { IfOk result (λ d. d.standing ≡ opened trace) }
+        ensures standing { IfOk result (λ d. d.standing ≡ opened trace) }
+        ensures marks { IfOk result (λ d. d.marks ≡ load_marks (length trace)) }
+        ensures meter { IfOk result (λ d. d.meter ≡ raised 0 (length trace)) }
     {
         let mut meter = Meter::new();
         let run = Run::load(alloc, trace, &mut meter)?;
@@ -93,7 +100,7 @@ impl Desk {
     pub fn entry(&self, place: usize) -> Option<&Entry>
         ensures { option_copied result ≡ slice_get self.now.standing.history place }
     {
-        self.history.get(place)
+        Some(self.history.get(place)?)
     }
 
     /// The trace that was opened. By its clauses a caller knows that the history leads from it to what stands.
@@ -122,6 +129,8 @@ impl Desk {
         ensures reply { IfOk result (λ r. r ≡ reply_to self.old.standing request) }
         ensures after { OnOk result (self.new.standing ≡ after self.old.standing session request) }
         ensures unchanged { OnErr result (self.new.standing ≡ self.old.standing) }
+        ensures run { OnOk result (let next : RunView = record { trace = self.new.standing.trace; marks = self.new.marks } in IsNextRun self.old.standing.trace self.old.marks next) }
+        ensures same_run { OnErr result (self.new.marks ≡ self.old.marks) }
         ensures bound { length self.old.standing.history < 1000000 → request.base ≡ self.old.standing.version → ReplaysWithin self.old.standing.trace self.old.marks request.batch self.old.meter self.new.meter }
         ensures full { 1000000 ≤ length self.old.standing.history → self.new.meter ≡ self.old.meter }
         ensures stale { request.base ≢ self.old.standing.version → self.new.meter ≡ self.old.meter }
@@ -144,8 +153,10 @@ impl Desk {
         requires { length self.old.standing.history < 1000000 }
         ensures due { IfOk result (λ p. IsDue self.old.standing p) }
         ensures request { IfOk result (λ p. (p.entry.session ≡ session) × (p.entry.request ≡ request)) }
+        ensures run { IfOk result (λ p. IsNextRun self.old.standing.trace self.old.marks p.next.run) }
         ensures room { OnOk result (0 < self.new.room) }
         ensures unchanged { self.new.standing ≡ self.old.standing }
+        ensures same_run { self.new.marks ≡ self.old.marks }
         ensures bound { request.base ≡ self.old.standing.version → ReplaysWithin self.old.standing.trace self.old.marks request.batch self.old.meter self.new.meter }
         ensures stale { request.base ≢ self.old.standing.version → self.new.meter ≡ self.old.meter }
         ensures refused { IsErr (edited_by self.old.standing.trace request.batch) → self.new.meter ≡ self.old.meter }
@@ -157,6 +168,7 @@ impl Desk {
             request,
             reply,
         };
+        let entry = Arc::new(alloc, entry)?;
         Ok(Prepared { entry, next })
     }
 
@@ -167,6 +179,7 @@ impl Desk {
         requires due { IsDue self.old.standing prepared }
         ensures reply { result ≡ prepared.entry.reply }
         ensures after { self.new.standing ≡ after self.old.standing prepared.entry.session prepared.entry.request }
+        ensures marks { self.new.marks ≡ prepared.next.run.marks }
         ensures meter { self.new.meter ≡ self.old.meter }
     {
         let Prepared { entry, next } = prepared;
@@ -186,6 +199,7 @@ fn settle(
 ) -> Result<(Reply, Published), AllocError>
     requires { published.now.version < 1000000 }
     ensures settled { IfOk result (λ r. IsSettled published.now request.now r.0 r.1) }
+    ensures run { IfOk result (λ r. IsNextRun published.now.run.trace published.now.run.marks r.1.run) }
     ensures bound { request.now.base ≡ published.now.version → ReplaysWithin published.now.run.trace published.now.run.marks request.now.batch meter.old meter.new }
     ensures stale { request.now.base ≢ published.now.version → meter.new ≡ meter.old }
     ensures refused { IsErr (edited_by published.now.run.trace request.now.batch) → meter.new ≡ meter.old }

@@ -4,6 +4,8 @@
 mod closing_text;
 mod fates;
 mod holders;
+#[cfg(test)]
+mod leak_tests;
 pub mod leaks;
 mod line_text;
 pub mod lives;

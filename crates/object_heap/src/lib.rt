@@ -9,3 +9,6 @@ pub mod heap;
 pub mod reach;
 
 pub use heap::Heap;
+
+#[cfg(test)]
+mod tests;

@@ -1,12 +1,13 @@
 -- The replay over plain lists is the replay.
 use Rattle.std.proofs.Common.{◌≡◌, ℕ, zero, suc, ◌+◌, List, [], ◌∷◌, ◌++◌, length, refl, ap, ◌∙◌, sym, subst, arith, append_assoc, Bool, true, false}
-use Rattle.std.specs.Prelude.{Option, Some, None, ◌==◌, ◌&&◌, if◌then◌else◌}
+use Rattle.std.specs.Prelude.{Option, Some, None, IsSome, ◌==◌, ◌&&◌, if◌then◌else◌}
 use Rattle.std.proofs.lemmas.Bool.Decides.{nat_tests}
 use Rattle.std.proofs.lemmas.List.{append-nil}
 use Rattle.std.specs.Ordering.{nat_cmp}
 use Rattle.std.specs.Cmp.{nat_cmp_total}
 use Rattle.std.specs.FinMap.{FinMap, get, insert, remove, get-empty, from_entries, same_map, nat_cmp-IsAntisymmetric}
 use Rattle.trace_types.specs.declared.slots.Slot.{Slot}
+use Rattle.trace_types.specs.declared.slots.Holding.{Holding}
 use Rattle.trace_types.specs.declared.slots.Slot.TheVariants.{Nothing, Strong, Weak, Dangling}
 use Rattle.trace_types.specs.declared.slots.Entry.{Entry}
 use Rattle.trace_types.specs.declared.slots.Entry.TheVariants.{Alive, Husk}
@@ -21,9 +22,9 @@ use Rattle.trace_types.specs.declared.outcomes.Outcome.{Outcome}
 use Rattle.trace_types.specs.declared.outcomes.Verdict.TheVariants.{Did}
 use Rattle.trace_types.specs.Operation.{Operation}
 use Rattle.ownership_model.specs.Totals.{total_in, total, weight_at}
-use Rattle.ownership_model.specs.State.{State, nothing_held, weight, holding_weight, entry_weight, hits, ends}
+use Rattle.ownership_model.specs.State.{State, nothing_held, weight, holding_weight, entry_weight, hits, ends, IsSoundAt, IsSound}
 use Rattle.ownership_model.specs.Release.{Fate, Stays, Falls, Goes, fate, fall, is_husk, Dropped, meet, drop_first, Released, release_within, release, work, alive_size}
-use Rattle.ownership_model.specs.Changes.{with_field, changed_by, changed}
+use Rattle.ownership_model.specs.Changes.{with_field, changed_by, changed, HasField, IsAlive, CanBeDone, CanChange}
 use Rattle.ownership_model.specs.View.{Members, members, Read, Null, Me, View, held_by, cell_of, elements_of, named_in, seen, view_at}
 use Rattle.ownership_model.specs.Table.{row}
 use Rattle.ownership_model.specs.Step.{step, carried_out, counts_of, named_event, outcomes_from}
@@ -267,3 +268,47 @@ cascaded changes pending =
     let e : Ends (cascade_in n pending) [] (release (changed nothing_held changes) pending) =
     subst (λ s. Ends (cascade_in n pending) [] (release s pending)) (changes-shown changes nothing_listed) (cascade-shown n pending apart) in
     sym e.events
+
+-- ---- what changes make of nothing can be asked of the lists
+abbrev pub IsSoundIn : Lists → List Item → Type 0
+IsSoundIn m pending = (o : ℕ) → IsSoundAt (count (Strong o) m pending) (count (Weak o) m pending) (ends o pending) (look o m.objects)
+
+pub sound_made : (changes : List Change) (pending : List Item) → IsSoundIn (changes_in nothing_listed changes) pending → IsSound (changed nothing_held changes) pending
+sound_made changes pending is =
+    let n : Lists = changes_in nothing_listed changes in
+    let apart : IsApart n = changes_apart changes nothing_listed (record { handles = tt; cells = tt; objects = tt }) in
+    let all : IsSound (shown n) pending = λ o.
+    subst (λ (e : Option Entry). IsSoundAt (weight (hits (Strong o)) (shown n) pending) (weight (hits (Weak o)) (shown n) pending) (ends o pending) e) (sym (get-map_of n.objects o))
+    (subst (λ (w : ℕ). IsSoundAt (weight (hits (Strong o)) (shown n) pending) w (ends o pending) (look o n.objects)) (sym (count-shown (Weak o) n pending apart))
+    (subst (λ (s : ℕ). IsSoundAt s (count (Weak o) n pending) (ends o pending) (look o n.objects)) (sym (count-shown (Strong o) n pending apart)) (is o))) in
+    subst (λ (s : State). IsSound s pending) (changes-shown changes nothing_listed) all
+
+abbrev pub CanBeDoneIn : Lists → Change → Type 0
+CanBeDoneIn m (SetHandle h x) = Unit {0}
+CanBeDoneIn m (EndHandle h) = IsSome (look h m.handles)
+CanBeDoneIn m (SetCell c s) = Unit {0}
+CanBeDoneIn m (EndCell c) = IsSome (look c m.cells)
+CanBeDoneIn m (SetField o i s) = HasField (look o m.objects) i
+CanBeDoneIn m (Make o fields) = look o m.objects ≡ None
+CanBeDoneIn m (TurnHusk o) = IsAlive (look o m.objects)
+
+abbrev pub CanChangeIn : Lists → List Change → Type 0
+CanChangeIn m [] = Unit {0}
+CanChangeIn m (c ∷ cs) = CanBeDoneIn m c × CanChangeIn (change_in m c) cs
+
+can-shown : (m : Lists) (c : Change) → CanBeDoneIn m c → CanBeDone (shown m) c
+can-shown m (SetHandle h x) can = tt
+can-shown m (EndHandle h) can = subst (λ (e : Option Holding). IsSome e) (sym (get-map_of m.handles h)) can
+can-shown m (SetCell c s) can = tt
+can-shown m (EndCell c) can = subst (λ (e : Option Slot). IsSome e) (sym (get-map_of m.cells c)) can
+can-shown m (SetField o i s) can = subst (λ (e : Option Entry). HasField e i) (sym (get-map_of m.objects o)) can
+can-shown m (Make o fields) can = get-map_of m.objects o ∙ can
+can-shown m (TurnHusk o) can = subst (λ (e : Option Entry). IsAlive e) (sym (get-map_of m.objects o)) can
+
+can_change-shown : (changes : List Change) (m : Lists) → CanChangeIn m changes → CanChange (shown m) changes
+can_change-shown [] m can = tt
+can_change-shown (c ∷ changes) m can =
+    (can-shown m c can.0, subst (λ (s : State). CanChange s changes) (change-shown m c) (can_change-shown changes (change_in m c) can.1))
+
+pub can_be_made : (changes : List Change) → CanChangeIn nothing_listed changes → CanChange nothing_held changes
+can_be_made changes can = can_change-shown changes nothing_listed can
