@@ -1,5 +1,7 @@
 //! The debugger: runs the command that the words of the command line name, over standard input and output.
 #![tactic(auto)]
+ghost use Rattle.std.specs.Prelude.{◌≢◌};
+ghost use Rattle.command_serve.specs.declared.exits.Exit.TheVariants.{Usage};
 
 use command_serve::exits::Exit;
 use command_serve::replay::serve_replay;
@@ -42,7 +44,10 @@ fn words(rt: &HostRuntime) -> Result<Vec<String>, Exit> {
     }
 }
 
-fn serve(rt: &HostRuntime, command: Command) -> Exit {
+// Words that name a command are never refused afterwards.
+fn serve(rt: &HostRuntime, command: Command) -> Exit
+    ensures { result ≢ Usage }
+{
     let mut source = StdSource::new(rt.reader());
     let mut sink = StdSink::new(io::writer(rt));
     match command {

@@ -5,6 +5,7 @@ use Rattle.trace_types.specs.declared.edits.Edit.{Edit}
 use Rattle.run_engine.specs.RunView.{RunView}
 use Rattle.run_engine.specs.Bounds.{IsBoundedFrom}
 use Rattle.run_engine.specs.NewMarks.{AreMarksAfter}
+use Rattle.run_engine.specs.Steps.{AreSteppedFrom}
 use Rattle.edit_desk.specs.declared.entries.Entry.{Entry}
 use Rattle.edit_desk.specs.declared.entries.Request.{Request}
 use Rattle.edit_desk.specs.declared.replies.Reply.{Reply}
@@ -58,6 +59,10 @@ pub record IsSettled (v : Version) (r : Request) (reply : Reply) (next : Version
 -- edits of a trace whose run has these checkpoints replay at most what they have to, from one count to another
 unfoldable pub ReplaysWithin : List Operation → List ℕ → List Edit → ℕ → ℕ → Type 0
 ReplaysWithin trace marks batch before after = (ops : List Operation) → edited_by trace batch ≡ Ok ops → IsBoundedFrom trace ops marks before after
+
+-- and at least those that no old stretch covers
+unfoldable pub StepsAtLeast : List Operation → List ℕ → List Edit → ℕ → ℕ → Type 0
+StepsAtLeast trace marks batch before after = (ops : List Operation) → edited_by trace batch ≡ Ok ops → AreSteppedFrom trace ops marks before after
 
 -- the next run is the one that stands, or that of an edit of its trace, with the checkpoints that such an edit leaves
 abbrev pub IsNextRun : List Operation → List ℕ → RunView → Type 0

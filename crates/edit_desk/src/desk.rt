@@ -4,7 +4,7 @@ ghost use Rattle.std.specs.Option.{option_copied};
 ghost use Rattle.run_engine.specs.Edited.{edited_by};
 ghost use Rattle.edit_desk.specs.declared.entries.Entry.{Entry};
 ghost use Rattle.edit_desk.specs.Answers.{opened, reply_to, after, IsLegal};
-ghost use Rattle.edit_desk.specs.Versions.{IsDue, IsSettled, IsNextRun, ReplaysWithin};
+ghost use Rattle.edit_desk.specs.Versions.{IsDue, IsSettled, IsNextRun, ReplaysWithin, StepsAtLeast};
 ghost use Rattle.run_engine.specs.RunView.{RunView};
 ghost use Rattle.run_engine.specs.Marks.{load_marks};
 ghost use Rattle.op_step.specs.Meter.{raised};
@@ -132,6 +132,7 @@ impl Desk {
         ensures run { OnOk result (let next : RunView = record { trace = self.new.standing.trace; marks = self.new.marks } in IsNextRun self.old.standing.trace self.old.marks next) }
         ensures same_run { OnErr result (self.new.marks ≡ self.old.marks) }
         ensures bound { length self.old.standing.history < 1000000 → request.base ≡ self.old.standing.version → ReplaysWithin self.old.standing.trace self.old.marks request.batch self.old.meter self.new.meter }
+        ensures stepped { OnOk result (length self.old.standing.history < 1000000 → request.base ≡ self.old.standing.version → StepsAtLeast self.old.standing.trace self.old.marks request.batch self.old.meter self.new.meter) }
         ensures full { 1000000 ≤ length self.old.standing.history → self.new.meter ≡ self.old.meter }
         ensures stale { request.base ≢ self.old.standing.version → self.new.meter ≡ self.old.meter }
         ensures refused { IsErr (edited_by self.old.standing.trace request.batch) → self.new.meter ≡ self.old.meter }
@@ -158,6 +159,7 @@ impl Desk {
         ensures unchanged { self.new.standing ≡ self.old.standing }
         ensures same_run { self.new.marks ≡ self.old.marks }
         ensures bound { request.base ≡ self.old.standing.version → ReplaysWithin self.old.standing.trace self.old.marks request.batch self.old.meter self.new.meter }
+        ensures stepped { OnOk result (request.base ≡ self.old.standing.version → StepsAtLeast self.old.standing.trace self.old.marks request.batch self.old.meter self.new.meter) }
         ensures stale { request.base ≢ self.old.standing.version → self.new.meter ≡ self.old.meter }
         ensures refused { IsErr (edited_by self.old.standing.trace request.batch) → self.new.meter ≡ self.old.meter }
     {
@@ -201,6 +203,7 @@ fn settle(
     ensures settled { IfOk result (λ r. IsSettled published.now request.now r.0 r.1) }
     ensures run { IfOk result (λ r. IsNextRun published.now.run.trace published.now.run.marks r.1.run) }
     ensures bound { request.now.base ≡ published.now.version → ReplaysWithin published.now.run.trace published.now.run.marks request.now.batch meter.old meter.new }
+    ensures stepped { OnOk result (request.now.base ≡ published.now.version → StepsAtLeast published.now.run.trace published.now.run.marks request.now.batch meter.old meter.new) }
     ensures stale { request.now.base ≢ published.now.version → meter.new ≡ meter.old }
     ensures refused { IsErr (edited_by published.now.run.trace request.now.batch) → meter.new ≡ meter.old }
 {

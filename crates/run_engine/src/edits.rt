@@ -4,6 +4,7 @@ ghost use Rattle.trace_types.specs.Trace.{IsTrace, place_of};
 ghost use Rattle.run_engine.specs.declared.faults.RunFault.TheVariants.{EmptyBatch, TooManyEdits, Memory};
 ghost use Rattle.run_engine.specs.Edited.{place_after, inserted, removed, changed, edited_one, edited_by};
 
+use crate::editing::Editing;
 use crate::faults::RunFault;
 use crate::listing::Listing;
 use std::alloc::Global;
@@ -27,8 +28,7 @@ pub fn apply(alloc: Global, trace: &Trace, batch: &Batch) -> Result<Trace, RunFa
     if ops.extend(trace.as_slice()).is_err() {
         return Err(RunFault::Memory);
     }
-    edit(&mut ops, batch.as_slice())?;
-    copied(alloc, &ops)
+    copied(alloc, &edited(alloc, ops, batch.as_slice())?)
 }
 
 /// Whether a batch may have so many edits.
@@ -45,24 +45,31 @@ pub(crate) fn try_size(len: usize) -> Result<(), RunFault>
     Ok(())
 }
 
-/// Carries out the edits in order. After a refusal those before it stay.
-pub(crate) fn edit<'a>(ops: &mut Listing<'a>, batch: &'a [Edit]) -> Result<(), RunFault>
+/// The operations after the edits, which are carried out in order.
+pub(crate) fn edited<'a>(
+    alloc: Global,
+    ops: Listing<'a>,
+    batch: &'a [Edit],
+) -> Result<Listing<'a>, RunFault>
+    requires trace { IsTrace ops }
     requires some { 0 < length batch.now }
     requires few { length batch.now ≤ 64 }
-    ensures ok { OnOk result (edited_by ops.old batch.now ≡ Ok ops.new) }
-    ensures fault { IfErr result (λ e. (e ≡ Memory) ⊎ (edited_by ops.old batch.now ≡ Err e)) }
-    ensures trace { IsTrace ops.old → OnOk result (IsTrace ops.new) }
+    ensures ok { IfOk result (λ r. edited_by ops batch.now ≡ Ok r) }
+    ensures fault { IfErr result (λ e. (e ≡ Memory) ⊎ (edited_by ops batch.now ≡ Err e)) }
+    ensures trace { IfOk result (λ r. IsTrace r) }
 {
+    let Ok(mut editing) = Editing::new(alloc, ops, batch) else {
+        return Err(RunFault::Memory);
+    };
     for i in 0..batch.len() {
-        edit_one(ops, &batch[i], i as u64)?;
+        edit_one(&mut editing, &batch[i], i as u64)?;
     }
-    Ok(())
+    Ok(editing.into_ops())
 }
 
-fn edit_one<'a>(ops: &mut Listing<'a>, edit: &'a Edit, index: u64) -> Result<(), RunFault>
+fn edit_one<'a>(ops: &mut Editing<'a>, edit: &'a Edit, index: u64) -> Result<(), RunFault>
     ensures ok { OnOk result (edited_one index ops.old edit.now ≡ Ok ops.new) }
     ensures fault { IfErr result (λ e. (e ≡ Memory) ⊎ (edited_one index ops.old edit.now ≡ Err e)) }
-    ensures trace { IsTrace ops.old → OnOk result (IsTrace ops.new) }
 {
     match edit {
         Edit::Insert { after, op } => insert(ops, *after, op, index),
@@ -71,10 +78,9 @@ fn edit_one<'a>(ops: &mut Listing<'a>, edit: &'a Edit, index: u64) -> Result<(),
     }
 }
 
-fn insert<'a>(ops: &mut Listing<'a>, after: u32, op: &'a Op, index: u64) -> Result<(), RunFault>
+fn insert<'a>(ops: &mut Editing<'a>, after: u32, op: &'a Op, index: u64) -> Result<(), RunFault>
     ensures ok { OnOk result (inserted index ops.old op.now (place_after after ops.old) ≡ Ok ops.new) }
     ensures fault { IfErr result (λ e. (e ≡ Memory) ⊎ (inserted index ops.old op.now (place_after after ops.old) ≡ Err e)) }
-    ensures trace { IsTrace ops.old → OnOk result (IsTrace ops.new) }
 {
     let Some(place) = place_after(ops, after) else {
         return Err(RunFault::NoSuchOp(index));
@@ -91,22 +97,22 @@ fn insert<'a>(ops: &mut Listing<'a>, after: u32, op: &'a Op, index: u64) -> Resu
     }
 }
 
-fn remove(ops: &mut Listing, id: u32, index: u64) -> Result<(), RunFault>
+fn remove(ops: &mut Editing, id: u32, index: u64) -> Result<(), RunFault>
     ensures ok { OnOk result (removed index ops.old (place_of id ops.old) ≡ Ok ops.new) }
-    ensures fault { IfErr result (λ e. removed index ops.old (place_of id ops.old) ≡ Err e) }
-    ensures trace { IsTrace ops.old → OnOk result (IsTrace ops.new) }
+    ensures fault { IfErr result (λ e. (e ≡ Memory) ⊎ (removed index ops.old (place_of id ops.old) ≡ Err e)) }
 {
     let Some(place) = ops.place(id) else {
         return Err(RunFault::NoSuchOp(index));
     };
-    ops.remove(place);
-    Ok(())
+    match ops.remove(place) {
+        Ok(()) => Ok(()),
+        Err(_) => Err(RunFault::Memory),
+    }
 }
 
-fn change<'a>(ops: &mut Listing<'a>, id: u32, op: &'a Op, index: u64) -> Result<(), RunFault>
+fn change<'a>(ops: &mut Editing<'a>, id: u32, op: &'a Op, index: u64) -> Result<(), RunFault>
     ensures ok { OnOk result (changed index ops.old id op.now (place_of id ops.old) ≡ Ok ops.new) }
-    ensures fault { IfErr result (λ e. changed index ops.old id op.now (place_of id ops.old) ≡ Err e) }
-    ensures trace { IsTrace ops.old → OnOk result (IsTrace ops.new) }
+    ensures fault { IfErr result (λ e. (e ≡ Memory) ⊎ (changed index ops.old id op.now (place_of id ops.old) ≡ Err e)) }
 {
     let Some(place) = ops.place(id) else {
         return Err(RunFault::NoSuchOp(index));
@@ -114,12 +120,14 @@ fn change<'a>(ops: &mut Listing<'a>, id: u32, op: &'a Op, index: u64) -> Result<
     if op.id() != id && ops.is_taken(op.id()) {
         return Err(RunFault::IdTaken(index));
     }
-    ops.set(place, op);
-    Ok(())
+    match ops.exchange(id, place, op) {
+        Ok(()) => Ok(()),
+        Err(_) => Err(RunFault::Memory),
+    }
 }
 
 // Where an operation goes that comes right after operation `after`.
-fn place_after(ops: &Listing, after: u32) -> Option<usize>
+fn place_after(ops: &Editing, after: u32) -> Option<usize>
     ensures value { result ≡ place_after after ops.now }
     ensures within { IfSome result (λ place. place ≤ length ops.now) }
 {

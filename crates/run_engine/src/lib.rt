@@ -4,6 +4,7 @@
 mod common;
 mod contents;
 mod converge;
+mod editing;
 pub mod edits;
 pub mod faults;
 mod listing;
@@ -12,6 +13,7 @@ mod restart;
 pub mod run;
 mod seek;
 mod segment;
+mod shift;
 mod stretch;
 #[cfg(test)]
 mod tests;

@@ -1,6 +1,6 @@
 //! Operations that stand elsewhere, in an order of their own.
-ghost use Rattle.std.specs.Prelude.{◌≡◌, ◌<◌, ◌≤◌, ◌++◌, ◌∷◌, [], length, IfOk, OnOk, IfSome, slice_index_or, insert, remove, slice_set};
-ghost use Rattle.trace_types.specs.Trace.{place_of, is_taken};
+ghost use Rattle.std.specs.Prelude.{◌≡◌, ◌<◌, ◌≤◌, ◌++◌, ◌∷◌, [], length, IfOk, OnOk, OnErr, IfSome, slice_index_or, insert, remove, slice_set};
+ghost use Rattle.trace_types.specs.Trace.{place_of};
 ghost use Rattle.run_engine.specs.Part.{part};
 
 use std::alloc::{AllocError, Global};
@@ -80,7 +80,8 @@ impl<'a> Listing<'a> {
     /// Puts an operation in front of the one at a place, or at the end.
     pub fn insert(&mut self, place: usize, op: &'a Op) -> Result<(), AllocError>
         requires { place ≤ length self.old }
-        ensures { OnOk result (self.new ≡ insert self.old place op.now) }
+        ensures ok { OnOk result (self.new ≡ insert self.old place op.now) }
+        ensures unchanged { OnErr result (self.new ≡ self.old) }
     {
         Ok(self.ops.insert(place, op)?)
     }
@@ -111,11 +112,5 @@ impl<'a> Listing<'a> {
             }
         }
         None
-    }
-
-    pub fn is_taken(&self, id: u32) -> bool
-        ensures { result ≡ is_taken id self.now }
-    {
-        self.place(id).is_some()
     }
 }

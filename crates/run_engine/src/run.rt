@@ -16,7 +16,7 @@ ghost use Rattle.run_engine.specs.Steps.{AreRising, AreSteppedFrom};
 
 use crate::contents::{len_in, marks_in, ops_in, outcomes_in};
 use crate::converge::{Front, joined};
-use crate::edits::{copied, edit, try_size};
+use crate::edits::{copied, edited, try_size};
 use crate::faults::RunFault;
 use crate::listing::Listing;
 use crate::piece::{STRIDE, stepped};
@@ -104,10 +104,10 @@ impl Run {
         let Ok(old) = ops_in(alloc, &self.segments) else {
             return Err(RunFault::Memory);
         };
-        let Ok(mut ops) = ops_in(alloc, &self.segments) else {
+        let Ok(ops) = ops_in(alloc, &self.segments) else {
             return Err(RunFault::Memory);
         };
-        edit(&mut ops, batch.as_slice())?;
+        let ops = edited(alloc, ops, batch.as_slice())?;
         match self.beside(alloc, &old, &ops, meter) {
             Ok(run) => Ok(run),
             Err(_) => Err(RunFault::Memory),

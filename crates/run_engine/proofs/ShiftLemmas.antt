@@ -1,0 +1,215 @@
+-- Where operations stand after others around them are edited.
+use Rattle.std.proofs.Common.{◌≡◌, ℕ, zero, suc, ◌+◌, ◌-◌, ◌<◌, ◌≤◌, List, [], ◌∷◌, ◌++◌, length, Bool, true, false, refl, ap, sym, subst, ◌∙◌, arith}
+use Rattle.std.specs.Prelude.{◌==◌, ◌||◌, ◌&&◌, not, nat_lt, Option, Some, None, if◌then◌else◌, IsTrue, insert, remove, slice_set}
+use Rattle.std.specs.List.{position_from}
+use Rattle.std.proofs.lemmas.Grind.{common_steps}
+use Rattle.std.proofs.lemmas.Bool.Decides.{nat_tests}
+use Rattle.trace_types.specs.Operation.{Operation}
+use Rattle.trace_types.specs.Trace.{place_of, is_taken, has_distinct_numbers}
+use Rattle.run_engine.specs.declared.shift.Shift.{Shift}
+use Rattle.run_engine.specs.declared.shift.Shift.TheVariants.{Inserted, Removed, Exchanged}
+use Rattle.run_engine.specs.Shifts.{moved_up, moved_down, given_up, shifted, shifted_by}
+
+or_left : (a b : Bool) → (a || b) ≡ false → a ≡ false
+or_left true b e = absurd cc
+or_left false b e = refl
+
+or_right : (a b : Bool) → (a || b) ≡ false → b ≡ false
+or_right true b e = absurd cc
+or_right false b e = e
+
+and_left : (a b : Bool) → IsTrue (a && b) → IsTrue a
+and_left true b e = refl
+and_left false b e = absurd cc
+
+and_right : (a b : Bool) → IsTrue (a && b) → IsTrue b
+and_right true b e = e
+and_right false b e = absurd cc
+
+untrue : (a : Bool) → IsTrue (not a) → a ≡ false
+untrue true e = absurd cc
+untrue false e = refl
+
+-- an operation that nobody has the number of stands nowhere
+nowhere : (id n : ℕ) (ops : List Operation) → is_taken id ops ≡ false → position_from (λ o. o.id == id) n ops ≡ None
+nowhere id n [] e = refl
+nowhere id n (o ∷ ops) e = grind (arith, common_steps, or_left _ _ e, nowhere id (n + 1) ops (or_right _ _ e))
+
+-- the number of the first operation stands nowhere else
+alone : (id n : ℕ) (o : Operation) (ops : List Operation) → IsTrue (has_distinct_numbers (o ∷ ops)) → (o.id == id) ≡ true → position_from (λ x. x.id == id) n ops ≡ None
+alone id n o ops d e =
+    let same : o.id ≡ id = grind (arith, nat_tests, e) in
+    nowhere id n ops (ap (λ k. is_taken k ops) (sym same) ∙ untrue _ (and_left _ _ d))
+
+up_here : (n m : ℕ) → m ≤ n → n < 65536 → Some (n + 1) ≡ moved_up m (Some n)
+up_here n m le few = grind (arith, common_steps, nat_tests, le, few)
+
+up_before : (n m : ℕ) → n < m → Some n ≡ moved_up m (Some n)
+up_before n m lt = grind (arith, common_steps, nat_tests, lt)
+
+-- all from n on, one place later
+later : (id n m : ℕ) (ops : List Operation) → m ≤ n → n + length ops ≤ 65536 → position_from (λ o. o.id == id) (n + 1) ops ≡ moved_up m (position_from (λ o. o.id == id) n ops)
+later id n m [] le few = refl
+later id n m (o ∷ ops) le few = by_test (o.id == id)
+  where
+    rest : position_from (λ x. x.id == id) (n + 1 + 1) ops ≡ moved_up m (position_from (λ x. x.id == id) (n + 1) ops)
+    rest = later id (n + 1) m ops (omega arith) (omega arith)
+    by_test : (b : Bool) → (if b then Some (n + 1) else position_from (λ x. x.id == id) (n + 1 + 1) ops) ≡ moved_up m (if b then Some n else position_from (λ x. x.id == id) (n + 1) ops)
+    by_test true = up_here n m le (omega arith)
+    by_test false = rest
+
+-- a new operation stands where it came
+inserted_own : (id n q : ℕ) (ops : List Operation) (op : Operation) → q ≤ length ops → is_taken id ops ≡ false → (op.id == id) ≡ true
+    → position_from (λ o. o.id == id) n (insert ops q op) ≡ Some (n + q)
+inserted_own id n zero ops op le new own = grind (arith, common_steps, own)
+inserted_own id n (suc q) [] op le new own = absurd (omega (arith, le))
+inserted_own id n (suc q) (o ∷ ops) op le new own =
+    let next : n + 1 + q ≡ n + suc q = omega arith in
+    grind (arith, common_steps, or_left _ _ new, inserted_own id (n + 1) q ops op (omega (arith, le)) (or_right _ _ new) own, next)
+
+-- the others follow it, or stay before it
+inserted_other : (id n q : ℕ) (ops : List Operation) (op : Operation) → n + length ops ≤ 65536 → (op.id == id) ≡ false
+    → position_from (λ o. o.id == id) n (insert ops q op) ≡ moved_up (n + q) (position_from (λ o. o.id == id) n ops)
+inserted_other id n zero ops op few other = grind (common_steps, other, later id n (n + 0) ops (omega arith) few)
+inserted_other id n (suc q) [] op few other = grind (common_steps, other)
+inserted_other id n (suc q) (o ∷ ops) op few other = by_test (o.id == id)
+  where
+    next : n + 1 + q ≡ n + suc q
+    next = omega arith
+    rest : position_from (λ x. x.id == id) (n + 1) (insert ops q op) ≡ moved_up (n + suc q) (position_from (λ x. x.id == id) (n + 1) ops)
+    rest = inserted_other id (n + 1) q ops op (omega arith) other ∙ ap (λ k. moved_up k (position_from (λ x. x.id == id) (n + 1) ops)) next
+    by_test : (b : Bool) → (if b then Some n else position_from (λ x. x.id == id) (n + 1) (insert ops q op)) ≡ moved_up (n + suc q) (if b then Some n else position_from (λ x. x.id == id) (n + 1) ops)
+    by_test true = up_before n (n + suc q) (omega arith)
+    by_test false = rest
+
+down_here : (n m : ℕ) → m ≤ n → Some n ≡ moved_down m (Some (n + 1))
+down_here n m le = grind (arith, common_steps, nat_tests, le)
+
+down_before : (n m : ℕ) → n < m → Some n ≡ moved_down m (Some n)
+down_before n m lt = grind (arith, common_steps, nat_tests, lt)
+
+down_gone : (n : ℕ) → None ≡ moved_down n (Some n)
+down_gone n = grind (arith, common_steps, nat_tests)
+
+-- all from n on, one place earlier
+earlier : (id n m : ℕ) (ops : List Operation) → m ≤ n → position_from (λ o. o.id == id) n ops ≡ moved_down m (position_from (λ o. o.id == id) (n + 1) ops)
+earlier id n m [] le = refl
+earlier id n m (o ∷ ops) le = by_test (o.id == id)
+  where
+    by_test : (b : Bool) → (if b then Some n else position_from (λ x. x.id == id) (n + 1) ops) ≡ moved_down m (if b then Some (n + 1) else position_from (λ x. x.id == id) (n + 1 + 1) ops)
+    by_test true = down_here n m le
+    by_test false = earlier id (n + 1) m ops (omega arith)
+
+removed_at : (id n q : ℕ) (ops : List Operation) → IsTrue (has_distinct_numbers ops)
+    → position_from (λ o. o.id == id) n (remove ops q) ≡ moved_down (n + q) (position_from (λ o. o.id == id) n ops)
+removed_at id n zero [] d = refl
+removed_at id n (suc q) [] d = refl
+removed_at id n zero (o ∷ ops) d = by_test (o.id == id) refl
+  where
+    here : n ≡ n + 0
+    here = omega arith
+    by_test : (b : Bool) → (o.id == id) ≡ b → position_from (λ x. x.id == id) n ops ≡ moved_down (n + 0) (if b then Some n else position_from (λ x. x.id == id) (n + 1) ops)
+    by_test true e = alone id n o ops d e ∙ down_gone n ∙ ap (λ k. moved_down k (Some n)) here
+    by_test false e = earlier id n (n + 0) ops (omega arith)
+removed_at id n (suc q) (o ∷ ops) d = by_test (o.id == id)
+  where
+    next : n + 1 + q ≡ n + suc q
+    next = omega arith
+    by_test : (b : Bool) → (if b then Some n else position_from (λ x. x.id == id) (n + 1) (remove ops q)) ≡ moved_down (n + suc q) (if b then Some n else position_from (λ x. x.id == id) (n + 1) ops)
+    by_test true = down_before n (n + suc q) (omega arith)
+    by_test false = removed_at id (n + 1) q ops (and_right _ _ d) ∙ ap (λ k. moved_down k (position_from (λ x. x.id == id) (n + 1) ops)) next
+
+left_else : (n m : ℕ) → m < n → Some n ≡ given_up m (Some n)
+left_else n m lt = grind (arith, common_steps, nat_tests, lt)
+
+left_before : (n m : ℕ) → n < m → Some n ≡ given_up m (Some n)
+left_before n m lt = grind (arith, common_steps, nat_tests, lt)
+
+left_gone : (n : ℕ) → None ≡ given_up n (Some n)
+left_gone n = grind (arith, common_steps, nat_tests)
+
+-- what stands behind a place doesn't stand there
+behind : (id n m : ℕ) (ops : List Operation) → m < n → position_from (λ o. o.id == id) n ops ≡ given_up m (position_from (λ o. o.id == id) n ops)
+behind id n m [] lt = refl
+behind id n m (o ∷ ops) lt = by_test (o.id == id)
+  where
+    by_test : (b : Bool) → (if b then Some n else position_from (λ x. x.id == id) (n + 1) ops) ≡ given_up m (if b then Some n else position_from (λ x. x.id == id) (n + 1) ops)
+    by_test true = left_else n m lt
+    by_test false = behind id (n + 1) m ops (omega arith)
+
+-- an operation that came for another stands there, where its number stood nowhere else
+exchanged_own : (id n q : ℕ) (ops : List Operation) (op : Operation) → q < length ops → ((p : ℕ) → position_from (λ o. o.id == id) n ops ≡ Some p → p ≡ n + q) → (op.id == id) ≡ true
+    → position_from (λ o. o.id == id) n (slice_set ops q op) ≡ Some (n + q)
+exchanged_own id n q [] op lt only own = absurd (omega (arith, lt))
+exchanged_own id n zero (o ∷ ops) op lt only own = grind (arith, common_steps, own)
+exchanged_own id n (suc q) (o ∷ ops) op lt only own = by_test (o.id == id) only
+  where
+    next : n + 1 + q ≡ n + suc q
+    next = omega arith
+    by_test : (b : Bool) → ((p : ℕ) → (if b then Some n else position_from (λ x. x.id == id) (n + 1) ops) ≡ Some p → p ≡ n + suc q)
+        → (if b then Some n else position_from (λ x. x.id == id) (n + 1) (slice_set ops q op)) ≡ Some (n + suc q)
+    by_test true only = let e : n ≡ n + suc q = only n refl in absurd (omega (arith, e))
+    by_test false only = exchanged_own id (n + 1) q ops op (omega (arith, lt)) (λ p e. only p e ∙ sym next) own ∙ ap Some next
+
+-- the others stay
+exchanged_other : (id n q : ℕ) (ops : List Operation) (op : Operation) → IsTrue (has_distinct_numbers ops) → (op.id == id) ≡ false
+    → position_from (λ o. o.id == id) n (slice_set ops q op) ≡ given_up (n + q) (position_from (λ o. o.id == id) n ops)
+exchanged_other id n q [] op d other = refl
+exchanged_other id n zero (o ∷ ops) op d other = by_test (o.id == id) refl
+  where
+    here : n ≡ n + 0
+    here = omega arith
+    first : position_from (λ x. x.id == id) n (op ∷ ops) ≡ position_from (λ x. x.id == id) (n + 1) ops
+    first = grind (common_steps, other)
+    by_test : (b : Bool) → (o.id == id) ≡ b → position_from (λ x. x.id == id) n (op ∷ ops) ≡ given_up (n + 0) (if b then Some n else position_from (λ x. x.id == id) (n + 1) ops)
+    by_test true e = first ∙ alone id (n + 1) o ops d e ∙ left_gone n ∙ ap (λ k. given_up k (Some n)) here
+    by_test false e = first ∙ behind id (n + 1) (n + 0) ops (omega arith)
+exchanged_other id n (suc q) (o ∷ ops) op d other = by_test (o.id == id)
+  where
+    next : n + 1 + q ≡ n + suc q
+    next = omega arith
+    by_test : (b : Bool) → (if b then Some n else position_from (λ x. x.id == id) (n + 1) (slice_set ops q op)) ≡ given_up (n + suc q) (if b then Some n else position_from (λ x. x.id == id) (n + 1) ops)
+    by_test true = left_before n (n + suc q) (omega arith)
+    by_test false = exchanged_other id (n + 1) q ops op (and_right _ _ d) other ∙ ap (λ k. given_up k (position_from (λ x. x.id == id) (n + 1) ops)) next
+
+own_up : (b : Bool) (id q : ℕ) (ops : List Operation) (op : Operation) → (op.id == id) ≡ b → q ≤ length ops → is_taken op.id ops ≡ false → length ops ≤ 65536
+    → place_of id (insert ops q op) ≡ (if b then Some q else moved_up q (place_of id ops))
+own_up true id q ops op e le new few =
+    let same : op.id ≡ id = grind (arith, nat_tests, e) in
+    let here : 0 + q ≡ q = omega arith in
+    inserted_own id 0 q ops op le (ap (λ k. is_taken k ops) (sym same) ∙ new) e ∙ ap Some here
+own_up false id q ops op e le new few =
+    let here : 0 + q ≡ q = omega arith in
+    inserted_other id 0 q ops op (omega (arith, few)) e ∙ ap (λ k. moved_up k (place_of id ops)) here
+
+pub place_inserted : (id q : ℕ) (ops : List Operation) (op : Operation) → q ≤ length ops → is_taken op.id ops ≡ false → length ops ≤ 65536
+    → place_of id (insert ops q op) ≡ shifted (Inserted q op.id) id (place_of id ops)
+place_inserted id q ops op le new few = own_up (op.id == id) id q ops op refl le new few
+
+pub place_removed : (id q : ℕ) (ops : List Operation) → IsTrue (has_distinct_numbers ops) → place_of id (remove ops q) ≡ shifted (Removed q) id (place_of id ops)
+place_removed id q ops d =
+    let here : 0 + q ≡ q = omega arith in
+    removed_at id 0 q ops d ∙ ap (λ k. moved_down k (place_of id ops)) here
+
+own_or_left : (b : Bool) (id q : ℕ) (ops : List Operation) (op : Operation) → (op.id == id) ≡ b → q < length ops → IsTrue (has_distinct_numbers ops)
+    → ((p : ℕ) → place_of op.id ops ≡ Some p → p ≡ q) → place_of id (slice_set ops q op) ≡ (if b then Some q else given_up q (place_of id ops))
+own_or_left true id q ops op e lt d only =
+    let same : op.id ≡ id = grind (arith, nat_tests, e) in
+    let here : 0 + q ≡ q = omega arith in
+    exchanged_own id 0 q ops op lt (λ p at. only p (ap (λ k. place_of k ops) same ∙ at) ∙ sym here) e ∙ ap Some here
+own_or_left false id q ops op e lt d only =
+    let here : 0 + q ≡ q = omega arith in
+    exchanged_other id 0 q ops op d e ∙ ap (λ k. given_up k (place_of id ops)) here
+
+pub place_exchanged : (id q : ℕ) (ops : List Operation) (op : Operation) → q < length ops → IsTrue (has_distinct_numbers ops) → ((p : ℕ) → place_of op.id ops ≡ Some p → p ≡ q)
+    → place_of id (slice_set ops q op) ≡ shifted (Exchanged q op.id) id (place_of id ops)
+place_exchanged id q ops op lt d only = own_or_left (op.id == id) id q ops op refl lt d only
+
+-- a number that nobody has stands nowhere
+pub free_nowhere : (id q : ℕ) (ops : List Operation) → is_taken id ops ≡ false → (p : ℕ) → place_of id ops ≡ Some p → p ≡ q
+free_nowhere id q ops free p at = let none : place_of id ops ≡ None = nowhere id 0 ops free in absurd cc
+
+-- one edit more
+pub shifted_more : (shifts : List Shift) (s : Shift) (id : ℕ) (at : Option ℕ) → shifted_by (shifts ++ s ∷ []) id at ≡ shifted s id (shifted_by shifts id at)
+shifted_more [] s id at = refl
+shifted_more (t ∷ shifts) s id at = shifted_more shifts s id (shifted t id at)

@@ -1,0 +1,30 @@
+-- Where an operation goes when others around it are edited.
+use Rattle.std.specs.Prelude.{ℕ, ◌+◌, ◌-◌, ◌==◌, List, [], ◌∷◌, Option, Some, None, if◌then◌else◌, nat_lt, ◌||◌, not}
+use Rattle.run_engine.specs.declared.shift.Shift.{Shift}
+use Rattle.run_engine.specs.declared.shift.Shift.TheVariants.{Inserted, Removed, Exchanged}
+
+-- a place after one more operation came to `at`. No place passes the limit of a trace
+abbrev pub moved_up : ℕ → Option ℕ → Option ℕ
+moved_up at None = None
+moved_up at (Some p) = if nat_lt p at || not (nat_lt p 65536) then Some p else Some (p + 1)
+
+-- a place after the operation at `at` went
+abbrev pub moved_down : ℕ → Option ℕ → Option ℕ
+moved_down at None = None
+moved_down at (Some p) = if p == at then None else (if nat_lt p at then Some p else Some (p - 1))
+
+-- a place after another operation came in the place of the one at `at`
+abbrev pub given_up : ℕ → Option ℕ → Option ℕ
+given_up at None = None
+given_up at (Some p) = if p == at then None else Some p
+
+-- where operation `id` stands after one edit
+abbrev pub shifted : Shift → ℕ → Option ℕ → Option ℕ
+shifted (Inserted at new) id place = if new == id then Some at else moved_up at place
+shifted (Removed at) id place = moved_down at place
+shifted (Exchanged at new) id place = if new == id then Some at else given_up at place
+
+-- the same after edits in order
+pub shifted_by : List Shift → ℕ → Option ℕ → Option ℕ
+shifted_by [] id place = place
+shifted_by (s ∷ shifts) id place = shifted_by shifts id (shifted s id place)

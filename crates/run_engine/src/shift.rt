@@ -1,0 +1,99 @@
+//! What an edit does to the places of operations.
+ghost use Rattle.std.specs.Prelude.{◌≡◌};
+ghost use Rattle.run_engine.specs.Shifts.{moved_up, moved_down, given_up, shifted, shifted_by};
+
+use trace_types::trace::MAX_OPS;
+
+/// What an edit does to the places of operations. The second number is that of the operation which comes.
+#[derive(Clone, Copy, Debug, PartialEq, Eq)]
+pub enum Shift {
+    /// An operation came to the place; those from there on follow it.
+    Inserted(usize, u32),
+    /// The operation at the place went.
+    Removed(usize),
+    /// Another operation came in the place of the one there.
+    Exchanged(usize, u32),
+}
+
+impl Shift {
+    /// Where operation `id` stands afterwards.
+    pub fn place(&self, id: u32, place: Option<usize>) -> Option<usize>
+        ensures { result ≡ shifted self.now id place }
+    {
+        match self {
+            Shift::Inserted(at, new) => {
+                if *new == id {
+                    Some(*at)
+                } else {
+                    up(*at, place)
+                }
+            }
+            Shift::Removed(at) => down(*at, place),
+            Shift::Exchanged(at, new) => {
+                if *new == id {
+                    Some(*at)
+                } else {
+                    left(*at, place)
+                }
+            }
+        }
+    }
+}
+
+fn up(at: usize, place: Option<usize>) -> Option<usize>
+    ensures { result ≡ moved_up at place }
+{
+    match place {
+        None => None,
+        Some(place) => {
+            if place < at || place >= MAX_OPS {
+                Some(place)
+            } else {
+                Some(place + 1)
+            }
+        }
+    }
+}
+
+fn down(at: usize, place: Option<usize>) -> Option<usize>
+    ensures { result ≡ moved_down at place }
+{
+    match place {
+        None => None,
+        Some(place) => {
+            if place == at {
+                None
+            } else if place < at {
+                Some(place)
+            } else {
+                Some(place - 1)
+            }
+        }
+    }
+}
+
+fn left(at: usize, place: Option<usize>) -> Option<usize>
+    ensures { result ≡ given_up at place }
+{
+    match place {
+        None => None,
+        Some(place) => {
+            if place == at {
+                None
+            } else {
+                Some(place)
+            }
+        }
+    }
+}
+
+/// Where operation `id` stands after edits in order.
+pub fn place_after(shifts: &[Shift], id: u32, first: Option<usize>) -> Option<usize>
+    ensures { result ≡ shifted_by shifts.now id first }
+{
+    let mut place = first;
+    for shift in shifts {
+        place = shift.place(id, place);
+    }
+    place
+}
