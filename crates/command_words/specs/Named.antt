@@ -27,11 +27,11 @@ Names found Whatif = (rows : List Row) × (found ≡ Some (codes "whatif", rows)
 abbrev pub NamesNone : Option (Text × List Row) → Type 0
 NamesNone found = (command : Command) → Names found command → ⊥
 
--- words are refused only where clap doesn't take them, or where they name no command
 -- whether clap takes the words
 unfoldable pub are_taken : List Text → Bool
 are_taken words = takes scope_app words
 
+-- words are refused only where clap doesn't take them, or where they name no command
 abbrev pub IsRefused : List Text → WordsFault → Type 0
 IsRefused words (Usage error) = are_taken words ≡ true → NamesNone (subcommand_of scope_app words)
 IsRefused words Memory = Unit {0}

@@ -118,8 +118,8 @@ impl Desk {
         &self.meter
     }
 
-    /// Replies to a session's request, and makes its edits where it accepts them. Out of memory the trace, its version and the
-    /// history stay as they were.
+    /// Replies to a session's request, and makes its edits where it accepts them. Out of memory the trace, its version
+    /// and the history stay as they were; the meter may have risen.
     pub fn answer(
         &mut self,
         alloc: Global,
@@ -145,6 +145,7 @@ impl Desk {
     }
 
     /// Replies to a request, and makes all that the reply wants, but neither trace, version nor history change by it.
+    /// Ask first that `len` is below `MAX_ENTRIES`; out of memory the meter may have risen.
     pub fn prepare(
         &mut self,
         alloc: Global,
@@ -174,7 +175,7 @@ impl Desk {
         Ok(Prepared { entry, next })
     }
 
-    /// Makes what was prepared stand. Takes no memory.
+    /// Makes what was prepared stand, where nothing came between. Takes no memory.
     pub fn commit(&mut self, prepared: Prepared) -> Reply
         requires history { length self.old.standing.history < 1000000 }
         requires room { 0 < self.old.room }

@@ -19,7 +19,7 @@ use trace_types::slots::Entry;
 
 /// The objects that leaked, with all that holds them, and the husks with their weak counts, each rising.
 ///
-/// Each field is looked at twice: once to find what is reached, and once to find what is held.
+/// Each field is read at most twice: once to find what is reached, and once to find what is held.
 pub fn find_leaks(alloc: Global, heap: &Heap) -> Result<Leaks, AllocError>
     ensures { IfOk result (λ leaks. leaks ≡ leaks_of heap.now) }
 {

@@ -54,7 +54,7 @@ impl Heap {
         }
     }
 
-    /// The same heap again. Takes no memory.
+    /// The same heap again. Takes no memory, and fails only where a node has as many owners as can be counted.
     pub fn share(&self) -> Result<Heap, AllocError>
         ensures { IfOk result (λ h. h ≡ self.now) }
     {
@@ -130,7 +130,8 @@ impl Heap {
 
     /// The heap after the changes, when all that is then pending was dropped, and what became of objects, in order.
     ///
-    /// The heap itself is kept as it was: what both have in common they share. May take memory.
+    /// The heap itself is kept as it was: what both have in common they share. May take memory. The changes can be made
+    /// in turn and keep the limits, and leave, with what is pending, a sound state.
     pub fn release(
         &self,
         alloc: Global,

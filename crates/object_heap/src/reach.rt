@@ -12,7 +12,7 @@ use std::alloc::{AllocError, Global};
 use std::collections::BTreeSet;
 use trace_types::slots::{Entry, Holding, Slot};
 
-/// The objects that handles and cells lead to by such slots, also those that no longer stand or are husks.
+/// The objects that handles and cells lead to by such slots; husks too, where weak slots are followed.
 ///
 /// Looks each of them up once and each of their fields through once, on a list of what waits: a chain of any length
 /// takes no deeper calls. Takes memory for the numbers.

@@ -44,7 +44,8 @@ impl Model for ChunkRun {
     ghost invariant = { λ c. IsReplayOf (record { start = c.start; ops = (arc_value c.replayed).ops.items }) (arc_value c.replayed).outcomes c.end };
 }
 
-/// Replays operations from a heap. The meter is raised by their number, and where memory runs out by at most that.
+/// Replays operations with distinct numbers, none that of an object of the heap, from that heap. The meter is raised by
+/// their number, and where memory runs out by at most that.
 pub fn run(
     alloc: Global,
     start: &Heap,
@@ -92,7 +93,8 @@ impl ChunkRun {
         &self.start
     }
 
-    /// The operations, in order. By its clauses a caller knows that each makes an object of a number of its own.
+    /// The operations, in order. By its clauses a caller knows that their numbers are distinct and that no object of
+    /// the start has one.
     pub fn ops(&self) -> &[Op]
         ensures value { result.now ≡ self.now.ops }
         ensures distinct { IsTrue (has_distinct_numbers self.now.ops) }

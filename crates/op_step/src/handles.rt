@@ -121,7 +121,7 @@ fn upgraded(
     }
 }
 
-/// `Arc::strong_count` and `Arc::weak_count`
+/// `Arc::strong_count` and `Arc::weak_count`, or those of `Weak`
 pub fn counts(alloc: Global, h: u32, first: Option<&Holding>) -> Plan
     ensures { result ≡ row_by (kind.Counts h) (one (option_copied first.entry)) }
 {

@@ -10,7 +10,7 @@ use Rattle.run_engine.specs.Marks.{IsGreatest}
 abbrev pub AgreesAt : List Operation → List Operation → ℕ → ℕ → ℕ → Type 0
 AgreesAt old ops a b p = end_from nothing_held (take p old) ≡ end_from nothing_held (take (p - a + b) ops)
 
--- from r on no more operations were stepped than up to the end, or up to any checkpoint behind a where the states agree
+-- from r on no more operations were stepped than up to the end, or up to any checkpoint at or behind a where the states agree
 pub record IsBounded (old ops : List Operation) (a b : ℕ) (marks : List ℕ) (r before after : ℕ) : Type 0 where
   pub whole : after + r ≤ before + length ops
   pub stop : (p : ℕ) → Contains marks p → a ≤ p → AgreesAt old ops a b p → after + r ≤ before + (p - a + b)

@@ -108,7 +108,7 @@ fn spliced(alloc: Global, front: Front, rest: &[Segment]) -> Result<Vec<Segment>
     Ok(segments)
 }
 
-/// Goes on with the replay to its end, or to the first checkpoint behind `a` with the old heap.
+/// Goes on with the replay to its end, or to the first checkpoint at or behind `a` with the old heap.
 pub fn converge(
     alloc: Global,
     old: &[Segment],

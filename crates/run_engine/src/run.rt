@@ -59,7 +59,8 @@ impl Model for Run {
 }
 
 impl Run {
-    /// The replay of a trace, with checkpoints at all multiples of 64 and at the end. The meter rises by the operations.
+    /// The replay of a trace, with checkpoints at all multiples of 64 and at the end. The meter rises by the
+    /// operations, and where memory runs out by at most that.
     pub fn load(alloc: Global, trace: Trace, meter: &mut Meter) -> Result<Run, AllocError>
         ensures trace { IfOk result (λ r. r.trace ≡ trace) }
         ensures marks { IfOk result (λ r. r.marks ≡ load_marks (length trace)) }
@@ -89,7 +90,8 @@ impl Run {
     /// The size of the batch is tried first, which takes no memory. Then the edits are tried in order, each on the result
     /// of those before it. The replay begins again at the greatest checkpoint at or before the first operation that
     /// differs, takes old stretches where they begin with the same heap and have the same operations, and stops at the
-    /// first old checkpoint behind the last operation that differs where the heap is the same.
+    /// first old checkpoint behind the last operation that differs where the heap is the same. The meter rises by the
+    /// operations stepped, also where memory runs out.
     pub fn edited(&self, alloc: Global, batch: &Batch, meter: &mut Meter) -> Result<Run, RunFault>
         ensures trace { IfOk result (λ r. edited_by self.now.trace batch.now ≡ Ok r.trace) }
         ensures marks { IfOk result (λ r. AreMarksAfter self.now r) }

@@ -18,15 +18,15 @@ pub enum LineCause {
     NotObject,
     /// a member isn't there
     Missing,
-    /// a member, or an element of `fields`, is of another type than is wanted
+    /// a member, or an element of `fields` or `edits`, is of another type than is wanted
     WrongType,
-    /// `op` is a text, but names no operation
+    /// `op` or `edit` is a text, but names no operation or edit
     UnknownOp,
     /// a number is outside its range, or there are more than 16 fields
     OutOfRange,
     /// an earlier operation has the number
     IdTaken,
-    /// the trace is full
+    /// the trace is full, or a request is one too many
     TooMany,
     /// memory ran out
     Memory,

@@ -26,8 +26,8 @@ pub struct RequestLine {
 /// The request that a value is, or its first fault.
 ///
 /// It is an object with the members `base`, `session` and `edits`, tried in this order as those of an operation. An
-/// edit is an object with `edit`: `insert` with `after` (0 to 999,999,999) and `op`, `remove` with `id`, or `change` with
-/// `id` and `op` (1 to 999,999,999); `op` is an operation as a trace's line has it.
+/// edit is an object with `edit`: `insert` with `after` (0 to 999,999,999) and `op`, `remove` with `id` (1 to
+/// 999,999,999), or `change` with `id` and `op`; `op` is an operation as a trace's line has it.
 #[tactic(auto, unfolding(crate::specs::Requests::read_request))]
 pub fn read_request(alloc: Global, value: &Value) -> Result<RequestLine, LineCause>
     ensures { Gives result (Requests.read_request (view value.now)) }

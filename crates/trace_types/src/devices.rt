@@ -10,6 +10,7 @@ use std::io::{Read, Write};
 #[derive(Clone, Copy, Debug, PartialEq, Eq)]
 pub struct Failed;
 
+/// Where bytes come from.
 pub trait Source {
     /// The bytes that reads will give from here on, where they are told.
     ghost left: { Self → Option (List ℕ) };
@@ -17,12 +18,14 @@ pub trait Source {
     /// A read has failed.
     ghost failed: { Self → Bool };
 
+    /// Reads up to as many bytes as the buffer has; 0 bytes into a buffer with room are the end.
     fn read(&mut self, buf: &mut [u8]) -> Result<usize, Failed>
         ensures bound { ReadsAtMost result buf.new }
         ensures bytes { ReadConsumes (left self.old) (left self.new) result buf.new }
         ensures flag { Raises (failed self.old) (failed self.new) result };
 }
 
+/// Where bytes go.
 pub trait Sink {
     /// The bytes that were written, where they are told.
     ghost held: { Self → Option (List ℕ) };
@@ -30,6 +33,7 @@ pub trait Sink {
     /// A write has failed.
     ghost failed: { Self → Bool };
 
+    /// Writes a front of the bytes, at least one of some; a failed write adds none.
     fn write(&mut self, bytes: &[u8]) -> Result<usize, Failed>
         ensures bound { WritesAtMost result bytes.now }
         ensures some { IfOk result (λ n. 0 < length bytes.now → 0 < n) }
@@ -107,7 +111,7 @@ impl<W: Write> Sink for StdSink<W> {
     }
 }
 
-/// Writes all of the bytes.
+/// Writes all of the bytes. Where a write fails a front of them was written.
 pub fn write_all<K: Sink>(sink: &mut K, bytes: &[u8]) -> Result<(), Failed>
     ensures ok { OnOk result (Appends (K.held sink.old) (K.held sink.new) bytes.now) }
     ensures err { OnErr result (AppendsFront (K.held sink.old) (K.held sink.new) bytes.now) }

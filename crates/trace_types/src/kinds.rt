@@ -45,7 +45,7 @@ pub enum Kind {
     GetMut { h: u32 },
     /// `Arc::make_mut`
     MakeMut { h: u32 },
-    /// `Arc::strong_count` and `Arc::weak_count`
+    /// `Arc::strong_count` and `Arc::weak_count`, or those of `Weak`
     Counts { h: u32 },
     /// `Arc::ptr_eq`
     PtrEq { a: u32, b: u32 },

@@ -57,7 +57,7 @@ fn is_perhaps_name(h: Option<u32>) -> bool
     }
 }
 
-/// Whether all numbers of the members are within their limits, and the fields not too many.
+/// Whether all numbers of the members are within their limits, the fields are not too many, and `new` has no `Me`.
 pub fn is_kind(kind: &Kind) -> bool
     ensures { result ≡ Limits.is_kind kind.now }
 {

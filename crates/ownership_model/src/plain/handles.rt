@@ -63,7 +63,7 @@ pub fn upgrade(alloc: Global, state: &PlainState, from: u32, to: u32) -> Result<
     }
 }
 
-/// `Arc::strong_count` and `Arc::weak_count`
+/// `Arc::strong_count` and `Arc::weak_count`, or those of `Weak`
 pub fn counts(alloc: Global, state: &PlainState, h: u32) -> Result<Plan, Stop>
     ensures { Tells result (row_in state.now 0 (kind.Counts h)) }
 {
