@@ -1,5 +1,6 @@
 //! The debugger: runs the command that the words of the command line name, over standard input and output.
 #![tactic(auto)]
+
 ghost use Rattle.std.specs.Prelude.{◌≢◌};
 ghost use Rattle.command_serve.specs.declared.exits.Exit.TheVariants.{Usage};
 

@@ -1,5 +1,6 @@
 //! Runs each case of `data/` through the commands, over memory, and prints its name, its exit status and its output.
 #![tactic(auto)]
+
 ghost use Rattle.std.specs.Prelude.{◌≢◌};
 ghost use Rattle.command_serve.specs.declared.exits.Exit.TheVariants.{Usage};
 

@@ -2,6 +2,7 @@ mod ListingLemmas
 mod EditLemmas
 mod CommonLemmas
 mod SegmentLemmas
+mod ShiftLemmas
 mod PieceLemmas
 mod PlaceLemmas
 mod ConvergeLemmas

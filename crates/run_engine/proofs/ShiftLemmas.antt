@@ -1,6 +1,6 @@
 -- Where operations stand after others around them are edited.
-use Rattle.std.proofs.Common.{◌≡◌, ℕ, zero, suc, ◌+◌, ◌-◌, ◌<◌, ◌≤◌, List, [], ◌∷◌, ◌++◌, length, Bool, true, false, refl, ap, sym, subst, ◌∙◌, arith}
-use Rattle.std.specs.Prelude.{◌==◌, ◌||◌, ◌&&◌, not, nat_lt, Option, Some, None, if◌then◌else◌, IsTrue, insert, remove, slice_set}
+use Rattle.std.proofs.Common.{◌≡◌, ℕ, zero, suc, ◌+◌, ◌-◌, ◌<◌, ◌≤◌, List, [], ◌∷◌, ◌++◌, length, drop, get_or, Bool, true, false, refl, ap, sym, subst, ◌∙◌, arith}
+use Rattle.std.specs.Prelude.{◌==◌, ◌||◌, ◌&&◌, not, nat_lt, Option, Some, None, is_some, IfSome, if◌then◌else◌, IsTrue, insert, remove, slice_set}
 use Rattle.std.specs.List.{position_from}
 use Rattle.std.proofs.lemmas.Grind.{common_steps}
 use Rattle.std.proofs.lemmas.Bool.Decides.{nat_tests}
@@ -8,6 +8,7 @@ use Rattle.trace_types.specs.Operation.{Operation}
 use Rattle.trace_types.specs.Trace.{place_of, is_taken, has_distinct_numbers}
 use Rattle.run_engine.specs.declared.shift.Shift.{Shift}
 use Rattle.run_engine.specs.declared.shift.Shift.TheVariants.{Inserted, Removed, Exchanged}
+use Rattle.run_engine.proofs.ListingLemmas.{position-here}
 use Rattle.run_engine.specs.Shifts.{moved_up, moved_down, given_up, shifted, shifted_by}
 
 or_left : (a b : Bool) → (a || b) ≡ false → a ≡ false
@@ -33,13 +34,13 @@ untrue false e = refl
 -- an operation that nobody has the number of stands nowhere
 nowhere : (id n : ℕ) (ops : List Operation) → is_taken id ops ≡ false → position_from (λ o. o.id == id) n ops ≡ None
 nowhere id n [] e = refl
-nowhere id n (o ∷ ops) e = grind (arith, common_steps, or_left _ _ e, nowhere id (n + 1) ops (or_right _ _ e))
+nowhere id n (o ∷ ops) e = grind (arith, common_steps, or_left (o.id == id) (is_taken id ops) e, nowhere id (n + 1) ops (or_right (o.id == id) (is_taken id ops) e))
 
 -- the number of the first operation stands nowhere else
 alone : (id n : ℕ) (o : Operation) (ops : List Operation) → IsTrue (has_distinct_numbers (o ∷ ops)) → (o.id == id) ≡ true → position_from (λ x. x.id == id) n ops ≡ None
 alone id n o ops d e =
     let same : o.id ≡ id = grind (arith, nat_tests, e) in
-    nowhere id n ops (ap (λ k. is_taken k ops) (sym same) ∙ untrue _ (and_left _ _ d))
+    nowhere id n ops (ap (λ k. is_taken k ops) (sym same) ∙ untrue (is_taken o.id ops) (and_left (not (is_taken o.id ops)) (has_distinct_numbers ops) d))
 
 up_here : (n m : ℕ) → m ≤ n → n < 65536 → Some (n + 1) ≡ moved_up m (Some n)
 up_here n m le few = grind (arith, common_steps, nat_tests, le, few)
@@ -50,13 +51,12 @@ up_before n m lt = grind (arith, common_steps, nat_tests, lt)
 -- all from n on, one place later
 later : (id n m : ℕ) (ops : List Operation) → m ≤ n → n + length ops ≤ 65536 → position_from (λ o. o.id == id) (n + 1) ops ≡ moved_up m (position_from (λ o. o.id == id) n ops)
 later id n m [] le few = refl
-later id n m (o ∷ ops) le few = by_test (o.id == id)
+later id n m (o ∷ ops) le few = by_test (o.id == id) (later id (n + 1) m ops (omega arith) (omega (arith, few)))
   where
-    rest : position_from (λ x. x.id == id) (n + 1 + 1) ops ≡ moved_up m (position_from (λ x. x.id == id) (n + 1) ops)
-    rest = later id (n + 1) m ops (omega arith) (omega arith)
-    by_test : (b : Bool) → (if b then Some (n + 1) else position_from (λ x. x.id == id) (n + 1 + 1) ops) ≡ moved_up m (if b then Some n else position_from (λ x. x.id == id) (n + 1) ops)
-    by_test true = up_here n m le (omega arith)
-    by_test false = rest
+    by_test : (b : Bool) → position_from (λ x. x.id == id) (n + 1 + 1) ops ≡ moved_up m (position_from (λ x. x.id == id) (n + 1) ops)
+        → (if b then Some (n + 1) else position_from (λ x. x.id == id) (n + 1 + 1) ops) ≡ moved_up m (if b then Some n else position_from (λ x. x.id == id) (n + 1) ops)
+    by_test true rest = up_here n m le (omega (arith, few))
+    by_test false rest = rest
 
 -- a new operation stands where it came
 inserted_own : (id n q : ℕ) (ops : List Operation) (op : Operation) → q ≤ length ops → is_taken id ops ≡ false → (op.id == id) ≡ true
@@ -65,22 +65,21 @@ inserted_own id n zero ops op le new own = grind (arith, common_steps, own)
 inserted_own id n (suc q) [] op le new own = absurd (omega (arith, le))
 inserted_own id n (suc q) (o ∷ ops) op le new own =
     let next : n + 1 + q ≡ n + suc q = omega arith in
-    grind (arith, common_steps, or_left _ _ new, inserted_own id (n + 1) q ops op (omega (arith, le)) (or_right _ _ new) own, next)
+    grind (arith, common_steps, or_left (o.id == id) (is_taken id ops) new, inserted_own id (n + 1) q ops op (omega (arith, le)) (or_right (o.id == id) (is_taken id ops) new) own, next)
 
 -- the others follow it, or stay before it
 inserted_other : (id n q : ℕ) (ops : List Operation) (op : Operation) → n + length ops ≤ 65536 → (op.id == id) ≡ false
     → position_from (λ o. o.id == id) n (insert ops q op) ≡ moved_up (n + q) (position_from (λ o. o.id == id) n ops)
-inserted_other id n zero ops op few other = grind (common_steps, other, later id n (n + 0) ops (omega arith) few)
-inserted_other id n (suc q) [] op few other = grind (common_steps, other)
-inserted_other id n (suc q) (o ∷ ops) op few other = by_test (o.id == id)
+inserted_other id n zero ops op few other = grind (arith, common_steps, other, later id n (n + 0) ops (omega arith) few)
+inserted_other id n (suc q) [] op few other = grind (arith, common_steps, other)
+inserted_other id n (suc q) (o ∷ ops) op few other =
+    let next : n + 1 + q ≡ n + suc q = omega arith in
+    by_test (o.id == id) (inserted_other id (n + 1) q ops op (omega (arith, few)) other ∙ ap (λ k. moved_up k (position_from (λ x. x.id == id) (n + 1) ops)) next)
   where
-    next : n + 1 + q ≡ n + suc q
-    next = omega arith
-    rest : position_from (λ x. x.id == id) (n + 1) (insert ops q op) ≡ moved_up (n + suc q) (position_from (λ x. x.id == id) (n + 1) ops)
-    rest = inserted_other id (n + 1) q ops op (omega arith) other ∙ ap (λ k. moved_up k (position_from (λ x. x.id == id) (n + 1) ops)) next
-    by_test : (b : Bool) → (if b then Some n else position_from (λ x. x.id == id) (n + 1) (insert ops q op)) ≡ moved_up (n + suc q) (if b then Some n else position_from (λ x. x.id == id) (n + 1) ops)
-    by_test true = up_before n (n + suc q) (omega arith)
-    by_test false = rest
+    by_test : (b : Bool) → position_from (λ x. x.id == id) (n + 1) (insert ops q op) ≡ moved_up (n + suc q) (position_from (λ x. x.id == id) (n + 1) ops)
+        → (if b then Some n else position_from (λ x. x.id == id) (n + 1) (insert ops q op)) ≡ moved_up (n + suc q) (if b then Some n else position_from (λ x. x.id == id) (n + 1) ops)
+    by_test true rest = up_before n (n + suc q) (omega arith)
+    by_test false rest = rest
 
 down_here : (n m : ℕ) → m ≤ n → Some n ≡ moved_down m (Some (n + 1))
 down_here n m le = grind (arith, common_steps, nat_tests, le)
@@ -94,11 +93,12 @@ down_gone n = grind (arith, common_steps, nat_tests)
 -- all from n on, one place earlier
 earlier : (id n m : ℕ) (ops : List Operation) → m ≤ n → position_from (λ o. o.id == id) n ops ≡ moved_down m (position_from (λ o. o.id == id) (n + 1) ops)
 earlier id n m [] le = refl
-earlier id n m (o ∷ ops) le = by_test (o.id == id)
+earlier id n m (o ∷ ops) le = by_test (o.id == id) (earlier id (n + 1) m ops (omega arith))
   where
-    by_test : (b : Bool) → (if b then Some n else position_from (λ x. x.id == id) (n + 1) ops) ≡ moved_down m (if b then Some (n + 1) else position_from (λ x. x.id == id) (n + 1 + 1) ops)
-    by_test true = down_here n m le
-    by_test false = earlier id (n + 1) m ops (omega arith)
+    by_test : (b : Bool) → position_from (λ x. x.id == id) (n + 1) ops ≡ moved_down m (position_from (λ x. x.id == id) (n + 1 + 1) ops)
+        → (if b then Some n else position_from (λ x. x.id == id) (n + 1) ops) ≡ moved_down m (if b then Some (n + 1) else position_from (λ x. x.id == id) (n + 1 + 1) ops)
+    by_test true rest = down_here n m le
+    by_test false rest = rest
 
 removed_at : (id n q : ℕ) (ops : List Operation) → IsTrue (has_distinct_numbers ops)
     → position_from (λ o. o.id == id) n (remove ops q) ≡ moved_down (n + q) (position_from (λ o. o.id == id) n ops)
@@ -108,16 +108,18 @@ removed_at id n zero (o ∷ ops) d = by_test (o.id == id) refl
   where
     here : n ≡ n + 0
     here = omega arith
+
     by_test : (b : Bool) → (o.id == id) ≡ b → position_from (λ x. x.id == id) n ops ≡ moved_down (n + 0) (if b then Some n else position_from (λ x. x.id == id) (n + 1) ops)
     by_test true e = alone id n o ops d e ∙ down_gone n ∙ ap (λ k. moved_down k (Some n)) here
     by_test false e = earlier id n (n + 0) ops (omega arith)
-removed_at id n (suc q) (o ∷ ops) d = by_test (o.id == id)
+removed_at id n (suc q) (o ∷ ops) d =
+    let next : n + 1 + q ≡ n + suc q = omega arith in
+    by_test (o.id == id) (removed_at id (n + 1) q ops (and_right (not (is_taken o.id ops)) (has_distinct_numbers ops) d) ∙ ap (λ k. moved_down k (position_from (λ x. x.id == id) (n + 1) ops)) next)
   where
-    next : n + 1 + q ≡ n + suc q
-    next = omega arith
-    by_test : (b : Bool) → (if b then Some n else position_from (λ x. x.id == id) (n + 1) (remove ops q)) ≡ moved_down (n + suc q) (if b then Some n else position_from (λ x. x.id == id) (n + 1) ops)
-    by_test true = down_before n (n + suc q) (omega arith)
-    by_test false = removed_at id (n + 1) q ops (and_right _ _ d) ∙ ap (λ k. moved_down k (position_from (λ x. x.id == id) (n + 1) ops)) next
+    by_test : (b : Bool) → position_from (λ x. x.id == id) (n + 1) (remove ops q) ≡ moved_down (n + suc q) (position_from (λ x. x.id == id) (n + 1) ops)
+        → (if b then Some n else position_from (λ x. x.id == id) (n + 1) (remove ops q)) ≡ moved_down (n + suc q) (if b then Some n else position_from (λ x. x.id == id) (n + 1) ops)
+    by_test true rest = down_before n (n + suc q) (omega arith)
+    by_test false rest = rest
 
 left_else : (n m : ℕ) → m < n → Some n ≡ given_up m (Some n)
 left_else n m lt = grind (arith, common_steps, nat_tests, lt)
@@ -131,25 +133,29 @@ left_gone n = grind (arith, common_steps, nat_tests)
 -- what stands behind a place doesn't stand there
 behind : (id n m : ℕ) (ops : List Operation) → m < n → position_from (λ o. o.id == id) n ops ≡ given_up m (position_from (λ o. o.id == id) n ops)
 behind id n m [] lt = refl
-behind id n m (o ∷ ops) lt = by_test (o.id == id)
+behind id n m (o ∷ ops) lt = by_test (o.id == id) (behind id (n + 1) m ops (omega arith))
   where
-    by_test : (b : Bool) → (if b then Some n else position_from (λ x. x.id == id) (n + 1) ops) ≡ given_up m (if b then Some n else position_from (λ x. x.id == id) (n + 1) ops)
-    by_test true = left_else n m lt
-    by_test false = behind id (n + 1) m ops (omega arith)
+    by_test : (b : Bool) → position_from (λ x. x.id == id) (n + 1) ops ≡ given_up m (position_from (λ x. x.id == id) (n + 1) ops)
+        → (if b then Some n else position_from (λ x. x.id == id) (n + 1) ops) ≡ given_up m (if b then Some n else position_from (λ x. x.id == id) (n + 1) ops)
+    by_test true rest = left_else n m lt
+    by_test false rest = rest
 
 -- an operation that came for another stands there, where its number stood nowhere else
 exchanged_own : (id n q : ℕ) (ops : List Operation) (op : Operation) → q < length ops → ((p : ℕ) → position_from (λ o. o.id == id) n ops ≡ Some p → p ≡ n + q) → (op.id == id) ≡ true
     → position_from (λ o. o.id == id) n (slice_set ops q op) ≡ Some (n + q)
 exchanged_own id n q [] op lt only own = absurd (omega (arith, lt))
 exchanged_own id n zero (o ∷ ops) op lt only own = grind (arith, common_steps, own)
-exchanged_own id n (suc q) (o ∷ ops) op lt only own = by_test (o.id == id) only
+exchanged_own id n (suc q) (o ∷ ops) op lt only own =
+    by_test (o.id == id) only (λ alone. exchanged_own id (n + 1) q ops op (omega (arith, lt)) alone own)
   where
     next : n + 1 + q ≡ n + suc q
     next = omega arith
+
     by_test : (b : Bool) → ((p : ℕ) → (if b then Some n else position_from (λ x. x.id == id) (n + 1) ops) ≡ Some p → p ≡ n + suc q)
+        → (((p : ℕ) → position_from (λ x. x.id == id) (n + 1) ops ≡ Some p → p ≡ n + 1 + q) → position_from (λ x. x.id == id) (n + 1) (slice_set ops q op) ≡ Some (n + 1 + q))
         → (if b then Some n else position_from (λ x. x.id == id) (n + 1) (slice_set ops q op)) ≡ Some (n + suc q)
-    by_test true only = let e : n ≡ n + suc q = only n refl in absurd (omega (arith, e))
-    by_test false only = exchanged_own id (n + 1) q ops op (omega (arith, lt)) (λ p e. only p e ∙ sym next) own ∙ ap Some next
+    by_test true only rest = let e : n ≡ n + suc q = only n refl in absurd (omega (arith, e))
+    by_test false only rest = rest (λ p e. only p e ∙ sym next) ∙ ap Some next
 
 -- the others stay
 exchanged_other : (id n q : ℕ) (ops : List Operation) (op : Operation) → IsTrue (has_distinct_numbers ops) → (op.id == id) ≡ false
@@ -159,18 +165,21 @@ exchanged_other id n zero (o ∷ ops) op d other = by_test (o.id == id) refl
   where
     here : n ≡ n + 0
     here = omega arith
+
     first : position_from (λ x. x.id == id) n (op ∷ ops) ≡ position_from (λ x. x.id == id) (n + 1) ops
-    first = grind (common_steps, other)
+    first = grind (arith, common_steps, other)
+
     by_test : (b : Bool) → (o.id == id) ≡ b → position_from (λ x. x.id == id) n (op ∷ ops) ≡ given_up (n + 0) (if b then Some n else position_from (λ x. x.id == id) (n + 1) ops)
     by_test true e = first ∙ alone id (n + 1) o ops d e ∙ left_gone n ∙ ap (λ k. given_up k (Some n)) here
     by_test false e = first ∙ behind id (n + 1) (n + 0) ops (omega arith)
-exchanged_other id n (suc q) (o ∷ ops) op d other = by_test (o.id == id)
+exchanged_other id n (suc q) (o ∷ ops) op d other =
+    let next : n + 1 + q ≡ n + suc q = omega arith in
+    by_test (o.id == id) (exchanged_other id (n + 1) q ops op (and_right (not (is_taken o.id ops)) (has_distinct_numbers ops) d) other ∙ ap (λ k. given_up k (position_from (λ x. x.id == id) (n + 1) ops)) next)
   where
-    next : n + 1 + q ≡ n + suc q
-    next = omega arith
-    by_test : (b : Bool) → (if b then Some n else position_from (λ x. x.id == id) (n + 1) (slice_set ops q op)) ≡ given_up (n + suc q) (if b then Some n else position_from (λ x. x.id == id) (n + 1) ops)
-    by_test true = left_before n (n + suc q) (omega arith)
-    by_test false = exchanged_other id (n + 1) q ops op (and_right _ _ d) other ∙ ap (λ k. given_up k (position_from (λ x. x.id == id) (n + 1) ops)) next
+    by_test : (b : Bool) → position_from (λ x. x.id == id) (n + 1) (slice_set ops q op) ≡ given_up (n + suc q) (position_from (λ x. x.id == id) (n + 1) ops)
+        → (if b then Some n else position_from (λ x. x.id == id) (n + 1) (slice_set ops q op)) ≡ given_up (n + suc q) (if b then Some n else position_from (λ x. x.id == id) (n + 1) ops)
+    by_test true rest = left_before n (n + suc q) (omega arith)
+    by_test false rest = rest
 
 own_up : (b : Bool) (id q : ℕ) (ops : List Operation) (op : Operation) → (op.id == id) ≡ b → q ≤ length ops → is_taken op.id ops ≡ false → length ops ≤ 65536
     → place_of id (insert ops q op) ≡ (if b then Some q else moved_up q (place_of id ops))
@@ -213,3 +222,41 @@ free_nowhere id q ops free p at = let none : place_of id ops ≡ None = nowhere 
 pub shifted_more : (shifts : List Shift) (s : Shift) (id : ℕ) (at : Option ℕ) → shifted_by (shifts ++ s ∷ []) id at ≡ shifted s id (shifted_by shifts id at)
 shifted_more [] s id at = refl
 shifted_more (t ∷ shifts) s id at = shifted_more shifts s id (shifted t id at)
+
+-- a place is within the list
+within : (id n q : ℕ) (ops : List Operation) → position_from (λ o. o.id == id) n ops ≡ Some q → q < n + length ops
+within id n q [] e = absurd cc
+within id n q (o ∷ ops) e = by_test (o.id == id) e (within id (n + 1) q ops)
+  where
+    by_test : (b : Bool) → (if b then Some n else position_from (λ x. x.id == id) (n + 1) ops) ≡ Some q
+        → (position_from (λ x. x.id == id) (n + 1) ops ≡ Some q → q < n + 1 + length ops) → q < n + suc (length ops)
+    by_test true at rest = let here : n ≡ q = cc in omega (arith, here)
+    by_test false at rest = let lt : q < n + 1 + length ops = rest at in omega (arith, lt)
+
+pub place_within : (id q : ℕ) (ops : List Operation) → place_of id ops ≡ Some q → q < length ops
+place_within id q ops e = let lt : q < 0 + length ops = within id 0 q ops e in omega (arith, lt)
+
+pub some_within : (id : ℕ) (ops : List Operation) (place : Option ℕ) → place ≡ place_of id ops → IfSome place (λ p. p < length ops)
+some_within id ops None e = tt
+some_within id ops (Some p) e = place_within id p ops (sym e)
+
+-- a walk from the end comes to an operation whose number is wanted
+pub one_back : (id i : ℕ) (ops : List Operation) (op : Operation) (b : Bool) (new old : Option (Option ℕ)) (at : Option ℕ) → i < length ops → op ≡ get_or ops i op → (op.id == id) ≡ b
+    → new ≡ (if b then Some (Some i) else old) → (old ≡ Some at → at ≡ position_from (λ o. o.id == id) (i + 1) (drop (i + 1) ops)) → new ≡ Some at
+    → at ≡ position_from (λ o. o.id == id) i (drop i ops)
+one_back id i ops op true new old at lt is t n inv e =
+    let same : Some (Some i) ≡ Some at = sym n ∙ e in
+    let here : at ≡ Some i = cc in
+    here ∙ sym (position-here id i ops op true lt is t)
+one_back id i ops op false new old at lt is t n inv e = inv (sym n ∙ e) ∙ sym (position-here id i ops op false lt is t)
+
+-- a number that is wanted is not one that isn't
+pub unlike : (f : ℕ → Option (Option ℕ)) (x id : ℕ) (at : Option ℕ) → is_some (f x) ≡ false → f id ≡ Some at → (x == id) ≡ false
+unlike f x id at none e = by_test (x == id) refl
+  where
+    by_test : (b : Bool) → (x == id) ≡ b → b ≡ false
+    by_test true t =
+        let same : x ≡ id = grind (arith, nat_tests, t) in
+        let some : is_some (f x) ≡ true = ap (λ k. is_some (f k)) same ∙ ap is_some e in
+        absurd cc
+    by_test false t = refl

@@ -1,4 +1,5 @@
 pub mod Edited
+pub mod Shifts
 pub mod Part
 pub mod Stretch
 pub mod Marks

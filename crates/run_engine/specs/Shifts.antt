@@ -25,6 +25,6 @@ shifted (Removed at) id place = moved_down at place
 shifted (Exchanged at new) id place = if new == id then Some at else given_up at place
 
 -- the same after edits in order
-pub shifted_by : List Shift → ℕ → Option ℕ → Option ℕ
+abbrev pub shifted_by : List Shift → ℕ → Option ℕ → Option ℕ
 shifted_by [] id place = place
 shifted_by (s ∷ shifts) id place = shifted_by shifts id (shifted s id place)

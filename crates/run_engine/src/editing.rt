@@ -22,7 +22,7 @@ pub struct Editing<'a> {
 }
 
 impl<'a> Model for Editing<'a> {
-    ghost use Rattle.std.specs.Prelude.{ℕ, List, Option, Some};
+    ghost use Rattle.std.specs.Prelude.{◌≡◌, ℕ, List, Option, Some};
     ghost use Rattle.std.specs.Ordering.{nat_cmp};
     ghost use Rattle.std.specs.BTreeMap.{get};
     ghost use Rattle.trace_types.specs.Operation.{Operation};
@@ -41,7 +41,7 @@ impl<'a> Editing<'a> {
     /// A trace that these edits will change.
     pub fn new(alloc: Global, ops: Listing<'a>, batch: &[Edit]) -> Result<Self, AllocError>
         requires { IsTrace ops }
-        ensures { IfOk result (λ e. e ≡ ops) }
+        ensures { IfOk result (λ e. e ≡ ops.entry) }
     {
         let named = named_by(alloc, batch)?;
         let first = placed(named, &ops)?;
@@ -54,8 +54,8 @@ impl<'a> Editing<'a> {
 
     /// The trace as it stands.
     pub fn into_ops(self) -> Listing<'a>
-        ensures value { result ≡ self }
-        ensures trace { IsTrace self }
+        ensures value { result ≡ self.entry }
+        ensures trace { IsTrace result }
     {
         self.ops
     }
@@ -125,20 +125,25 @@ fn named_by(alloc: Global, batch: &[Edit]) -> Result<BTreeMap<u32, Option<usize>
 {
     let mut named = BTreeMap::new(alloc);
     for edit in batch {
-        match edit {
-            Edit::Insert { after, op } => {
-                named.insert(*after, None)?;
-                named.insert(op.id(), None)?;
-            }
-            Edit::Remove { id } => {
-                named.insert(*id, None)?;
-            }
-            Edit::Change { id, op } => {
-                named.insert(*id, None)?;
-                named.insert(op.id(), None)?;
-            }
-        }
+        named = match edit {
+            Edit::Insert { after, op } => with(with(named, *after)?, op.id())?,
+            Edit::Remove { id } => with(named, *id)?,
+            Edit::Change { id, op } => with(with(named, *id)?, op.id())?,
+        };
     }
+    Ok(named)
+}
+
+// One number more.
+fn with(
+    named: BTreeMap<u32, Option<usize>>,
+    id: u32,
+) -> Result<BTreeMap<u32, Option<usize>>, AllocError>
+    requires { (id : ℕ) (at : Option ℕ) → get nat_cmp named id ≡ Some at → at ≡ None }
+    ensures { IfOk result (λ m. (id : ℕ) (at : Option ℕ) → get nat_cmp m id ≡ Some at → at ≡ None) }
+{
+    let mut named = named;
+    named.insert(id, None)?;
     Ok(named)
 }
 

@@ -54,8 +54,8 @@ pub(crate) fn edited<'a>(
     requires trace { IsTrace ops }
     requires some { 0 < length batch.now }
     requires few { length batch.now ≤ 64 }
-    ensures ok { IfOk result (λ r. edited_by ops batch.now ≡ Ok r) }
-    ensures fault { IfErr result (λ e. (e ≡ Memory) ⊎ (edited_by ops batch.now ≡ Err e)) }
+    ensures ok { IfOk result (λ r. edited_by ops.entry batch.now ≡ Ok r) }
+    ensures fault { IfErr result (λ e. (e ≡ Memory) ⊎ (edited_by ops.entry batch.now ≡ Err e)) }
     ensures trace { IfOk result (λ r. IsTrace r) }
 {
     let Ok(mut editing) = Editing::new(alloc, ops, batch) else {

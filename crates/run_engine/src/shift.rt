@@ -77,13 +77,7 @@ fn left(at: usize, place: Option<usize>) -> Option<usize>
 {
     match place {
         None => None,
-        Some(place) => {
-            if place == at {
-                None
-            } else {
-                Some(place)
-            }
-        }
+        Some(place) => { if place == at { None } else { Some(place) } }
     }
 }
 
