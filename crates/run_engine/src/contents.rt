@@ -22,9 +22,10 @@ pub fn len_in(segments: &[Segment]) -> usize
 
 /// The operations, where they stand.
 pub fn ops_in<'a>(alloc: Global, segments: &'a [Segment]) -> Result<Listing<'a>, AllocError>
+    requires { length (trace_of segments.now) ≤ 65536 }
     ensures { IfOk result (λ v. v ≡ trace_of segments.now) }
 {
-    let mut ops = Listing::empty(alloc);
+    let mut ops = Listing::with_room(alloc, len_in(segments))?;
     for segment in segments {
         ops.extend(segment.ops())?;
     }

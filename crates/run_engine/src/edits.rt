@@ -7,7 +7,7 @@ ghost use Rattle.run_engine.specs.Edited.{place_after, inserted, removed, change
 use crate::editing::Editing;
 use crate::faults::RunFault;
 use crate::listing::Listing;
-use std::alloc::Global;
+use std::alloc::{AllocError, Global};
 use trace_types::edits::{Batch, Edit};
 use trace_types::ops::Op;
 use trace_types::trace::{MAX_OPS, Trace};
@@ -24,11 +24,19 @@ pub fn apply(alloc: Global, trace: &Trace, batch: &Batch) -> Result<Trace, RunFa
     ensures too_many { 64 < length batch.now → result ≡ Err TooManyEdits }
 {
     try_size(batch.len())?;
-    let mut ops = Listing::empty(alloc);
-    if ops.extend(trace.as_slice()).is_err() {
+    let Ok(ops) = listed(alloc, trace.as_slice()) else {
         return Err(RunFault::Memory);
-    }
+    };
     copied(alloc, &edited(alloc, ops, batch.as_slice())?)
+}
+
+// The operations, where they stand.
+fn listed<'a>(alloc: Global, all: &'a [Op]) -> Result<Listing<'a>, AllocError>
+    ensures { IfOk result (λ l. l ≡ all.now) }
+{
+    let mut ops = Listing::with_room(alloc, all.len())?;
+    ops.extend(all)?;
+    Ok(ops)
 }
 
 /// Whether a batch may have so many edits.

@@ -25,13 +25,13 @@ impl<'a> Model for Listing<'a> {
 }
 
 impl<'a> Listing<'a> {
-    /// Takes no memory.
-    pub fn empty(alloc: Global) -> Self
-        ensures { result ≡ [] }
+    /// No operation, with room for so many.
+    pub fn with_room(alloc: Global, len: usize) -> Result<Self, AllocError>
+        ensures { IfOk result (λ l. l ≡ []) }
     {
-        Listing {
-            ops: Vec::new(alloc),
-        }
+        Ok(Listing {
+            ops: Vec::with_capacity(alloc, len)?,
+        })
     }
 
     pub fn len(&self) -> usize
