@@ -1,5 +1,5 @@
 //! All of an input, read before any of it is parsed.
-ghost use Rattle.std.specs.Prelude.{◌≡◌, ℕ, ◌≤◌, List, length, true, IfOk, vec_len, IsErrOf};
+ghost use Rattle.std.specs.Prelude.{◌≡◌, ◌≢◌, ℕ, ◌≤◌, List, length, true, IfOk, IfErr, OnOk, vec_len, IsErrOf};
 ghost use Rattle.std.specs.Io.KnownBytes.{Consumes, IsAtEnd};
 
 use std::alloc::Global;
@@ -26,6 +26,8 @@ pub fn read_all<S: Source>(alloc: Global, source: &mut S) -> Result<Vec<u8>, Inp
     ensures too_long { IsErrOf result InputFault.TooLong → ((bytes : List ℕ)
         × Consumes (S.left source.old) (S.left source.new) bytes × (length bytes ≡ 300000001)) }
     ensures device { IsErrOf result InputFault.Device → S.failed source.new ≡ true }
+    ensures read { OnOk result (S.failed source.new ≡ S.failed source.old) }
+    ensures other { IfErr result (λ e. e ≢ InputFault.Device → S.failed source.new ≡ S.failed source.old) }
 {
     let mut all = Vec::new(alloc);
     let mut piece = [0u8; 65_536];

@@ -1,5 +1,5 @@
 //! The command `replay`: a trace in, its report out.
-ghost use Rattle.std.specs.Prelude.{◌≡◌, ◌⊎◌, true, IfOk, IfErr};
+ghost use Rattle.std.specs.Prelude.{◌≡◌, ◌≢◌, ◌⊎◌, true, IfOk, IfErr};
 ghost use Rattle.command_serve.specs.Serve.{Serves, exit_of};
 ghost use Rattle.command_serve.specs.Replay.{replay_due, report_of_replay};
 
@@ -19,6 +19,7 @@ use trace_types::trace::Trace;
 pub fn serve_replay<S: Source, K: Sink>(alloc: Global, source: &mut S, sink: &mut K) -> Exit
     ensures served { Serves replay_due (S.left source.old) (S.left source.new) (K.held sink.old) (K.held sink.new) result }
     ensures device { result ≡ Exit.Device → ((S.failed source.new ≡ true) ⊎ (K.failed sink.new ≡ true)) }
+    ensures other { result ≢ Exit.Device → (S.failed source.new ≡ S.failed source.old) × (K.failed sink.new ≡ K.failed sink.old) }
 {
     serve::<Replay, S, K>(alloc, source, sink)
 }

@@ -1,5 +1,5 @@
 //! The command `script`: a trace and requests in, the replies and the last version's report out.
-ghost use Rattle.std.specs.Prelude.{◌≡◌, ◌⊎◌, ◌++◌, ◌∷◌, [], true, string_bytes, IfOk, IfErr, OnOk};
+ghost use Rattle.std.specs.Prelude.{◌≡◌, ◌≢◌, ◌⊎◌, ◌++◌, ◌∷◌, [], true, string_bytes, IfOk, IfErr, OnOk};
 ghost use Rattle.command_serve.specs.Serve.{Serves, exit_of};
 ghost use Rattle.edit_desk.specs.Answers.{reply_to, after};
 ghost use Rattle.edit_desk.specs.ReplyText.{reply_text};
@@ -20,6 +20,7 @@ use trace_types::devices::{Sink, Source};
 pub fn serve_script<S: Source, K: Sink>(alloc: Global, source: &mut S, sink: &mut K) -> Exit
     ensures served { Serves script_due (S.left source.old) (S.left source.new) (K.held sink.old) (K.held sink.new) result }
     ensures device { result ≡ Exit.Device → ((S.failed source.new ≡ true) ⊎ (K.failed sink.new ≡ true)) }
+    ensures other { result ≢ Exit.Device → (S.failed source.new ≡ S.failed source.old) × (K.failed sink.new ≡ K.failed sink.old) }
 {
     serve::<Replies, S, K>(alloc, source, sink)
 }

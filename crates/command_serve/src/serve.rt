@@ -1,5 +1,5 @@
 //! Serving a command: all of the input in, and then the whole text that is due out.
-ghost use Rattle.std.specs.Prelude.{◌≡◌, ◌⊎◌, ℕ, List, true, codes, IfOk, IfErr};
+ghost use Rattle.std.specs.Prelude.{◌≡◌, ◌≢◌, ◌⊎◌, ℕ, List, true, codes, IfOk, IfErr, OnOk};
 ghost use Rattle.trace_types.specs.Devices.{IsInput};
 ghost use Rattle.command_serve.specs.Serve.{Due, Serves, IsRead, due_of, exit_of};
 
@@ -26,6 +26,7 @@ pub trait Answers {
 pub fn serve<C: Answers, S: Source, K: Sink>(alloc: Global, source: &mut S, sink: &mut K) -> Exit
     ensures served { Serves C.due (S.left source.old) (S.left source.new) (K.held sink.old) (K.held sink.new) result }
     ensures device { result ≡ Exit.Device → ((S.failed source.new ≡ true) ⊎ (K.failed sink.new ≡ true)) }
+    ensures other { result ≢ Exit.Device → (S.failed source.new ≡ S.failed source.old) × (K.failed sink.new ≡ K.failed sink.old) }
 {
     let (text, exit) = match answered::<C, S>(alloc, source) {
         Ok(answer) => answer,
@@ -42,6 +43,8 @@ fn answered<C: Answers, S: Source>(alloc: Global, source: &mut S) -> Result<(Vec
     ensures ok { IfOk result (λ r. (input : List ℕ) × IsInput (S.left source.old) input × IsRead (S.left source.old) (S.left source.new) input
         × (r.0.items ≡ (due_of C.due input).text) × (r.1 ≡ exit_of (due_of C.due input))) }
     ensures err { IfErr result (λ e. (e ≡ Exit.Memory) ⊎ ((e ≡ Exit.Device) × (S.failed source.new ≡ true))) }
+    ensures read { OnOk result (S.failed source.new ≡ S.failed source.old) }
+    ensures other { IfErr result (λ e. e ≢ Exit.Device → S.failed source.new ≡ S.failed source.old) }
 {
     match read_all(alloc, source) {
         Ok(input) => C::answer(alloc, input.as_slice()),

@@ -1,5 +1,5 @@
 //! The command `whatif`: a trace and one request in, the edited trace and its report out.
-ghost use Rattle.std.specs.Prelude.{◌≡◌, ◌⊎◌, ◌++◌, ◌∷◌, [], codes, true, string_bytes, IfOk, IfErr};
+ghost use Rattle.std.specs.Prelude.{◌≡◌, ◌≢◌, ◌⊎◌, ◌++◌, ◌∷◌, [], codes, true, string_bytes, IfOk, IfErr};
 ghost use Rattle.trace_reader.specs.Writing.{lines_text};
 ghost use Rattle.run_engine.specs.Edited.{edited_by};
 ghost use Rattle.edit_desk.specs.ReplyText.{reply_text};
@@ -27,6 +27,7 @@ use trace_types::trace::Trace;
 pub fn serve_whatif<S: Source, K: Sink>(alloc: Global, source: &mut S, sink: &mut K) -> Exit
     ensures served { Serves whatif_due (S.left source.old) (S.left source.new) (K.held sink.old) (K.held sink.new) result }
     ensures device { result ≡ Exit.Device → ((S.failed source.new ≡ true) ⊎ (K.failed sink.new ≡ true)) }
+    ensures other { result ≢ Exit.Device → (S.failed source.new ≡ S.failed source.old) × (K.failed sink.new ≡ K.failed sink.old) }
 {
     serve::<Whatif, S, K>(alloc, source, sink)
 }

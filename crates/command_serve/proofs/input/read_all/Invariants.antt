@@ -1,4 +1,4 @@
-use Rattle.std.proofs.Common.{◌-◌, ◌≤◌, vec_len}
+use Rattle.std.proofs.Common.{◌≡◌, ◌-◌, ◌≤◌, vec_len}
 use Rattle.std.specs.Io.KnownBytes.{Consumes}
 use Rattle.command_serve.proofs.input.read_all.Given as goal
 
@@ -6,6 +6,7 @@ abbrev pub invariant-reads : goal.invariant-reads
 invariant-reads g l = record {
   within : vec_len l.all ≤ 300000001;
   taken : Consumes (g.S.Source.left l.initial.source) (g.S.Source.left l.source) l.all.items;
+  flag : g.S.Source.failed l.source ≡ g.S.Source.failed l.initial.source;
 }
 
 abbrev pub decreases-reads : goal.decreases-reads
