@@ -67,7 +67,7 @@ impl Published {
     }
 }
 
-/// The run of the version's trace after edits, which nobody else sees. The meter counts what is stepped.
+/// The run of the version's trace after edits, which nobody else sees. The meter rises as with `Run::edited`.
 pub fn what_if(
     alloc: Global,
     published: &Published,

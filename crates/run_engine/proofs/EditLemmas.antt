@@ -23,11 +23,11 @@ both : (a b : Bool) → IsTrue a → IsTrue b → IsTrue (a && b)
 both true b p q = q
 both false b p q = absurd cc
 
-left : (a b : Bool) → IsTrue (a && b) → IsTrue a
+pub left : (a b : Bool) → IsTrue (a && b) → IsTrue a
 left true b p = refl
 left false b p = absurd cc
 
-right : (a b : Bool) → IsTrue (a && b) → IsTrue b
+pub right : (a b : Bool) → IsTrue (a && b) → IsTrue b
 right true b p = p
 right false b p = absurd cc
 

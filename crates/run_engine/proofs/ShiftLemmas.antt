@@ -9,7 +9,8 @@ use Rattle.trace_types.specs.Trace.{place_of, is_taken, has_distinct_numbers}
 use Rattle.run_engine.specs.declared.shift.Shift.{Shift}
 use Rattle.run_engine.specs.declared.shift.Shift.TheVariants.{Inserted, Removed, Exchanged}
 use Rattle.run_engine.proofs.ListingLemmas.{position-here}
-use Rattle.run_engine.specs.Shifts.{moved_up, moved_down, given_up, shifted, shifted_by}
+use Rattle.run_engine.proofs.EditLemmas.{left, right}
+use Rattle.run_engine.specs.Shifts.{moved_up, moved_down, vacated, shifted, shifted_by}
 
 or_left : (a b : Bool) → (a || b) ≡ false → a ≡ false
 or_left true b e = absurd cc
@@ -18,14 +19,6 @@ or_left false b e = refl
 or_right : (a b : Bool) → (a || b) ≡ false → b ≡ false
 or_right true b e = absurd cc
 or_right false b e = e
-
-and_left : (a b : Bool) → IsTrue (a && b) → IsTrue a
-and_left true b e = refl
-and_left false b e = absurd cc
-
-and_right : (a b : Bool) → IsTrue (a && b) → IsTrue b
-and_right true b e = e
-and_right false b e = absurd cc
 
 untrue : (a : Bool) → IsTrue (not a) → a ≡ false
 untrue true e = absurd cc
@@ -40,7 +33,7 @@ nowhere id n (o ∷ ops) e = grind (arith, common_steps, or_left (o.id == id) (i
 alone : (id n : ℕ) (o : Operation) (ops : List Operation) → IsTrue (has_distinct_numbers (o ∷ ops)) → (o.id == id) ≡ true → position_from (λ x. x.id == id) n ops ≡ None
 alone id n o ops d e =
     let same : o.id ≡ id = grind (arith, nat_tests, e) in
-    nowhere id n ops (ap (λ k. is_taken k ops) (sym same) ∙ untrue (is_taken o.id ops) (and_left (not (is_taken o.id ops)) (has_distinct_numbers ops) d))
+    nowhere id n ops (ap (λ k. is_taken k ops) (sym same) ∙ untrue (is_taken o.id ops) (left (not (is_taken o.id ops)) (has_distinct_numbers ops) d))
 
 up_here : (n m : ℕ) → m ≤ n → n < 65536 → Some (n + 1) ≡ moved_up m (Some n)
 up_here n m le few = grind (arith, common_steps, nat_tests, le, few)
@@ -114,29 +107,29 @@ removed_at id n zero (o ∷ ops) d = by_test (o.id == id) refl
     by_test false e = earlier id n (n + 0) ops (omega arith)
 removed_at id n (suc q) (o ∷ ops) d =
     let next : n + 1 + q ≡ n + suc q = omega arith in
-    by_test (o.id == id) (removed_at id (n + 1) q ops (and_right (not (is_taken o.id ops)) (has_distinct_numbers ops) d) ∙ ap (λ k. moved_down k (position_from (λ x. x.id == id) (n + 1) ops)) next)
+    by_test (o.id == id) (removed_at id (n + 1) q ops (right (not (is_taken o.id ops)) (has_distinct_numbers ops) d) ∙ ap (λ k. moved_down k (position_from (λ x. x.id == id) (n + 1) ops)) next)
   where
     by_test : (b : Bool) → position_from (λ x. x.id == id) (n + 1) (remove ops q) ≡ moved_down (n + suc q) (position_from (λ x. x.id == id) (n + 1) ops)
         → (if b then Some n else position_from (λ x. x.id == id) (n + 1) (remove ops q)) ≡ moved_down (n + suc q) (if b then Some n else position_from (λ x. x.id == id) (n + 1) ops)
     by_test true rest = down_before n (n + suc q) (omega arith)
     by_test false rest = rest
 
-left_else : (n m : ℕ) → m < n → Some n ≡ given_up m (Some n)
+left_else : (n m : ℕ) → m < n → Some n ≡ vacated m (Some n)
 left_else n m lt = grind (arith, common_steps, nat_tests, lt)
 
-left_before : (n m : ℕ) → n < m → Some n ≡ given_up m (Some n)
+left_before : (n m : ℕ) → n < m → Some n ≡ vacated m (Some n)
 left_before n m lt = grind (arith, common_steps, nat_tests, lt)
 
-left_gone : (n : ℕ) → None ≡ given_up n (Some n)
+left_gone : (n : ℕ) → None ≡ vacated n (Some n)
 left_gone n = grind (arith, common_steps, nat_tests)
 
 -- what stands behind a place doesn't stand there
-behind : (id n m : ℕ) (ops : List Operation) → m < n → position_from (λ o. o.id == id) n ops ≡ given_up m (position_from (λ o. o.id == id) n ops)
+behind : (id n m : ℕ) (ops : List Operation) → m < n → position_from (λ o. o.id == id) n ops ≡ vacated m (position_from (λ o. o.id == id) n ops)
 behind id n m [] lt = refl
 behind id n m (o ∷ ops) lt = by_test (o.id == id) (behind id (n + 1) m ops (omega arith))
   where
-    by_test : (b : Bool) → position_from (λ x. x.id == id) (n + 1) ops ≡ given_up m (position_from (λ x. x.id == id) (n + 1) ops)
-        → (if b then Some n else position_from (λ x. x.id == id) (n + 1) ops) ≡ given_up m (if b then Some n else position_from (λ x. x.id == id) (n + 1) ops)
+    by_test : (b : Bool) → position_from (λ x. x.id == id) (n + 1) ops ≡ vacated m (position_from (λ x. x.id == id) (n + 1) ops)
+        → (if b then Some n else position_from (λ x. x.id == id) (n + 1) ops) ≡ vacated m (if b then Some n else position_from (λ x. x.id == id) (n + 1) ops)
     by_test true rest = left_else n m lt
     by_test false rest = rest
 
@@ -159,7 +152,7 @@ exchanged_own id n (suc q) (o ∷ ops) op lt only own =
 
 -- the others stay
 exchanged_other : (id n q : ℕ) (ops : List Operation) (op : Operation) → IsTrue (has_distinct_numbers ops) → (op.id == id) ≡ false
-    → position_from (λ o. o.id == id) n (slice_set ops q op) ≡ given_up (n + q) (position_from (λ o. o.id == id) n ops)
+    → position_from (λ o. o.id == id) n (slice_set ops q op) ≡ vacated (n + q) (position_from (λ o. o.id == id) n ops)
 exchanged_other id n q [] op d other = refl
 exchanged_other id n zero (o ∷ ops) op d other = by_test (o.id == id) refl
   where
@@ -169,15 +162,15 @@ exchanged_other id n zero (o ∷ ops) op d other = by_test (o.id == id) refl
     first : position_from (λ x. x.id == id) n (op ∷ ops) ≡ position_from (λ x. x.id == id) (n + 1) ops
     first = grind (arith, common_steps, other)
 
-    by_test : (b : Bool) → (o.id == id) ≡ b → position_from (λ x. x.id == id) n (op ∷ ops) ≡ given_up (n + 0) (if b then Some n else position_from (λ x. x.id == id) (n + 1) ops)
-    by_test true e = first ∙ alone id (n + 1) o ops d e ∙ left_gone n ∙ ap (λ k. given_up k (Some n)) here
+    by_test : (b : Bool) → (o.id == id) ≡ b → position_from (λ x. x.id == id) n (op ∷ ops) ≡ vacated (n + 0) (if b then Some n else position_from (λ x. x.id == id) (n + 1) ops)
+    by_test true e = first ∙ alone id (n + 1) o ops d e ∙ left_gone n ∙ ap (λ k. vacated k (Some n)) here
     by_test false e = first ∙ behind id (n + 1) (n + 0) ops (omega arith)
 exchanged_other id n (suc q) (o ∷ ops) op d other =
     let next : n + 1 + q ≡ n + suc q = omega arith in
-    by_test (o.id == id) (exchanged_other id (n + 1) q ops op (and_right (not (is_taken o.id ops)) (has_distinct_numbers ops) d) other ∙ ap (λ k. given_up k (position_from (λ x. x.id == id) (n + 1) ops)) next)
+    by_test (o.id == id) (exchanged_other id (n + 1) q ops op (right (not (is_taken o.id ops)) (has_distinct_numbers ops) d) other ∙ ap (λ k. vacated k (position_from (λ x. x.id == id) (n + 1) ops)) next)
   where
-    by_test : (b : Bool) → position_from (λ x. x.id == id) (n + 1) (slice_set ops q op) ≡ given_up (n + suc q) (position_from (λ x. x.id == id) (n + 1) ops)
-        → (if b then Some n else position_from (λ x. x.id == id) (n + 1) (slice_set ops q op)) ≡ given_up (n + suc q) (if b then Some n else position_from (λ x. x.id == id) (n + 1) ops)
+    by_test : (b : Bool) → position_from (λ x. x.id == id) (n + 1) (slice_set ops q op) ≡ vacated (n + suc q) (position_from (λ x. x.id == id) (n + 1) ops)
+        → (if b then Some n else position_from (λ x. x.id == id) (n + 1) (slice_set ops q op)) ≡ vacated (n + suc q) (if b then Some n else position_from (λ x. x.id == id) (n + 1) ops)
     by_test true rest = left_before n (n + suc q) (omega arith)
     by_test false rest = rest
 
@@ -201,14 +194,14 @@ place_removed id q ops d =
     removed_at id 0 q ops d ∙ ap (λ k. moved_down k (place_of id ops)) here
 
 own_or_left : (b : Bool) (id q : ℕ) (ops : List Operation) (op : Operation) → (op.id == id) ≡ b → q < length ops → IsTrue (has_distinct_numbers ops)
-    → ((p : ℕ) → place_of op.id ops ≡ Some p → p ≡ q) → place_of id (slice_set ops q op) ≡ (if b then Some q else given_up q (place_of id ops))
+    → ((p : ℕ) → place_of op.id ops ≡ Some p → p ≡ q) → place_of id (slice_set ops q op) ≡ (if b then Some q else vacated q (place_of id ops))
 own_or_left true id q ops op e lt d only =
     let same : op.id ≡ id = grind (arith, nat_tests, e) in
     let here : 0 + q ≡ q = omega arith in
     exchanged_own id 0 q ops op lt (λ p at. only p (ap (λ k. place_of k ops) same ∙ at) ∙ sym here) e ∙ ap Some here
 own_or_left false id q ops op e lt d only =
     let here : 0 + q ≡ q = omega arith in
-    exchanged_other id 0 q ops op d e ∙ ap (λ k. given_up k (place_of id ops)) here
+    exchanged_other id 0 q ops op d e ∙ ap (λ k. vacated k (place_of id ops)) here
 
 pub place_exchanged : (id q : ℕ) (ops : List Operation) (op : Operation) → q < length ops → IsTrue (has_distinct_numbers ops) → ((p : ℕ) → place_of op.id ops ≡ Some p → p ≡ q)
     → place_of id (slice_set ops q op) ≡ shifted (Exchanged q op.id) id (place_of id ops)

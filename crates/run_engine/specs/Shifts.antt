@@ -14,15 +14,15 @@ moved_down at None = None
 moved_down at (Some p) = if p == at then None else (if nat_lt p at then Some p else Some (p - 1))
 
 -- a place after another operation came in the place of the one at `at`
-abbrev pub given_up : ℕ → Option ℕ → Option ℕ
-given_up at None = None
-given_up at (Some p) = if p == at then None else Some p
+abbrev pub vacated : ℕ → Option ℕ → Option ℕ
+vacated at None = None
+vacated at (Some p) = if p == at then None else Some p
 
 -- where operation `id` stands after one edit
 abbrev pub shifted : Shift → ℕ → Option ℕ → Option ℕ
 shifted (Inserted at new) id place = if new == id then Some at else moved_up at place
 shifted (Removed at) id place = moved_down at place
-shifted (Exchanged at new) id place = if new == id then Some at else given_up at place
+shifted (Exchanged at new) id place = if new == id then Some at else vacated at place
 
 -- the same after edits in order
 abbrev pub shifted_by : List Shift → ℕ → Option ℕ → Option ℕ

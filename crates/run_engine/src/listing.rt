@@ -104,7 +104,6 @@ impl<'a> Listing<'a> {
     pub fn place(&self, id: u32) -> Option<usize>
         ensures value { result ≡ place_of id self.now }
         ensures within { IfSome result (λ place. place < length self.now) }
-        ensures fits { IfSome result (λ place. place < usize.MAX) }
     {
         for place in 0..self.len() {
             if self.at(place).id() == id {

@@ -91,7 +91,7 @@ impl Run {
     /// of those before it. The replay begins again at the greatest checkpoint at or before the first operation that
     /// differs, takes old stretches where they begin with the same heap and have the same operations, and stops at the
     /// first old checkpoint behind the last operation that differs where the heap is the same. The meter rises by the
-    /// operations stepped, also where memory runs out.
+    /// operations stepped, and where memory runs out by at most those up to the stop.
     pub fn edited(&self, alloc: Global, batch: &Batch, meter: &mut Meter) -> Result<Run, RunFault>
         ensures trace { IfOk result (λ r. edited_by self.now.trace batch.now ≡ Ok r.trace) }
         ensures marks { IfOk result (λ r. AreMarksAfter self.now r) }

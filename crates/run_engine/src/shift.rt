@@ -1,6 +1,6 @@
 //! What an edit does to the places of operations.
 ghost use Rattle.std.specs.Prelude.{◌≡◌};
-ghost use Rattle.run_engine.specs.Shifts.{moved_up, moved_down, given_up, shifted, shifted_by};
+ghost use Rattle.run_engine.specs.Shifts.{moved_up, moved_down, vacated, shifted, shifted_by};
 
 use trace_types::trace::MAX_OPS;
 
@@ -25,22 +25,22 @@ impl Shift {
                 if *new == id {
                     Some(*at)
                 } else {
-                    up(*at, place)
+                    after_insertion(*at, place)
                 }
             }
-            Shift::Removed(at) => down(*at, place),
+            Shift::Removed(at) => after_removal(*at, place),
             Shift::Exchanged(at, new) => {
                 if *new == id {
                     Some(*at)
                 } else {
-                    left(*at, place)
+                    after_exchange(*at, place)
                 }
             }
         }
     }
 }
 
-fn up(at: usize, place: Option<usize>) -> Option<usize>
+fn after_insertion(at: usize, place: Option<usize>) -> Option<usize>
     ensures { result ≡ moved_up at place }
 {
     match place {
@@ -55,7 +55,7 @@ fn up(at: usize, place: Option<usize>) -> Option<usize>
     }
 }
 
-fn down(at: usize, place: Option<usize>) -> Option<usize>
+fn after_removal(at: usize, place: Option<usize>) -> Option<usize>
     ensures { result ≡ moved_down at place }
 {
     match place {
@@ -72,8 +72,8 @@ fn down(at: usize, place: Option<usize>) -> Option<usize>
     }
 }
 
-fn left(at: usize, place: Option<usize>) -> Option<usize>
-    ensures { result ≡ given_up at place }
+fn after_exchange(at: usize, place: Option<usize>) -> Option<usize>
+    ensures { result ≡ vacated at place }
 {
     match place {
         None => None,
