@@ -8,7 +8,6 @@ use crate::serve::{Answers, serve};
 use leak_report::report::report;
 use leak_report::text::text_of;
 use op_step::meter::Meter;
-use op_step::replay::replay;
 use run_engine::run::Run;
 use std::alloc::{AllocError, Global};
 use trace_reader::{LineCause, fault_line, read_trace};
@@ -62,8 +61,9 @@ pub fn report_on(alloc: Global, trace: &Trace) -> Result<Vec<u8>, AllocError>
     ensures { IfOk result (λ text. text.items ≡ report_of_replay trace.now) }
 {
     let mut meter = Meter::new();
-    let (outcomes, end) = replay(alloc, trace, &mut meter)?;
-    let report = report(alloc, trace, outcomes.as_slice(), &end)?;
+    let run = Run::load(alloc, trace, &mut meter)?;
+    let outcomes = run.outcomes(alloc)?;
+    let report = report(alloc, trace, outcomes.as_slice(), run.end())?;
     let text = text_of(alloc, &report)?;
     Ok(text.into_bytes())
 }

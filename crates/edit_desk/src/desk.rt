@@ -64,9 +64,9 @@ impl Desk {
         ensures meter { IfOk result (λ d. d.meter ≡ raised 0 (length trace)) }
     {
         let mut meter = Meter::new();
-        let run = Run::load(alloc, trace, &mut meter)?;
+        let run = Run::load(alloc, &trace, &mut meter)?;
         Ok(Desk {
-            opening: run.trace(alloc)?,
+            opening: trace,
             published: Published::new(alloc, 0, run)?,
             history: Vec::new(alloc),
             meter,

@@ -17,7 +17,7 @@ use trace_types::outcomes::Event;
 use trace_types::slots::{Entry, Item, Slot};
 
 impl Draft {
-    /// All items are pending, in order.
+    /// All items are pending, in order. Where memory runs out the draft is only good to be let go.
     pub fn add_all(
         &mut self,
         alloc: Global,
@@ -55,7 +55,7 @@ impl Draft {
         Ok(pending.push_back(item)?)
     }
 
-    /// Drops what is pending, one item after another.
+    /// Drops what is pending, one item after another. Where memory runs out the draft is only good to be let go.
     pub fn release(
         &mut self,
         alloc: Global,

@@ -17,7 +17,7 @@ use trace_types::sequence::Sequence;
 use trace_types::slots::{Change, Entry, Holding, Slot};
 
 impl Draft {
-    /// Makes the changes in order.
+    /// Makes the changes in order. Where memory runs out some are made, and the draft is only good to be let go.
     pub fn apply(&mut self, alloc: Global, changes: &[Change]) -> Result<(), AllocError>
         requires counted { IsCounted self.old.counts (state_of self.old) [] }
         requires bounded { IsBounded (state_of self.old) }

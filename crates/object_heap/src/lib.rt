@@ -1,10 +1,10 @@
 //! The heap of a traced program: what it holds, how often each object is named, and what letting go sets off.
 #![tactic(auto)]
 
-pub mod cascade;
-pub mod changes;
-pub mod counters;
-pub mod draft;
+mod cascade;
+mod changes;
+mod counters;
+mod draft;
 pub mod heap;
 pub mod reach;
 

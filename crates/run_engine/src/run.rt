@@ -61,11 +61,11 @@ impl Model for Run {
 impl Run {
     /// The replay of a trace, with checkpoints at all multiples of 64 and at the end. The meter rises by the
     /// operations, and where memory runs out by at most that.
-    pub fn load(alloc: Global, trace: Trace, meter: &mut Meter) -> Result<Run, AllocError>
-        ensures trace { IfOk result (λ r. r.trace ≡ trace) }
-        ensures marks { IfOk result (λ r. r.marks ≡ load_marks (length trace)) }
-        ensures count { IfOk result (λ r. meter.new ≡ raised meter.old (length trace)) }
-        ensures rise { meter.new ≤ meter.old + length trace }
+    pub fn load(alloc: Global, trace: &Trace, meter: &mut Meter) -> Result<Run, AllocError>
+        ensures trace { IfOk result (λ r. r.trace ≡ trace.now) }
+        ensures marks { IfOk result (λ r. r.marks ≡ load_marks (length trace.now)) }
+        ensures count { IfOk result (λ r. meter.new ≡ raised meter.old (length trace.now)) }
+        ensures rise { meter.new ≤ meter.old + length trace.now }
     {
         let ops = trace.as_slice();
         let mut front = Front {

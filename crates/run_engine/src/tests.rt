@@ -161,7 +161,7 @@ fn are_marks(
 fn leak_after_edit(rt: HostRuntime) -> Result<(), Fail> {
     let alloc = rt.alloc();
     let mut meter = Meter::new();
-    let run = Run::load(alloc, broken_cycle(alloc)?, &mut meter)?;
+    let run = Run::load(alloc, &broken_cycle(alloc)?, &mut meter)?;
     assert_eq!(rt; meter.count(), 1011);
     assert_eq!(rt; run.len(), 1011);
     assert!(rt; are_marks(alloc, &run, &[], 0, 1011)?);
@@ -237,7 +237,7 @@ fn weak_count_differs(rt: HostRuntime) -> Result<(), Fail> {
     add_pairs(alloc, &mut trace, 14, 1013)?;
     add(&mut trace, 1014, Kind::GetMut { h: 7 })?;
     let mut meter = Meter::new();
-    let run = Run::load(alloc, trace, &mut meter)?;
+    let run = Run::load(alloc, &trace, &mut meter)?;
     assert!(rt;
         has_outcome(
             &run,
@@ -280,7 +280,7 @@ fn husk_or_alive(rt: HostRuntime) -> Result<(), Fail> {
     add_pairs(alloc, &mut trace, 8, 1007)?;
     add(&mut trace, 1008, Kind::Upgrade { from: 5, to: 6 })?;
     let mut meter = Meter::new();
-    let run = Run::load(alloc, trace, &mut meter)?;
+    let run = Run::load(alloc, &trace, &mut meter)?;
     assert!(rt;
         has_outcome(
             &run,
@@ -319,7 +319,7 @@ fn husk_or_alive(rt: HostRuntime) -> Result<(), Fail> {
 fn shifted_stop(rt: HostRuntime) -> Result<(), Fail> {
     let alloc = rt.alloc();
     let mut meter = Meter::new();
-    let run = Run::load(alloc, broken_cycle(alloc)?, &mut meter)?;
+    let run = Run::load(alloc, &broken_cycle(alloc)?, &mut meter)?;
     let made = op(2000, new(alloc, 20, &[])?)?;
     let dropped = op(2001, Kind::Drop { h: 20 })?;
     let edits = two(
@@ -342,7 +342,7 @@ fn shifted_stop(rt: HostRuntime) -> Result<(), Fail> {
 fn stretches_kept(rt: HostRuntime) -> Result<(), Fail> {
     let alloc = rt.alloc();
     let mut meter = Meter::new();
-    let run = Run::load(alloc, broken_cycle(alloc)?, &mut meter)?;
+    let run = Run::load(alloc, &broken_cycle(alloc)?, &mut meter)?;
     let labelled = op_of(3, 1, Kind::Clone { from: 0, to: 2 })?;
     let null = op(3000, Kind::Null { to: 30 })?;
     let edits = two(
@@ -377,7 +377,7 @@ fn stretches_kept(rt: HostRuntime) -> Result<(), Fail> {
 fn remove_and_reinsert(rt: HostRuntime) -> Result<(), Fail> {
     let alloc = rt.alloc();
     let mut meter = Meter::new();
-    let run = Run::load(alloc, broken_cycle(alloc)?, &mut meter)?;
+    let run = Run::load(alloc, &broken_cycle(alloc)?, &mut meter)?;
     let first = run.edited(alloc, &batch(alloc, Edit::Remove { id: 7 })?, &mut meter)?;
     let skipped = Outcome {
         id: 8,
@@ -417,7 +417,7 @@ fn remove_and_reinsert(rt: HostRuntime) -> Result<(), Fail> {
 fn a_checkpoint_is_given_up(rt: HostRuntime) -> Result<(), Fail> {
     let alloc = rt.alloc();
     let mut meter = Meter::new();
-    let mut run = Run::load(alloc, broken_cycle(alloc)?, &mut meter)?;
+    let mut run = Run::load(alloc, &broken_cycle(alloc)?, &mut meter)?;
     assert!(rt; run.give_up(64));
     assert!(rt; !run.give_up(64));
     assert!(rt; !run.give_up(0));
@@ -437,7 +437,7 @@ fn a_checkpoint_is_given_up(rt: HostRuntime) -> Result<(), Fail> {
 fn refusals_replay_nothing(rt: HostRuntime) -> Result<(), Fail> {
     let alloc = rt.alloc();
     let mut meter = Meter::new();
-    let run = Run::load(alloc, broken_cycle(alloc)?, &mut meter)?;
+    let run = Run::load(alloc, &broken_cycle(alloc)?, &mut meter)?;
     let mut meter = Meter::new();
     let unknown = batch(alloc, Edit::Remove { id: 5000 })?;
     let fault = run.edited(alloc, &unknown, &mut meter).err();

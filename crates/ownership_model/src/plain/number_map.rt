@@ -61,7 +61,7 @@ impl<V> NumberMap<V> {
 #[tactic(auto, using(crate::proofs::NumberMapLemmas::maps))]
 impl<V: Drop> NumberMap<V> {
     /// Sets the value of a number, or leaves the map as it is.
-    pub fn insert(&mut self, key: u32, value: V) -> Result<(), AllocError>
+    pub(crate) fn insert(&mut self, key: u32, value: V) -> Result<(), AllocError>
         ensures ok { OnOk result (self.new ≡ map.insert self.old key value) }
         ensures err { OnErr result (self.new ≡ self.old) }
     {
@@ -69,7 +69,7 @@ impl<V: Drop> NumberMap<V> {
     }
 
     /// The number has no value any more.
-    pub fn remove(&mut self, key: u32)
+    pub(crate) fn remove(&mut self, key: u32)
         ensures { self.new ≡ map.remove self.old key }
     {
         cut_in(&mut self.items, key);

@@ -13,8 +13,9 @@ use trace_types::outcomes::Event;
 use trace_types::slots::{Entry, Item, Slot};
 
 impl PlainState {
-    /// Drops the items in order, each with all that it sets off before the next: what became of objects, in order.
-    pub fn release(&mut self, alloc: Global, items: &[Item]) -> Result<Vec<Event>, AllocError>
+    /// Drops the items in order, each with all that it sets off before the next: what became of objects, in order. Where
+    /// memory runs out some are dropped, and the state is only good to be let go.
+    pub(crate) fn release(&mut self, alloc: Global, items: &[Item]) -> Result<Vec<Event>, AllocError>
         requires { IsBounded (state_of self.old) }
         ensures state { OnOk result (state_of self.new ≡ (release (state_of self.old) items.now).state) }
         ensures events { IfOk result (λ es. es.items ≡ (release (state_of self.old) items.now).events) }
