@@ -1,4 +1,4 @@
--- A stretch of operations, from a heap.
+-- A start and operations to be replayed from it.
 use Rattle.std.specs.Prelude.{◌≡◌, List, IsTrue, refl}
 use Rattle.std.specs.Coded.{Coded, code_by, coded×, coded_list}
 use Rattle.trace_types.specs.Operation.{Operation}
@@ -10,6 +10,7 @@ use Rattle.ownership_model.specs.Agrees.{AreFree}
 use Rattle.ownership_model.specs.Step.{outcomes_from, end_from}
 use Rattle.object_heap.specs.StateCode.{state_code}
 
+-- a state, and operations to be replayed from it
 pub record Chunk : Type 0 where
   pub start : State
   pub ops : List Operation

@@ -37,7 +37,7 @@ impl Meter {
     }
 
     /// One operation more.
-    pub fn raise(&mut self)
+    pub(crate) fn raise(&mut self)
         ensures { self.new ≡ raised self.old 1 }
     {
         self.count = self.count.saturating_add(1);

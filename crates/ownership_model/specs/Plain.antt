@@ -1,4 +1,4 @@
--- The state that plain lists hold, and what the program over them does with it.
+-- The state that plain lists hold, and what the program over them does with it (profile of this project).
 use Rattle.std.specs.Prelude.{ℕ, ◌≡◌, ◌++◌, List, Result, Ok, Err}
 use Rattle.trace_types.specs.declared.slots.Item.{Item}
 use Rattle.trace_types.specs.declared.outcomes.Event.{Event}

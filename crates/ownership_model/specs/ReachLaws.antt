@@ -1,4 +1,4 @@
--- What the definitions of reach, leaks and holders mean, and which objects a release destroys.
+-- What the definitions of reach, leaks and holders mean, and which objects a release destroys (profile of this project).
 use Rattle.std.specs.Prelude.{ℕ, Bool, ◌==◌, ◌&&◌, ◌≡◌, ◌↔◌, List, Some, true, slice_get}
 use Rattle.std.specs.List.{list_any}
 use Rattle.std.specs.FinMap.{get, keys}

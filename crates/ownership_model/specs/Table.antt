@@ -1,7 +1,8 @@
 -- The table of operations: by what an operation reads, why it is skipped or what it does. Its rows stand below, one for each
 -- kind, with the method that it is. That an operation that can't be done is skipped, and with which reason, is a profile of
 -- this project; what is done is std's, and for cells that of ISO/IEC 14882:2020 [util.smartptr.atomic]. Fields of values are
--- Rust's: what is set drops what stood there, what is taken leaves an empty pointer (Rust Reference, Destructors).
+-- Rust's: what is set drops what stood there (Rust Reference, Destructors: assignment); what is taken leaves an empty pointer
+-- (Option::take).
 use Rattle.std.specs.Prelude.{ℕ, ◌==◌, List, [], ◌∷◌, Option, Some, None, Bool, true, false, ◌&&◌, if◌then◌else◌, slice_get, slice_set}
 use Rattle.trace_types.specs.declared.slots.Slot.{Slot}
 use Rattle.trace_types.specs.declared.slots.Slot.TheVariants.{Nothing, Strong, Weak, Dangling}
@@ -140,17 +141,17 @@ first_bare (Read h (Some (holding.Bare fields)) ∷ es) = Some h
 first_bare (Null ∷ es) = first_bare es
 first_bare (Me ∷ es) = first_bare es
 
--- no handle is one that is not held
+-- each handle among them is held: there is no first one that isn't
 abbrev pub all_held : Option ℕ → Plan → Plan
 all_held None rest = rest
 all_held (Some h) rest = Skip (NotHeld h)
 
--- no handle holds a value
+-- each handle among them holds a slot: there is no first one that holds a value
 abbrev pub all_slots : Option ℕ → Plan → Plan
 all_slots None rest = rest
 all_slots (Some h) rest = Skip (WrongKind h)
 
--- the slot that an element's handle holds
+-- the slot that an element's handle holds; asked only where it holds one
 abbrev pub slot_of : Option Holding → Slot
 slot_of None = Nothing
 slot_of (Some (holding.Slot s)) = s
@@ -251,7 +252,8 @@ set_field h i from y owner fields =
     slot_in from y (λ s. field_at i (slice_get fields i) (λ old.
     act answer.Done (EndHandle from ∷ write_field h owner fields i s ∷ []) (item.Slot old ∷ []) owner))
 
--- a move out of a field, which leaves an empty pointer (std::mem::take)
+-- a move out of a field, which leaves an empty pointer (Option::take: that a field is an Option of an Arc or of a Weak is a
+-- profile of this project)
 abbrev pub take_field : ℕ → ℕ → ℕ → Option Holding → Option ℕ → List Slot → Plan
 take_field h i to there owner fields =
     field_at i (slice_get fields i) (λ s. free to there
