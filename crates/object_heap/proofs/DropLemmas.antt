@@ -13,8 +13,8 @@ use Rattle.trace_types.specs.declared.slots.Item.{Item}
 use Rattle.trace_types.specs.declared.slots.Item.TheVariants as item
 use Rattle.trace_types.specs.declared.outcomes.Event.{Event}
 use Rattle.ownership_model.specs.Totals.{weight_at}
-use Rattle.ownership_model.specs.State.{State, strong, weak, ends, weight, hits, entry_weight, IsSound, IsSoundAt}
-use Rattle.ownership_model.specs.Release.{Fate, Stays, Goes, fate, fall, is_husk, meet, drop_first, Released, after, release, work}
+use Rattle.ownership_model.specs.State.{State, strong, weak, ends, weight, names_alike, entry_weight, IsSound, IsSoundAt}
+use Rattle.ownership_model.specs.Release.{Fate, Stays, Goes, fate, fall, is_husk, left_by, drop_first, Released, after, release, work}
 use Rattle.ownership_model.proofs.ReleaseLemmas.{either, release-nil, release-cons, work_drops}
 use Rattle.ownership_model.proofs.CountLemmas.{total-set, total-cut, items_weight-drops, ends-drops, self_strong, self_weak, other_strong, other_weak, same_number}
 use Rattle.ownership_model.proofs.DropLemmas.{decide, sound-drop_first}
@@ -28,7 +28,7 @@ use Rattle.object_heap.proofs.GainLemmas.{chosen}
 -- what all slots weigh is what those of the rest weigh
 module _ (w : Slot → ℕ) (m : State) (xs : List Item) where
   Weighs : Fate → Type 0
-  Weighs f = weight w (meet m xs f).state (meet m xs f).pending ≡ weight w m xs
+  Weighs f = weight w (left_by m xs f).state (left_by m xs f).pending ≡ weight w m xs
 
   weighs_stays : Weighs Stays
   unfolding Weighs
@@ -85,10 +85,10 @@ counted_next : (m : State) (x : Item) (xs : List Item) (counts less : FinMap nat
 counted_next m x xs counts less o c sound counted only set s w e = record {
   strong_is = λ p. ap (λ (v : Counters). v.strong) (set p)
       ∙ chosen (λ v. v.strong) (o == p) c (counters_at (get counts p)) (strong m xs p) (λ t. s ∙ ap (λ q. strong m xs q) (same_number o p t)) (λ f. counted.strong_is p ∙ only.strong_stay p f)
-      ∙ sym (weight-drop_first (hits (Strong p)) m x xs sound);
+      ∙ sym (weight-drop_first (names_alike (Strong p)) m x xs sound);
   weak_is = λ p. ap (λ (v : Counters). v.weak) (set p)
       ∙ chosen (λ v. v.weak) (o == p) c (counters_at (get counts p)) (weak m xs p) (λ t. w ∙ ap (λ q. weak m xs q) (same_number o p t)) (λ f. counted.weak_is p ∙ only.weak_stay p f)
-      ∙ sym (weight-drop_first (hits (Weak p)) m x xs sound);
+      ∙ sym (weight-drop_first (names_alike (Weak p)) m x xs sound);
   ends_is = λ p. ap (λ (v : Counters). v.ends) (set p)
       ∙ chosen (λ v. v.ends) (o == p) c (counters_at (get counts p)) (ends p (drop_first m x xs).pending) (λ t. e ∙ ap (λ q. ends q (drop_first m x xs).pending) (same_number o p t)) (λ f. counted.ends_is p ∙ only.ends_stay p f);
 }
@@ -101,7 +101,7 @@ self_end o n = grind (arith, nat_tests)
 
 module _ (m : State) (xs : List Item) (o : ℕ) where
   EndsAt : ℕ → ℕ → Fate → Type 0
-  EndsAt p n f = ends p (meet m xs f).pending ≡ n
+  EndsAt p n f = ends p (left_by m xs f).pending ≡ n
 
   fall_ends : (p : ℕ) (e : Option Entry) → (o == p) ≡ false → EndsAt p (ends p xs) (fall o e)
   unfolding EndsAt
@@ -118,7 +118,7 @@ module _ (m : State) (xs : List Item) (o : ℕ) where
   }
 
   PendsRest : Fate → Type 0
-  PendsRest f = (meet m xs f).pending ≡ xs
+  PendsRest f = (left_by m xs f).pending ≡ xs
 
   weak_pending : (drop_first m (item.Slot (Weak o)) xs).pending ≡ xs
   unfolding PendsRest
@@ -168,12 +168,12 @@ is_some n h = grind (arith, nat_tests)
 -- an item of any kind: the counters of the object that it names, and the step
 module _ (old new : Draft) (x : Item) (o : ℕ) (xs left : List Item) (before told : List Event) (c : Counters)
     (sound : IsSound (state_of old) (x ∷ xs)) (counted : IsCounted old.counts (state_of old) (x ∷ xs)) (only : NamesOnly (state_of old) x xs o) (set : IsSetAt old.counts new.counts o c) where
-  drops_by : (f : Fate) → fate (state_of old) x xs ≡ f → c.strong ≡ strong (state_of old) xs o → c.weak ≡ weak (state_of old) xs o → c.ends ≡ ends o (meet (state_of old) xs f).pending
-      → Becomes new left before told (meet (state_of old) xs f) → DropsFirst old new x xs left before told
+  drops_by : (f : Fate) → fate (state_of old) x xs ≡ f → c.strong ≡ strong (state_of old) xs o → c.weak ≡ weak (state_of old) xs o → c.ends ≡ ends o (left_by (state_of old) xs f).pending
+      → Becomes new left before told (left_by (state_of old) xs f) → DropsFirst old new x xs left before told
   drops_by f is s w e step =
       let next : IsCounted new.counts (drop_first (state_of old) x xs).state (drop_first (state_of old) x xs).pending =
-      counted_next (state_of old) x xs old.counts new.counts o c sound counted only set s w (e ∙ ap (λ (g : Fate). ends o (meet (state_of old) xs g).pending) (sym is)) in
-      let here : Becomes new left before told (drop_first (state_of old) x xs) = subst (λ (g : Fate). Becomes new left before told (meet (state_of old) xs g)) (sym is) step in
+      counted_next (state_of old) x xs old.counts new.counts o c sound counted only set s w (e ∙ ap (λ (g : Fate). ends o (left_by (state_of old) xs g).pending) (sym is)) in
+      let here : Becomes new left before told (drop_first (state_of old) x xs) = subst (λ (g : Fate). Becomes new left before told (left_by (state_of old) xs g)) (sym is) step in
       record {
         step = here;
         counted = subst (λ (p : List Item). IsCounted new.counts (state_of new) p) (sym here.pending) (subst (λ (m : State). IsCounted new.counts m (drop_first (state_of old) x xs).pending) (sym here.state) next);
@@ -189,7 +189,7 @@ module _ (old new : Draft) (o : ℕ) (xs left : List Item) (before told : List E
   weak_rest = omega (arith, same, counted.weak_is o)
 
   -- the last strong slot
-  pub drops_last : c.strong ≡ 0 → c.ends ≡ 1 + (counters_at (get old.counts o)).ends → Becomes new left before told (meet (state_of old) xs (fall o (get old.objects o))) → DropsFirst old new (item.Slot (Strong o)) xs left before told
+  pub drops_last : c.strong ≡ 0 → c.ends ≡ 1 + (counters_at (get old.counts o)).ends → Becomes new left before told (left_by (state_of old) xs (fall o (get old.objects o))) → DropsFirst old new (item.Slot (Strong o)) xs left before told
   unfolding EndsAt
   drops_last none more step =
       let is : fate (state_of old) (item.Slot (Strong o)) xs ≡ fall o (get old.objects o) = fate_by true (strong (state_of old) xs o == 0) (fall o (get old.objects o)) Stays (sym (is_none (strong (state_of old) xs o) (sym strong_rest ∙ none))) in
@@ -197,7 +197,7 @@ module _ (old new : Draft) (o : ℕ) (xs left : List Item) (before told : List E
       (more ∙ ap (λ n. 1 + n) (counted.ends_is o) ∙ sym (fall_ends_self (state_of old) xs o _ _ (get old.objects o) (first_strong (state_of old) xs o sound))) step
 
   -- one of several
-  pub drops_more : (c.strong ≡ 0 → ⊥) → c.ends ≡ (counters_at (get old.counts o)).ends → Becomes new left before told (meet (state_of old) xs Stays) → DropsFirst old new (item.Slot (Strong o)) xs left before told
+  pub drops_more : (c.strong ≡ 0 → ⊥) → c.ends ≡ (counters_at (get old.counts o)).ends → Becomes new left before told (left_by (state_of old) xs Stays) → DropsFirst old new (item.Slot (Strong o)) xs left before told
   drops_more some kept step =
       let is : fate (state_of old) (item.Slot (Strong o)) xs ≡ Stays = fate_by false (strong (state_of old) xs o == 0) (fall o (get old.objects o)) Stays (sym (is_some (strong (state_of old) xs o) (λ z. some (strong_rest ∙ z)))) in
       drops_by old new (item.Slot (Strong o)) o xs left before told c sound counted (strong_names_only (state_of old) xs o) set Stays is strong_rest weak_rest (kept ∙ counted.ends_is o) step
@@ -205,28 +205,28 @@ module _ (old new : Draft) (o : ℕ) (xs left : List Item) (before told : List E
 module _ (old new : Draft) (o : ℕ) (xs : List Item) (before told : List Event) (c : Counters)
     (set : IsSetAt old.counts new.counts o c) (same : c.strong ≡ (counters_at (get old.counts o)).strong) where
   pub drops_weak : (b : Bool) → IsSound (state_of old) (item.Slot (Weak o) ∷ xs) → IsCounted old.counts (state_of old) (item.Slot (Weak o) ∷ xs) → c.weak ≡ (counters_at (get old.counts o)).weak - 1 → c.ends ≡ (counters_at (get old.counts o)).ends
-      → b ≡ ((c.weak == 0) && (is_husk (get old.objects o) && (c.ends == 0))) → Becomes new xs before told (meet (state_of old) xs (if b then Goes o else Stays)) → DropsFirst old new (item.Slot (Weak o)) xs xs before told
+      → b ≡ ((c.weak == 0) && (is_husk (get old.objects o) && (c.ends == 0))) → Becomes new xs before told (left_by (state_of old) xs (if b then Goes o else Stays)) → DropsFirst old new (item.Slot (Weak o)) xs xs before told
   drops_weak b sound counted less kept test step =
       let s : c.strong ≡ strong (state_of old) xs o = omega (arith, same, counted.strong_is o) in
       let w : c.weak ≡ weak (state_of old) xs o = omega (arith, less, counted.weak_is o, self_weak o) in
       let e : c.ends ≡ ends o xs = kept ∙ counted.ends_is o in
       let tested : b ≡ ((weak (state_of old) xs o == 0) && (is_husk (get old.objects o) && (ends o xs == 0))) = test ∙ ap (λ n. (n == 0) && (is_husk (get old.objects o) && (c.ends == 0))) w ∙ ap (λ n. (weak (state_of old) xs o == 0) && (is_husk (get old.objects o) && (n == 0))) e in
       let is : fate (state_of old) (item.Slot (Weak o)) xs ≡ (if b then Goes o else Stays) = fate_by b ((weak (state_of old) xs o == 0) && (is_husk (get old.objects o) && (ends o xs == 0))) (Goes o) Stays tested in
-      drops_by old new (item.Slot (Weak o)) o xs xs before told c sound counted (weak_names_only (state_of old) xs o) set (if b then Goes o else Stays) is s w (e ∙ ap (ends o) (sym (weak_pending (state_of old) xs o)) ∙ ap (λ (g : Fate). ends o (meet (state_of old) xs g).pending) is) step
+      drops_by old new (item.Slot (Weak o)) o xs xs before told c sound counted (weak_names_only (state_of old) xs o) set (if b then Goes o else Stays) is s w (e ∙ ap (ends o) (sym (weak_pending (state_of old) xs o)) ∙ ap (λ (g : Fate). ends o (left_by (state_of old) xs g).pending) is) step
 
   pub drops_end : (b : Bool) → IsSound (state_of old) (item.End o ∷ xs) → IsCounted old.counts (state_of old) (item.End o ∷ xs) → c.weak ≡ (counters_at (get old.counts o)).weak → c.ends ≡ (counters_at (get old.counts o)).ends - 1
-      → b ≡ (c.weak == 0) → Becomes new xs before told (meet (state_of old) xs (if b then Goes o else Stays)) → DropsFirst old new (item.End o) xs xs before told
+      → b ≡ (c.weak == 0) → Becomes new xs before told (left_by (state_of old) xs (if b then Goes o else Stays)) → DropsFirst old new (item.End o) xs xs before told
   drops_end b sound counted kept less test step =
       let s : c.strong ≡ strong (state_of old) xs o = same ∙ counted.strong_is o in
       let w : c.weak ≡ weak (state_of old) xs o = kept ∙ counted.weak_is o in
       let e : c.ends ≡ ends o xs = omega (arith, less, counted.ends_is o, self_end o (ends o xs)) in
       let tested : b ≡ (weak (state_of old) xs o == 0) = test ∙ ap (λ n. n == 0) w in
       let is : fate (state_of old) (item.End o) xs ≡ (if b then Goes o else Stays) = fate_by b (weak (state_of old) xs o == 0) (Goes o) Stays tested in
-      drops_by old new (item.End o) o xs xs before told c sound counted (end_names_only (state_of old) xs o) set (if b then Goes o else Stays) is s w (e ∙ ap (ends o) (sym (end_pending (state_of old) xs o)) ∙ ap (λ (g : Fate). ends o (meet (state_of old) xs g).pending) is) step
+      drops_by old new (item.End o) o xs xs before told c sound counted (end_names_only (state_of old) xs o) set (if b then Goes o else Stays) is s w (e ∙ ap (ends o) (sym (end_pending (state_of old) xs o)) ∙ ap (λ (g : Fate). ends o (left_by (state_of old) xs g).pending) is) step
 
-pub drops_nothing : (old : Draft) (s : Slot) (xs : List Item) (before : List Event) → fate (state_of old) (item.Slot s) xs ≡ Stays → ((w : ℕ) → hits (Strong w) s ≡ 0) → ((w : ℕ) → hits (Weak w) s ≡ 0) → IsCounted old.counts (state_of old) (item.Slot s ∷ xs) → DropsFirst old old (item.Slot s) xs xs before before
+pub drops_nothing : (old : Draft) (s : Slot) (xs : List Item) (before : List Event) → fate (state_of old) (item.Slot s) xs ≡ Stays → ((w : ℕ) → names_alike (Strong w) s ≡ 0) → ((w : ℕ) → names_alike (Weak w) s ≡ 0) → IsCounted old.counts (state_of old) (item.Slot s ∷ xs) → DropsFirst old old (item.Slot s) xs xs before before
 drops_nothing old s xs before is a b counted = record {
-  step = subst (λ (g : Fate). Becomes old xs before before (meet (state_of old) xs g)) (sym is) (record { state = refl; pending = refl; events = sym (append-nil before) });
+  step = subst (λ (g : Fate). Becomes old xs before before (left_by (state_of old) xs g)) (sym is) (record { state = refl; pending = refl; events = sym (append-nil before) });
   counted = record {
     strong_is = λ o. omega (arith, counted.strong_is o, a o);
     weak_is = λ o. omega (arith, counted.weak_is o, b o);

@@ -14,14 +14,14 @@ use Rattle.trace_types.specs.declared.slots.Item.TheVariants as item
 use Rattle.trace_types.specs.declared.slots.Change.{Change}
 use Rattle.trace_types.specs.declared.slots.Change.TheVariants.{SetHandle, EndHandle, SetCell, EndCell, SetField, Make, TurnHusk}
 use Rattle.ownership_model.specs.Totals.{total, weight_at}
-use Rattle.ownership_model.specs.State.{State, ends, weight, hits, slots_weight, holding_weight, entry_weight}
+use Rattle.ownership_model.specs.State.{State, ends, weight, names_alike, slots_weight, holding_weight, entry_weight}
 use Rattle.ownership_model.specs.Changes.{changed, changed_by, with_field, HasField, CanBeDone, CanChange}
 use Rattle.ownership_model.specs.Bounds.{IsBounded, ChangeFits, ChangesFit}
 use Rattle.ownership_model.proofs.TotalLemmas.{total-insert, total-remove}
 use Rattle.ownership_model.proofs.CountLemmas.{total-set, self_strong, self_weak, other_strong, other_weak, same_number}
 use Rattle.ownership_model.proofs.MapLemmas.{get_inserted, get_removed}
 use Rattle.ownership_model.proofs.LimitLemmas.{change_bounded}
-use Rattle.ownership_model.proofs.BoundLemmas.{strong-le, weak-le, hits-le}
+use Rattle.ownership_model.proofs.BoundLemmas.{strong-le, weak-le, names_alike-le}
 use Rattle.object_heap.specs.declared.counters.Counters.{Counters}
 use Rattle.object_heap.specs.declared.draft.Draft.{Draft}
 use Rattle.object_heap.specs.Counted.{counters_at, state_of, IsCounted}
@@ -77,15 +77,15 @@ module _ (old new : FinMap nat_cmp Counters) (o : ℕ) (c : Counters) (set : IsS
 
   pub more_strong : c.strong ≡ 1 + (counters_at (get old o)).strong → c.weak ≡ (counters_at (get old o)).weak → c.ends ≡ (counters_at (get old o)).ends → CountsMore old new (λ w. w (Strong o))
   more_strong s w e = record {
-    strong_is = grown (λ v. v.strong) (λ p. hits (Strong p) (Strong o)) (omega (arith, s, self_strong o)) (λ p f. other_strong p o f);
-    weak_is = grown (λ v. v.weak) (λ p. hits (Weak p) (Strong o)) (omega (arith, w)) (λ p f. refl);
+    strong_is = grown (λ v. v.strong) (λ p. names_alike (Strong p) (Strong o)) (omega (arith, s, self_strong o)) (λ p f. other_strong p o f);
+    weak_is = grown (λ v. v.weak) (λ p. names_alike (Weak p) (Strong o)) (omega (arith, w)) (λ p f. refl);
     ends_is = λ p. grown (λ v. v.ends) (λ q. 0) (omega (arith, e)) (λ q f. refl) p ∙ omega arith;
   }
 
   pub more_weak : c.strong ≡ (counters_at (get old o)).strong → c.weak ≡ 1 + (counters_at (get old o)).weak → c.ends ≡ (counters_at (get old o)).ends → CountsMore old new (λ w. w (Weak o))
   more_weak s w e = record {
-    strong_is = grown (λ v. v.strong) (λ p. hits (Strong p) (Weak o)) (omega (arith, s)) (λ p f. refl);
-    weak_is = grown (λ v. v.weak) (λ p. hits (Weak p) (Weak o)) (omega (arith, w, self_weak o)) (λ p f. other_weak p o f);
+    strong_is = grown (λ v. v.strong) (λ p. names_alike (Strong p) (Weak o)) (omega (arith, s)) (λ p f. refl);
+    weak_is = grown (λ v. v.weak) (λ p. names_alike (Weak p) (Weak o)) (omega (arith, w, self_weak o)) (λ p f. other_weak p o f);
     ends_is = λ p. grown (λ v. v.ends) (λ q. 0) (omega (arith, e)) (λ q f. refl) p ∙ omega arith;
   }
 
@@ -98,52 +98,52 @@ module _ (old new : FinMap nat_cmp Counters) (o : ℕ) (c : Counters) (set : IsS
 
   pub less_strong : (counters_at (get old o)).strong ≡ 1 + c.strong → (counters_at (get old o)).weak ≡ c.weak → (counters_at (get old o)).ends ≡ c.ends → CountsMore new old (λ w. w (Strong o))
   less_strong s w e = record {
-    strong_is = shrunk (λ v. v.strong) (λ p. hits (Strong p) (Strong o)) (omega (arith, s, self_strong o)) (λ p f. other_strong p o f);
-    weak_is = shrunk (λ v. v.weak) (λ p. hits (Weak p) (Strong o)) (omega (arith, w)) (λ p f. refl);
+    strong_is = shrunk (λ v. v.strong) (λ p. names_alike (Strong p) (Strong o)) (omega (arith, s, self_strong o)) (λ p f. other_strong p o f);
+    weak_is = shrunk (λ v. v.weak) (λ p. names_alike (Weak p) (Strong o)) (omega (arith, w)) (λ p f. refl);
     ends_is = λ p. shrunk (λ v. v.ends) (λ q. 0) (omega (arith, e)) (λ q f. refl) p ∙ omega arith;
   }
 
   pub less_weak : (counters_at (get old o)).strong ≡ c.strong → (counters_at (get old o)).weak ≡ 1 + c.weak → (counters_at (get old o)).ends ≡ c.ends → CountsMore new old (λ w. w (Weak o))
   less_weak s w e = record {
-    strong_is = shrunk (λ v. v.strong) (λ p. hits (Strong p) (Weak o)) (omega (arith, s)) (λ p f. refl);
-    weak_is = shrunk (λ v. v.weak) (λ p. hits (Weak p) (Weak o)) (omega (arith, w, self_weak o)) (λ p f. other_weak p o f);
+    strong_is = shrunk (λ v. v.strong) (λ p. names_alike (Strong p) (Weak o)) (omega (arith, s)) (λ p f. refl);
+    weak_is = shrunk (λ v. v.weak) (λ p. names_alike (Weak p) (Weak o)) (omega (arith, w, self_weak o)) (λ p f. other_weak p o f);
     ends_is = λ p. shrunk (λ v. v.ends) (λ q. 0) (omega (arith, e)) (λ q f. refl) p ∙ omega arith;
   }
 
 -- where nothing is counted more
 pub no_more : (counts : FinMap nat_cmp Counters) (g : (Slot → ℕ) → ℕ) → ((w : Slot → ℕ) → g w ≡ 0) → CountsMore counts counts g
 no_more counts g none = record {
-  strong_is = λ o. omega (arith, none (hits (Strong o)));
-  weak_is = λ o. omega (arith, none (hits (Weak o)));
+  strong_is = λ o. omega (arith, none (names_alike (Strong o)));
+  weak_is = λ o. omega (arith, none (names_alike (Weak o)));
   ends_is = λ o. refl;
 }
 
 pub same_more : (less more : FinMap nat_cmp Counters) (g h : (Slot → ℕ) → ℕ) → ((w : Slot → ℕ) → h w ≡ g w) → CountsMore less more g → CountsMore less more h
 same_more less more g h same it = record {
-  strong_is = λ o. omega (arith, it.strong_is o, same (hits (Strong o)));
-  weak_is = λ o. omega (arith, it.weak_is o, same (hits (Weak o)));
+  strong_is = λ o. omega (arith, it.strong_is o, same (names_alike (Strong o)));
+  weak_is = λ o. omega (arith, it.weak_is o, same (names_alike (Weak o)));
   ends_is = it.ends_is;
 }
 
 -- one after another
 pub more_more : (a b c : FinMap nat_cmp Counters) (g h k : (Slot → ℕ) → ℕ) → ((w : Slot → ℕ) → k w ≡ g w + h w) → CountsMore a b g → CountsMore b c h → CountsMore a c k
 more_more a b c g h k both first next = record {
-  strong_is = λ o. omega (arith, first.strong_is o, next.strong_is o, both (hits (Strong o)));
-  weak_is = λ o. omega (arith, first.weak_is o, next.weak_is o, both (hits (Weak o)));
+  strong_is = λ o. omega (arith, first.strong_is o, next.strong_is o, both (names_alike (Strong o)));
+  weak_is = λ o. omega (arith, first.weak_is o, next.weak_is o, both (names_alike (Weak o)));
   ends_is = λ o. next.ends_is o ∙ first.ends_is o;
 }
 
 -- what is left to take of what is counted
 pub left_in : (a b : FinMap nat_cmp Counters) (g h k : (Slot → ℕ) → ℕ) → ((w : Slot → ℕ) → k w ≡ g w + h w) → HasSlots b k → CountsMore a b g → HasSlots a h
 left_in a b g h k both has taken = record {
-  strong_in = λ o. omega (arith, has.strong_in o, taken.strong_is o, both (hits (Strong o)));
-  weak_in = λ o. omega (arith, has.weak_in o, taken.weak_is o, both (hits (Weak o)));
+  strong_in = λ o. omega (arith, has.strong_in o, taken.strong_is o, both (names_alike (Strong o)));
+  weak_in = λ o. omega (arith, has.weak_in o, taken.weak_is o, both (names_alike (Weak o)));
 }
 
 pub part_in : (a : FinMap nat_cmp Counters) (h k : (Slot → ℕ) → ℕ) → ((w : Slot → ℕ) → h w ≤ k w) → HasSlots a k → HasSlots a h
 part_in a h k part has = record {
-  strong_in = λ o. omega (arith, has.strong_in o, part (hits (Strong o)));
-  weak_in = λ o. omega (arith, has.weak_in o, part (hits (Weak o)));
+  strong_in = λ o. omega (arith, has.strong_in o, part (names_alike (Strong o)));
+  weak_in = λ o. omega (arith, has.weak_in o, part (names_alike (Weak o)));
 }
 
 pub less_room : (counts : FinMap nat_cmp Counters) (n k : ℕ) → n ≤ k → HasRoom counts k → HasRoom counts n
@@ -156,8 +156,8 @@ less_room counts n k le room = record {
 -- a slot takes the room of one
 pub room_after : (less more : FinMap nat_cmp Counters) (s : Slot) (n : ℕ) → HasRoom less (1 + n) → CountsMore less more (λ w. w s) → HasRoom more n
 room_after less more s n room it = record {
-  strong_fits = λ o. omega (arith, room.strong_fits o, it.strong_is o, hits-le (Strong o) s);
-  weak_fits = λ o. omega (arith, room.weak_fits o, it.weak_is o, hits-le (Weak o) s);
+  strong_fits = λ o. omega (arith, room.strong_fits o, it.strong_is o, names_alike-le (Strong o) s);
+  weak_fits = λ o. omega (arith, room.weak_fits o, it.weak_is o, names_alike-le (Weak o) s);
   ends_fit = λ o. omega (arith, room.ends_fit o, it.ends_is o);
 }
 
@@ -202,15 +202,15 @@ module _ (counts mid : FinMap nat_cmp Counters) (m : State) (c : Change) (can : 
   -- what a change takes is counted
   pub lost_in : HasSlots mid (lost m c)
   lost_in = record {
-    strong_in = λ o. omega (arith, counted.strong_is o, more.strong_is o, balance (hits (Strong o)) m c can);
-    weak_in = λ o. omega (arith, counted.weak_is o, more.weak_is o, balance (hits (Weak o)) m c can);
+    strong_in = λ o. omega (arith, counted.strong_is o, more.strong_is o, balance (names_alike (Strong o)) m c can);
+    weak_in = λ o. omega (arith, counted.weak_is o, more.weak_is o, balance (names_alike (Weak o)) m c can);
   }
 
   -- the counters follow the state
   pub counted_after : (less : FinMap nat_cmp Counters) → CountsMore less mid (lost m c) → IsCounted less (changed_by m c) []
   counted_after less fewer = record {
-    strong_is = λ o. omega (arith, counted.strong_is o, more.strong_is o, fewer.strong_is o, balance (hits (Strong o)) m c can);
-    weak_is = λ o. omega (arith, counted.weak_is o, more.weak_is o, fewer.weak_is o, balance (hits (Weak o)) m c can);
+    strong_is = λ o. omega (arith, counted.strong_is o, more.strong_is o, fewer.strong_is o, balance (names_alike (Strong o)) m c can);
+    weak_is = λ o. omega (arith, counted.weak_is o, more.weak_is o, fewer.weak_is o, balance (names_alike (Weak o)) m c can);
     ends_is = λ o. sym (fewer.ends_is o) ∙ more.ends_is o ∙ counted.ends_is o;
   }
 

@@ -7,7 +7,7 @@ use Rattle.trace_types.specs.declared.slots.Slot.{Slot}
 use Rattle.trace_types.specs.declared.slots.Slot.TheVariants.{Strong, Weak}
 use Rattle.trace_types.specs.declared.slots.Entry.{Entry}
 use Rattle.ownership_model.specs.Totals.{total, total_in}
-use Rattle.ownership_model.specs.State.{State, nothing_held, weight, holding_weight, entry_weight, hits, IsSound, IsSoundAt}
+use Rattle.ownership_model.specs.State.{State, nothing_held, weight, holding_weight, entry_weight, names_alike, IsSound, IsSoundAt}
 use Rattle.ownership_model.specs.Bounds.{IsBounded}
 use Rattle.ownership_model.proofs.LimitLemmas.{nothing_bounded}
 use Rattle.object_heap.specs.declared.counters.Counters.{Counters}
@@ -31,15 +31,15 @@ absent : (s w : ℕ) (e : Option Entry) → e ≡ None → s ≡ 0 → w ≡ 0 �
 absent s w e is a b = subst (λ (x : Option Entry). IsSoundAt s w 0 x) (sym is) (a, b, refl)
 
 sound-nothing : IsSound nothing_held []
-sound-nothing o = absent _ _ (get empty o) (get-empty nat_cmp o) (weight-nothing (hits (Strong o))) (weight-nothing (hits (Weak o)))
+sound-nothing o = absent _ _ (get empty o) (get-empty nat_cmp o) (weight-nothing (names_alike (Strong o))) (weight-nothing (names_alike (Weak o)))
 
 no_counts : (o : ℕ) → counters_at (get (empty {X = Counters} {R = nat_cmp}) o) ≡ record { strong = 0; weak = 0; ends = 0 }
 no_counts o = ap counters_at (get-empty nat_cmp o)
 
 counted_nothing : IsCounted empty nothing_held []
 counted_nothing = record {
-  strong_is = λ o. ap (λ (c : Counters). c.strong) (no_counts o) ∙ sym (weight-nothing (hits (Strong o)));
-  weak_is = λ o. ap (λ (c : Counters). c.weak) (no_counts o) ∙ sym (weight-nothing (hits (Weak o)));
+  strong_is = λ o. ap (λ (c : Counters). c.strong) (no_counts o) ∙ sym (weight-nothing (names_alike (Strong o)));
+  weak_is = λ o. ap (λ (c : Counters). c.weak) (no_counts o) ∙ sym (weight-nothing (names_alike (Weak o)));
   ends_is = λ o. ap (λ (c : Counters). c.ends) (no_counts o);
 }
 

@@ -7,7 +7,7 @@ use Rattle.trace_types.specs.declared.slots.Slot.{Slot}
 use Rattle.trace_types.specs.declared.slots.Slot.TheVariants.{Strong, Weak}
 use Rattle.trace_types.specs.declared.slots.Item.{Item}
 use Rattle.trace_types.specs.declared.slots.Item.TheVariants as item
-use Rattle.ownership_model.specs.State.{State, hits, items_weight, ends}
+use Rattle.ownership_model.specs.State.{State, names_alike, items_weight, ends}
 use Rattle.ownership_model.proofs.CountLemmas.{same_number}
 use Rattle.object_heap.specs.declared.counters.Counters.{Counters}
 use Rattle.object_heap.specs.Counted.{counters_at, IsCounted}
@@ -29,8 +29,8 @@ ends-append o (item.End q ∷ xs) ys = add_first (if q == o then 1 else 0) (ends
 
 pub counted_push : (counts more : FinMap nat_cmp Counters) (m : State) (pending : List Item) (x : Item) → IsCounted counts m pending → CountsItem counts more x → IsCounted more m (pending ++ x ∷ [])
 counted_push counts more m pending x counted has = record {
-  strong_is = λ o. omega (arith, has.strong_is o, counted.strong_is o, items_weight-append (hits (Strong o)) pending (x ∷ []));
-  weak_is = λ o. omega (arith, has.weak_is o, counted.weak_is o, items_weight-append (hits (Weak o)) pending (x ∷ []));
+  strong_is = λ o. omega (arith, has.strong_is o, counted.strong_is o, items_weight-append (names_alike (Strong o)) pending (x ∷ []));
+  weak_is = λ o. omega (arith, has.weak_is o, counted.weak_is o, items_weight-append (names_alike (Weak o)) pending (x ∷ []));
   ends_is = λ o. omega (arith, has.ends_is o, counted.ends_is o, ends-append o pending (x ∷ []));
 }
 

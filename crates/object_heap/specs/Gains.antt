@@ -10,7 +10,7 @@ use Rattle.trace_types.specs.declared.slots.Item.{Item}
 use Rattle.trace_types.specs.declared.slots.Change.{Change}
 use Rattle.trace_types.specs.declared.slots.Change.TheVariants.{SetHandle, EndHandle, SetCell, EndCell, SetField, Make, TurnHusk}
 use Rattle.ownership_model.specs.Totals.{weight_at}
-use Rattle.ownership_model.specs.State.{State, hits, slots_weight, items_weight, ends, holding_weight, entry_weight}
+use Rattle.ownership_model.specs.State.{State, names_alike, slots_weight, items_weight, ends, holding_weight, entry_weight}
 use Rattle.ownership_model.specs.Changes.{changed_by}
 use Rattle.object_heap.specs.declared.counters.Counters.{Counters}
 use Rattle.object_heap.specs.declared.draft.Draft.{Draft}
@@ -22,20 +22,20 @@ IsSetAt old new o c = (p : ℕ) → counters_at (get new p) ≡ (if o == p then 
 
 -- these slots are counted besides
 pub record CountsMore (less more : FinMap nat_cmp Counters) (g : (Slot → ℕ) → ℕ) : Type 0 where
-  pub strong_is : (o : ℕ) → (counters_at (get more o)).strong ≡ g (hits (Strong o)) + (counters_at (get less o)).strong
-  pub weak_is : (o : ℕ) → (counters_at (get more o)).weak ≡ g (hits (Weak o)) + (counters_at (get less o)).weak
+  pub strong_is : (o : ℕ) → (counters_at (get more o)).strong ≡ g (names_alike (Strong o)) + (counters_at (get less o)).strong
+  pub weak_is : (o : ℕ) → (counters_at (get more o)).weak ≡ g (names_alike (Weak o)) + (counters_at (get less o)).weak
   pub ends_is : (o : ℕ) → (counters_at (get more o)).ends ≡ (counters_at (get less o)).ends
 
 -- this item is counted besides
 pub record CountsItem (less more : FinMap nat_cmp Counters) (x : Item) : Type 0 where
-  pub strong_is : (o : ℕ) → (counters_at (get more o)).strong ≡ items_weight (hits (Strong o)) (x ∷ []) + (counters_at (get less o)).strong
-  pub weak_is : (o : ℕ) → (counters_at (get more o)).weak ≡ items_weight (hits (Weak o)) (x ∷ []) + (counters_at (get less o)).weak
+  pub strong_is : (o : ℕ) → (counters_at (get more o)).strong ≡ items_weight (names_alike (Strong o)) (x ∷ []) + (counters_at (get less o)).strong
+  pub weak_is : (o : ℕ) → (counters_at (get more o)).weak ≡ items_weight (names_alike (Weak o)) (x ∷ []) + (counters_at (get less o)).weak
   pub ends_is : (o : ℕ) → (counters_at (get more o)).ends ≡ ends o (x ∷ []) + (counters_at (get less o)).ends
 
 -- these slots are among those that are counted
 pub record HasSlots (counts : FinMap nat_cmp Counters) (g : (Slot → ℕ) → ℕ) : Type 0 where
-  pub strong_in : (o : ℕ) → g (hits (Strong o)) ≤ (counters_at (get counts o)).strong
-  pub weak_in : (o : ℕ) → g (hits (Weak o)) ≤ (counters_at (get counts o)).weak
+  pub strong_in : (o : ℕ) → g (names_alike (Strong o)) ≤ (counters_at (get counts o)).strong
+  pub weak_in : (o : ℕ) → g (names_alike (Weak o)) ≤ (counters_at (get counts o)).weak
 
 -- so many slots and ends more can be counted in 64 bits
 pub record HasRoom (counts : FinMap nat_cmp Counters) (n : ℕ) : Type 0 where

@@ -6,8 +6,7 @@ use Rattle.trace_types.specs.Trace.{has_distinct_numbers}
 use Rattle.trace_types.specs.declared.outcomes.Outcome.{Outcome}
 use Rattle.trace_types.specs.contracts.ops.Op as op
 use Rattle.ownership_model.specs.State.{State}
-use Rattle.ownership_model.specs.Agrees.{AreFree}
-use Rattle.ownership_model.specs.Step.{outcomes_from, end_from}
+use Rattle.ownership_model.specs.Step.{outcomes_from, end_from, AreUnused}
 use Rattle.object_heap.specs.StateCode.{state_code}
 
 -- a state, and operations to be replayed from it
@@ -22,6 +21,6 @@ chunk_code = code_by (State × List Operation) (coded× state_code (coded_list o
 -- the operations can be replayed from the start, and that gives these outcomes and this end
 pub record IsReplayOf (c : Chunk) (outcomes : List Outcome) (end : State) : Type 0 where
   pub distinct : IsTrue (has_distinct_numbers c.ops)
-  pub free : AreFree c.start c.ops
+  pub unused : AreUnused c.start c.ops
   pub outcomes_are : outcomes ≡ outcomes_from c.start c.ops
   pub end_is : end ≡ end_from c.start c.ops

@@ -18,18 +18,18 @@ abbrev pub standing : Option Entry → Seen
 standing entry = record { entry = entry; strong = 0; weak = 0 }
 
 -- what two handles hold
-abbrev pub two : Option Holding → Option Holding → View
-two first second = record { first = first; second = second; cell = None; elements = []; object = unseen }
+abbrev pub of_two : Option Holding → Option Holding → View
+of_two first second = record { first = first; second = second; cell = None; elements = []; object = unseen }
 
-abbrev pub one : Option Holding → View
-one first = two first None
+abbrev pub of_one : Option Holding → View
+of_one first = of_two first None
 
 -- what two handles hold, and what stands for the object that the first one names
-abbrev pub two_seen : Option Holding → Option Holding → Seen → View
-two_seen first second object = record { first = first; second = second; cell = None; elements = []; object = object }
+abbrev pub of_two_and_object : Option Holding → Option Holding → Seen → View
+of_two_and_object first second object = record { first = first; second = second; cell = None; elements = []; object = object }
 
-abbrev pub one_seen : Option Holding → Seen → View
-one_seen first object = two_seen first None object
+abbrev pub of_one_and_object : Option Holding → Seen → View
+of_one_and_object first object = of_two_and_object first None object
 
 -- what a cell and two handles hold
 abbrev pub cell_and_two : Option Slot → Option Holding → Option Holding → View

@@ -1,8 +1,7 @@
 //! A stretch of operations that was replayed from a heap.
 ghost use Rattle.std.specs.Prelude.{◌≡◌, ◌≤◌, ◌+◌, IfOk, OnOk, IsTrue, length};
 ghost use Rattle.trace_types.specs.Trace.{has_distinct_numbers};
-ghost use Rattle.ownership_model.specs.Agrees.{AreFree};
-ghost use Rattle.ownership_model.specs.Step.{outcomes_from, end_from};
+ghost use Rattle.ownership_model.specs.Step.{outcomes_from, end_from, AreUnused};
 ghost use Rattle.op_step.specs.Meter.{raised};
 
 use crate::meter::Meter;
@@ -53,7 +52,7 @@ pub fn run(
     meter: &mut Meter,
 ) -> Result<ChunkRun, AllocError>
     requires distinct { IsTrue (has_distinct_numbers ops.now) }
-    requires free { AreFree start.now ops.now }
+    requires unused { AreUnused start.now ops.now }
     ensures chunk { IfOk result (λ c. c ≡ record { start = start.now; ops = ops.now }) }
     ensures counted { OnOk result (meter.new ≡ raised meter.old (length ops.now)) }
     ensures never_less { meter.old ≤ meter.new }
@@ -98,7 +97,7 @@ impl ChunkRun {
     pub fn ops(&self) -> &[Op]
         ensures value { result.now ≡ self.now.ops }
         ensures distinct { IsTrue (has_distinct_numbers self.now.ops) }
-        ensures free { AreFree self.now.start self.now.ops }
+        ensures unused { AreUnused self.now.start self.now.ops }
     {
         self.replayed.ops.as_slice()
     }

@@ -5,7 +5,7 @@ ghost use Rattle.std.specs.Prelude.{◌≡◌, IfOk};
 ghost use Rattle.std.specs.Option.{option_copied};
 ghost use Rattle.trace_types.specs.declared.kinds.Kind.TheVariants as kind;
 ghost use Rattle.ownership_model.specs.Table as Table;
-ghost use Rattle.op_step.specs.Views.{two_seen, standing, row_by};
+ghost use Rattle.op_step.specs.Views.{of_two_and_object, standing, row_by};
 
 use crate::effect::{acting, fields_of, holding};
 use ownership_model::plan::Plan;
@@ -24,7 +24,7 @@ pub fn set(
     second: Option<&Holding>,
     entry: Option<&Entry>,
 ) -> Result<Plan, AllocError>
-    ensures { IfOk result (λ p. p ≡ row_by (kind.Set h i from) (two_seen (option_copied first.entry) (option_copied second.entry) (standing (option_copied entry.entry)))) }
+    ensures { IfOk result (λ p. p ≡ row_by (kind.Set h i from) (of_two_and_object (option_copied first.entry) (option_copied second.entry) (standing (option_copied entry.entry)))) }
 {
     let Some(held) = first else {
         return Ok(Plan::Skip(Reason::NotHeld(h)));
@@ -76,7 +76,7 @@ pub fn take(
     second: Option<&Holding>,
     entry: Option<&Entry>,
 ) -> Result<Plan, AllocError>
-    ensures { IfOk result (λ p. p ≡ row_by (kind.Take h i to) (two_seen (option_copied first.entry) (option_copied second.entry) (standing (option_copied entry.entry)))) }
+    ensures { IfOk result (λ p. p ≡ row_by (kind.Take h i to) (of_two_and_object (option_copied first.entry) (option_copied second.entry) (standing (option_copied entry.entry)))) }
 {
     let Some(held) = first else {
         return Ok(Plan::Skip(Reason::NotHeld(h)));
@@ -124,7 +124,7 @@ pub fn get(
     second: Option<&Holding>,
     entry: Option<&Entry>,
 ) -> Result<Plan, AllocError>
-    ensures { IfOk result (λ p. p ≡ row_by (kind.Get h i to) (two_seen (option_copied first.entry) (option_copied second.entry) (standing (option_copied entry.entry)))) }
+    ensures { IfOk result (λ p. p ≡ row_by (kind.Get h i to) (of_two_and_object (option_copied first.entry) (option_copied second.entry) (standing (option_copied entry.entry)))) }
 {
     let Some(held) = first else {
         return Ok(Plan::Skip(Reason::NotHeld(h)));

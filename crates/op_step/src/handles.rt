@@ -3,7 +3,7 @@ ghost use Rattle.std.specs.Prelude.{◌≡◌, IfOk};
 ghost use Rattle.std.specs.Option.{option_copied};
 ghost use Rattle.trace_types.specs.declared.kinds.Kind.TheVariants as kind;
 ghost use Rattle.ownership_model.specs.Table as Table;
-ghost use Rattle.op_step.specs.Views.{one, two, two_seen, standing, row_by};
+ghost use Rattle.op_step.specs.Views.{of_one, of_two, of_two_and_object, standing, row_by};
 
 use crate::effect::{acting, answering, holding, items_of, object_of, yes_if};
 use ownership_model::plan::Plan;
@@ -19,7 +19,7 @@ pub fn clone(
     first: Option<&Holding>,
     second: Option<&Holding>,
 ) -> Result<Plan, AllocError>
-    ensures { IfOk result (λ p. p ≡ row_by (kind.Clone from to) (two (option_copied first.entry) (option_copied second.entry))) }
+    ensures { IfOk result (λ p. p ≡ row_by (kind.Clone from to) (of_two (option_copied first.entry) (option_copied second.entry))) }
 {
     let Some(held) = first else {
         return Ok(Plan::Skip(Reason::NotHeld(from)));
@@ -35,7 +35,7 @@ pub fn clone(
 
 /// `drop`
 pub fn drop(alloc: Global, h: u32, first: Option<&Holding>) -> Result<Plan, AllocError>
-    ensures { IfOk result (λ p. p ≡ row_by (kind.Drop h) (one (option_copied first.entry))) }
+    ensures { IfOk result (λ p. p ≡ row_by (kind.Drop h) (of_one (option_copied first.entry))) }
 {
     let Some(held) = first else {
         return Ok(Plan::Skip(Reason::NotHeld(h)));
@@ -61,7 +61,7 @@ pub fn downgrade(
     first: Option<&Holding>,
     second: Option<&Holding>,
 ) -> Result<Plan, AllocError>
-    ensures { IfOk result (λ p. p ≡ row_by (kind.Downgrade from to) (two (option_copied first.entry) (option_copied second.entry))) }
+    ensures { IfOk result (λ p. p ≡ row_by (kind.Downgrade from to) (of_two (option_copied first.entry) (option_copied second.entry))) }
 {
     let Some(held) = first else {
         return Ok(Plan::Skip(Reason::NotHeld(from)));
@@ -84,7 +84,7 @@ pub fn upgrade(
     second: Option<&Holding>,
     entry: Option<&Entry>,
 ) -> Result<Plan, AllocError>
-    ensures { IfOk result (λ p. p ≡ row_by (kind.Upgrade from to) (two_seen (option_copied first.entry) (option_copied second.entry) (standing (option_copied entry.entry)))) }
+    ensures { IfOk result (λ p. p ≡ row_by (kind.Upgrade from to) (of_two_and_object (option_copied first.entry) (option_copied second.entry) (standing (option_copied entry.entry)))) }
 {
     let Some(held) = first else {
         return Ok(Plan::Skip(Reason::NotHeld(from)));
@@ -123,7 +123,7 @@ fn upgraded(
 
 /// `Arc::strong_count` and `Arc::weak_count`, or those of `Weak`
 pub fn counts(alloc: Global, h: u32, first: Option<&Holding>) -> Plan
-    ensures { result ≡ row_by (kind.Counts h) (one (option_copied first.entry)) }
+    ensures { result ≡ row_by (kind.Counts h) (of_one (option_copied first.entry)) }
 {
     let Some(held) = first else {
         return Plan::Skip(Reason::NotHeld(h));
@@ -145,7 +145,7 @@ pub fn ptr_eq(
     first: Option<&Holding>,
     second: Option<&Holding>,
 ) -> Plan
-    ensures { result ≡ row_by (kind.PtrEq a b) (two (option_copied first.entry) (option_copied second.entry)) }
+    ensures { result ≡ row_by (kind.PtrEq a b) (of_two (option_copied first.entry) (option_copied second.entry)) }
 {
     let Some(held) = first else {
         return Plan::Skip(Reason::NotHeld(a));

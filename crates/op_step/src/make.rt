@@ -6,7 +6,7 @@ ghost use Rattle.std.specs.FinMap.{get};
 ghost use Rattle.ownership_model.specs.View.{element_of, elements_of};
 ghost use Rattle.ownership_model.specs.Table.{row_of, new_row, ending, make};
 ghost use Rattle.ownership_model.specs.Table as Table;
-ghost use Rattle.op_step.specs.Views.{one, two, row_by};
+ghost use Rattle.op_step.specs.Views.{of_one, of_two, row_by};
 
 use crate::effect::{acting, holding};
 use object_heap::heap::Heap;
@@ -50,7 +50,7 @@ pub fn new_from(
     first: Option<&Holding>,
     second: Option<&Holding>,
 ) -> Result<Plan, AllocError>
-    ensures { IfOk result (λ p. p ≡ row_of id (kind.NewFrom from to) (two (option_copied first.entry) (option_copied second.entry))) }
+    ensures { IfOk result (λ p. p ≡ row_of id (kind.NewFrom from to) (of_two (option_copied first.entry) (option_copied second.entry))) }
 {
     let Some(held) = first else {
         return Ok(Plan::Skip(Reason::NotHeld(from)));
@@ -71,7 +71,7 @@ pub fn new_from(
 
 /// `Weak::new`
 pub fn weak_new(alloc: Global, to: u32, first: Option<&Holding>) -> Result<Plan, AllocError>
-    ensures { IfOk result (λ p. p ≡ row_by (kind.WeakNew to) (one (option_copied first.entry))) }
+    ensures { IfOk result (λ p. p ≡ row_by (kind.WeakNew to) (of_one (option_copied first.entry))) }
 {
     if first.is_some() {
         return Ok(Plan::Skip(Reason::AlreadyHeld(to)));
@@ -81,7 +81,7 @@ pub fn weak_new(alloc: Global, to: u32, first: Option<&Holding>) -> Result<Plan,
 
 /// An empty pointer.
 pub fn null(alloc: Global, to: u32, first: Option<&Holding>) -> Result<Plan, AllocError>
-    ensures { IfOk result (λ p. p ≡ row_by (kind.Null to) (one (option_copied first.entry))) }
+    ensures { IfOk result (λ p. p ≡ row_by (kind.Null to) (of_one (option_copied first.entry))) }
 {
     if first.is_some() {
         return Ok(Plan::Skip(Reason::AlreadyHeld(to)));

@@ -8,7 +8,7 @@ ghost use Rattle.trace_types.specs.declared.slots.Change.TheVariants.{TurnHusk};
 ghost use Rattle.ownership_model.specs.declared.plan.Plan.TheVariants.{Act};
 ghost use Rattle.ownership_model.specs.Table.{row_of};
 ghost use Rattle.ownership_model.specs.Table as Table;
-ghost use Rattle.op_step.specs.Views.{one_seen, row_by};
+ghost use Rattle.op_step.specs.Views.{of_one_and_object, row_by};
 
 use crate::effect::{acting, answering, fields_of, yes_if};
 use ownership_model::plan::Plan;
@@ -25,7 +25,7 @@ pub fn try_unwrap(
     entry: Option<&Entry>,
     strong: u64,
 ) -> Result<Plan, AllocError>
-    ensures { IfOk result (λ p. p ≡ row_by (kind.TryUnwrap h) (one_seen (option_copied first.entry) (record { entry = option_copied entry.entry; strong = strong; weak = 0 }))) }
+    ensures { IfOk result (λ p. p ≡ row_by (kind.TryUnwrap h) (of_one_and_object (option_copied first.entry) (record { entry = option_copied entry.entry; strong = strong; weak = 0 }))) }
 {
     let Some(held) = first else {
         return Ok(Plan::Skip(Reason::NotHeld(h)));
@@ -47,7 +47,7 @@ pub fn into_inner(
     entry: Option<&Entry>,
     strong: u64,
 ) -> Result<Plan, AllocError>
-    ensures { IfOk result (λ p. p ≡ row_by (kind.IntoInner h) (one_seen (option_copied first.entry) (record { entry = option_copied entry.entry; strong = strong; weak = 0 }))) }
+    ensures { IfOk result (λ p. p ≡ row_by (kind.IntoInner h) (of_one_and_object (option_copied first.entry) (record { entry = option_copied entry.entry; strong = strong; weak = 0 }))) }
 {
     let Some(held) = first else {
         return Ok(Plan::Skip(Reason::NotHeld(h)));
@@ -84,7 +84,7 @@ fn unwrapped(alloc: Global, h: u32, object: u32, fields: &[Slot]) -> Result<Plan
 
 /// `Arc::get_mut`, where the counts are those of the object that the handle names
 pub fn get_mut(alloc: Global, h: u32, first: Option<&Holding>, strong: u64, weak: u64) -> Plan
-    ensures { result ≡ row_by (kind.GetMut h) (one_seen (option_copied first.entry) (record { entry = None; strong = strong; weak = weak })) }
+    ensures { result ≡ row_by (kind.GetMut h) (of_one_and_object (option_copied first.entry) (record { entry = None; strong = strong; weak = weak })) }
 {
     let Some(held) = first else {
         return Plan::Skip(Reason::NotHeld(h));
@@ -105,7 +105,7 @@ pub fn make_mut(
     strong: u64,
     weak: u64,
 ) -> Result<Plan, AllocError>
-    ensures { IfOk result (λ p. p ≡ row_of id (kind.MakeMut h) (one_seen (option_copied first.entry) (record { entry = option_copied entry.entry; strong = strong; weak = weak }))) }
+    ensures { IfOk result (λ p. p ≡ row_of id (kind.MakeMut h) (of_one_and_object (option_copied first.entry) (record { entry = option_copied entry.entry; strong = strong; weak = weak }))) }
 {
     let Some(held) = first else {
         return Ok(Plan::Skip(Reason::NotHeld(h)));

@@ -19,7 +19,7 @@ use Rattle.trace_types.specs.declared.slots.Entry.TheVariants.{Alive, Husk}
 use Rattle.trace_types.specs.declared.slots.Item.{Item}
 use Rattle.trace_types.specs.declared.slots.Item.TheVariants as item
 use Rattle.ownership_model.specs.Totals.{total_in, total}
-use Rattle.ownership_model.specs.State.{State, slots_weight, holding_weight, entry_weight, items_weight, standing_weight, weight, hits, strong, weak}
+use Rattle.ownership_model.specs.State.{State, slots_weight, holding_weight, entry_weight, items_weight, standing_weight, weight, names_alike, strong, weak}
 use Rattle.ownership_model.specs.Bounds.{HandleFits, CellFits, ObjectFits, IsBounded, max_slots}
 use Rattle.ownership_model.proofs.TotalLemmas.{first, second, less, find_below}
 
@@ -72,17 +72,17 @@ module _ {X : Type 0} (w : X → ℕ) (n most : ℕ) where
       omega (arith, total_in-le (entries m) within, more)
 
 -- a slot names an object at most once
-pub hits-le : (s t : Slot) → hits s t ≤ 1
-hits-le Nothing t = omega arith
-hits-le (Strong o) Nothing = omega arith
-hits-le (Strong o) (Strong p) = grind (arith, nat_tests)
-hits-le (Strong o) (Weak p) = omega arith
-hits-le (Strong o) Dangling = omega arith
-hits-le (Weak o) Nothing = omega arith
-hits-le (Weak o) (Strong p) = omega arith
-hits-le (Weak o) (Weak p) = grind (arith, nat_tests)
-hits-le (Weak o) Dangling = omega arith
-hits-le Dangling t = omega arith
+pub names_alike-le : (s t : Slot) → names_alike s t ≤ 1
+names_alike-le Nothing t = omega arith
+names_alike-le (Strong o) Nothing = omega arith
+names_alike-le (Strong o) (Strong p) = grind (arith, nat_tests)
+names_alike-le (Strong o) (Weak p) = omega arith
+names_alike-le (Strong o) Dangling = omega arith
+names_alike-le (Weak o) Nothing = omega arith
+names_alike-le (Weak o) (Strong p) = omega arith
+names_alike-le (Weak o) (Weak p) = grind (arith, nat_tests)
+names_alike-le (Weak o) Dangling = omega arith
+names_alike-le Dangling t = omega arith
 
 -- where no slot weighs more than one
 module _ (w : Slot → ℕ) (light : (s : Slot) → w s ≤ 1) where
@@ -121,7 +121,7 @@ module _ (w : Slot → ℕ) (light : (s : Slot) → w s ≤ 1) where
   weight-le m pending bounded = omega (arith, standing_weight-le m bounded, items_weight-le pending)
 
 pub strong-le : (m : State) (pending : List Item) (o : ℕ) → IsBounded m → strong m pending o ≤ max_slots + length pending
-strong-le m pending o bounded = weight-le (hits (Strong o)) (hits-le (Strong o)) m pending bounded
+strong-le m pending o bounded = weight-le (names_alike (Strong o)) (names_alike-le (Strong o)) m pending bounded
 
 pub weak-le : (m : State) (pending : List Item) (o : ℕ) → IsBounded m → weak m pending o ≤ max_slots + length pending
-weak-le m pending o bounded = weight-le (hits (Weak o)) (hits-le (Weak o)) m pending bounded
+weak-le m pending o bounded = weight-le (names_alike (Weak o)) (names_alike-le (Weak o)) m pending bounded

@@ -18,7 +18,7 @@ use Rattle.trace_types.specs.declared.outcomes.Answer.{Answer}
 use Rattle.trace_types.specs.declared.outcomes.Answer.TheVariants as answer
 use Rattle.ownership_model.specs.declared.plan.Plan.{Plan}
 use Rattle.ownership_model.specs.declared.plan.Plan.TheVariants.{Skip, Act}
-use Rattle.ownership_model.specs.State.{State, strong, weak, weight, holding_weight, entry_weight, slots_weight, hits, IsSound, IsSoundAt}
+use Rattle.ownership_model.specs.State.{State, strong, weak, weight, holding_weight, entry_weight, slots_weight, names_alike, IsSound, IsSoundAt}
 use Rattle.ownership_model.specs.Release.{drops}
 use Rattle.ownership_model.specs.Changes.{changed, HasField, IsAlive, with_field}
 use Rattle.ownership_model.specs.Carry.{IsCarriable}
@@ -42,13 +42,13 @@ module _ (m : State) (sound : IsSound m []) where
 
   -- the slot names what is named already
   record Stands (s : Slot) : Type 0 where
-    strongly : (q : ℕ) → 0 < hits (Strong q) s → 0 < strong m [] q
-    weakly : (q : ℕ) → 0 < hits (Weak q) s → 0 < strong m [] q + weak m [] q
+    strongly : (q : ℕ) → 0 < names_alike (Strong q) s → 0 < strong m [] q
+    weakly : (q : ℕ) → 0 < names_alike (Weak q) s → 0 < strong m [] q + weak m [] q
 
   counted_stands : (s : Slot) → ((w : Slot → ℕ) → w s ≤ weight w m []) → Stands s
   counted_stands s c = record {
-    strongly = λ q p. omega (arith, c (hits (Strong q)), p);
-    weakly = λ q p. omega (arith, c (hits (Weak q)), p);
+    strongly = λ q p. omega (arith, c (names_alike (Strong q)), p);
+    weakly = λ q p. omega (arith, c (names_alike (Weak q)), p);
   }
 
   held_stands : (h : ℕ) (s : Slot) → get m.handles h ≡ Some (holding.Slot s) → Stands s
@@ -76,14 +76,14 @@ module _ (m : State) (sound : IsSound m []) where
   }
 
   held_strong : (h o : ℕ) → get m.handles h ≡ Some (holding.Slot (Strong o)) → 0 < strong m [] o
-  held_strong h o is = omega (arith, held_within (hits (Strong o)) m h (holding.Slot (Strong o)) is, self_strong o)
+  held_strong h o is = omega (arith, held_within (names_alike (Strong o)) m h (holding.Slot (Strong o)) is, self_strong o)
 
   -- a handle that is free gets a slot
   add_carriable : (to : ℕ) (s : Slot) (a : Answer) (o : Option ℕ) → get m.handles to ≡ None → Stands s → P (act a (SetHandle to (holding.Slot s) ∷ []) [] o)
   add_carriable to s a o free c = (
     (tt, tt),
-    copies_sound m (changed m (SetHandle to (holding.Slot s) ∷ [])) [] sound (λ t. hits t s)
-        (λ t. omega (arith, total-set (holding_weight (hits t)) m.handles to (holding.Slot s) None free)) c.strongly c.weakly (λ q. refl) (λ q. refl),
+    copies_sound m (changed m (SetHandle to (holding.Slot s) ∷ [])) [] sound (λ t. names_alike t s)
+        (λ t. omega (arith, total-set (holding_weight (names_alike t)) m.handles to (holding.Slot s) None free)) c.strongly c.weakly (λ q. refl) (λ q. refl),
   )
 
   idle_carriable : (a : Answer) (o : Option ℕ) → P (act a [] [] o)
@@ -104,19 +104,19 @@ module _ (m : State) (sound : IsSound m []) where
   dropped_carriable h (holding.Slot s) is = (
     (there _ _ is, tt),
     moves_sound m (changed m (EndHandle h ∷ [])) (item.Slot s ∷ []) sound
-        (λ t. omega (arith, total-cut (holding_weight (hits t)) m.handles h (Some (holding.Slot s)) is)) (λ q. refl) (λ q. refl),
+        (λ t. omega (arith, total-cut (holding_weight (names_alike t)) m.handles h (Some (holding.Slot s)) is)) (λ q. refl) (λ q. refl),
   )
   dropped_carriable h (holding.Bare fields) is = (
     (there _ _ is, tt),
     moves_sound m (changed m (EndHandle h ∷ [])) (drops fields []) sound
-        (λ t. omega (arith, total-cut (holding_weight (hits t)) m.handles h (Some (holding.Bare fields)) is, items_weight-drops (hits t) fields [])) (λ q. ends-drops q fields []) (λ q. refl),
+        (λ t. omega (arith, total-cut (holding_weight (names_alike t)) m.handles h (Some (holding.Bare fields)) is, items_weight-drops (names_alike t) fields [])) (λ q. ends-drops q fields []) (λ q. refl),
   )
 
   cell_new_carriable : (c from : ℕ) (s : Slot) → get m.handles from ≡ Some (holding.Slot s) → get m.cells c ≡ None → P (act answer.Done (EndHandle from ∷ SetCell c s ∷ []) [] (named_by s))
   cell_new_carriable c from s is free = (
     (there _ _ is, (tt, tt)),
     moves_sound m (changed m (EndHandle from ∷ SetCell c s ∷ [])) [] sound
-        (λ t. omega (arith, total-cut (holding_weight (hits t)) m.handles from (Some (holding.Slot s)) is, total-set (hits t) m.cells c s None free)) (λ q. refl) (λ q. refl),
+        (λ t. omega (arith, total-cut (holding_weight (names_alike t)) m.handles from (Some (holding.Slot s)) is, total-set (names_alike t) m.cells c s None free)) (λ q. refl) (λ q. refl),
   )
 
   -- a handle's slot goes into a cell, and the old one is dropped
@@ -124,20 +124,20 @@ module _ (m : State) (sound : IsSound m []) where
   store_carriable c from a old s had is = (
     (there _ _ is, (tt, tt)),
     moves_sound m (changed m (EndHandle from ∷ SetCell c s ∷ [])) (item.Slot old ∷ []) sound
-        (λ t. omega (arith, total-cut (holding_weight (hits t)) m.handles from (Some (holding.Slot s)) is, total-set (hits t) m.cells c s (Some old) had)) (λ q. refl) (λ q. refl),
+        (λ t. omega (arith, total-cut (holding_weight (names_alike t)) m.handles from (Some (holding.Slot s)) is, total-set (names_alike t) m.cells c s (Some old) had)) (λ q. refl) (λ q. refl),
   )
 
   swapped_carriable : (c from : ℕ) (to : Option ℕ) (it : Option Holding) (old s : Slot) → ((k : ℕ) → to ≡ Some k → it ≡ get m.handles k) → get m.cells c ≡ Some old → get m.handles from ≡ Some (holding.Slot s) → P (swapped c from to it old s)
   swapped_carriable c from None it old s at had is = store_carriable c from answer.Done old s had is
-  swapped_carriable c from (Some to) it old s at had is = walk.at_free P (λ _. tt) to it _ (λ none.
+  swapped_carriable c from (Some to) it old s at had is = walk.at_unheld P (λ _. tt) to it _ (λ none.
       let free : get m.handles to ≡ None = sym (at to refl) ∙ none in (
         (there _ _ is, (tt, (tt, tt))),
         moves_sound m (changed m (EndHandle from ∷ SetCell c s ∷ SetHandle to (holding.Slot old) ∷ [])) [] sound
             (λ t. omega (
               arith,
-              total-cut (holding_weight (hits t)) m.handles from (Some (holding.Slot s)) is,
-              total-set (hits t) m.cells c s (Some old) had,
-              total-set (holding_weight (hits t)) (remove m.handles from) to (holding.Slot old) None (get_cut_none m.handles from to free),
+              total-cut (holding_weight (names_alike t)) m.handles from (Some (holding.Slot s)) is,
+              total-set (names_alike t) m.cells c s (Some old) had,
+              total-set (holding_weight (names_alike t)) (remove m.handles from) to (holding.Slot old) None (get_cut_none m.handles from to free),
             )) (λ q. refl) (λ q. refl),
       ))
 
@@ -149,22 +149,22 @@ module _ (m : State) (sound : IsSound m []) where
       let still : get (insert m.handles expected (holding.Slot old)) desired ≡ Some (holding.Slot d) = get_set_other m.handles expected (holding.Slot old) desired apart ∙ is_too in
       let c : Stands old = cell_stands c old had in (
         (tt, (there _ _ still, tt)),
-        copies_sound m (changed m (SetHandle expected (holding.Slot old) ∷ EndHandle desired ∷ [])) (item.Slot e ∷ item.Slot d ∷ []) sound (λ t. hits t old)
-            (λ t. omega (arith, total-set (holding_weight (hits t)) m.handles expected (holding.Slot old) (Some (holding.Slot e)) is, total-cut (holding_weight (hits t)) (insert m.handles expected (holding.Slot old)) desired (Some (holding.Slot d)) still))
+        copies_sound m (changed m (SetHandle expected (holding.Slot old) ∷ EndHandle desired ∷ [])) (item.Slot e ∷ item.Slot d ∷ []) sound (λ t. names_alike t old)
+            (λ t. omega (arith, total-set (holding_weight (names_alike t)) m.handles expected (holding.Slot old) (Some (holding.Slot e)) is, total-cut (holding_weight (names_alike t)) (insert m.handles expected (holding.Slot old)) desired (Some (holding.Slot d)) still))
             c.strongly c.weakly (λ q. refl) (λ q. refl),
       ))
 
   cell_drop_carriable : (c : ℕ) (s : Slot) → get m.cells c ≡ Some s → P (act answer.Done (EndCell c ∷ []) (item.Slot s ∷ []) (named_by s))
-  cell_drop_carriable c s is = ((there _ _ is, tt), moves_sound m (changed m (EndCell c ∷ [])) (item.Slot s ∷ []) sound (λ t. omega (arith, total-cut (hits t) m.cells c (Some s) is)) (λ q. refl) (λ q. refl))
+  cell_drop_carriable c s is = ((there _ _ is, tt), moves_sound m (changed m (EndCell c ∷ [])) (item.Slot s ∷ []) sound (λ t. omega (arith, total-cut (names_alike t) m.cells c (Some s) is)) (λ q. refl) (λ q. refl))
 
   not_unwrapped_carriable : (h o : ℕ) → get m.handles h ≡ Some (holding.Slot (Strong o)) → P (act answer.No (SetHandle h (holding.Slot Nothing) ∷ []) (item.Slot (Strong o) ∷ []) (Some o))
   not_unwrapped_carriable h o is = (
     (tt, tt),
     moves_sound m (changed m (SetHandle h (holding.Slot Nothing) ∷ [])) (item.Slot (Strong o) ∷ []) sound
-        (λ t. omega (arith, nothing_hit t, total-set (holding_weight (hits t)) m.handles h (holding.Slot Nothing) (Some (holding.Slot (Strong o))) is)) (λ q. refl) (λ q. refl),
+        (λ t. omega (arith, nothing_hit t, total-set (holding_weight (names_alike t)) m.handles h (holding.Slot Nothing) (Some (holding.Slot (Strong o))) is)) (λ q. refl) (λ q. refl),
   )
     where
-      nothing_hit : (t : Slot) → hits t Nothing ≡ 0
+      nothing_hit : (t : Slot) → names_alike t Nothing ≡ 0
       nothing_hit Nothing = refl
       nothing_hit (Strong o) = refl
       nothing_hit (Weak o) = refl
@@ -182,7 +182,7 @@ module _ (m : State) (sound : IsSound m []) where
   unwrapped_carriable h o (Some (Alive fields)) is hold one = (
     (is_alive_at o fields is, (tt, tt)),
     turns_sound m (changed m (TurnHusk o ∷ SetHandle h (holding.Bare fields) ∷ [])) (item.End o ∷ []) sound o one
-        (λ t. omega (arith, total-set (entry_weight (hits t)) m.objects o Husk (Some (Alive fields)) is, total-set (holding_weight (hits t)) m.handles h (holding.Bare fields) (Some (holding.Slot (Strong o))) hold))
+        (λ t. omega (arith, total-set (entry_weight (names_alike t)) m.objects o Husk (Some (Alive fields)) is, total-set (holding_weight (names_alike t)) m.handles h (holding.Bare fields) (Some (holding.Slot (Strong o))) hold))
         (λ q. omega arith) (λ q. get_inserted m.objects o Husk q),
   )
 
@@ -207,18 +207,18 @@ module _ (m : State) (sound : IsSound m []) where
         value_moves_sound m (changed m (TurnHusk o ∷ make id fields h)) [] sound o id fields apart (same_number (strong m [] o) 1 one) (positive (weak m [] o) some)
             (λ t. omega (
               arith,
-              total-set (entry_weight (hits t)) m.objects o Husk (Some (Alive fields)) is,
-              total-set (entry_weight (hits t)) (insert m.objects o Husk) id (Alive fields) None free,
-              total-set (holding_weight (hits t)) m.handles h (holding.Slot (Strong id)) (Some (holding.Slot (Strong o))) hold,
+              total-set (entry_weight (names_alike t)) m.objects o Husk (Some (Alive fields)) is,
+              total-set (entry_weight (names_alike t)) (insert m.objects o Husk) id (Alive fields) None free,
+              total-set (holding_weight (names_alike t)) m.handles h (holding.Slot (Strong id)) (Some (holding.Slot (Strong o))) hold,
             ))
             (λ q. refl)
             (λ q. get_inserted (insert m.objects o Husk) id (Alive fields) q ∙ ap (λ x. if id == q then Some (Alive fields) else x) (get_inserted m.objects o Husk q)),
       )))
       (λ _. (
         (new, (tt, tt)),
-        makes_sound m (changed m (make id fields h)) (item.Slot (Strong o) ∷ []) sound id (λ t. slots_weight (hits t) fields)
-            (λ t. omega (arith, total-set (entry_weight (hits t)) m.objects id (Alive fields) None new, total-set (holding_weight (hits t)) m.handles h (holding.Slot (Strong id)) (Some (holding.Slot (Strong o))) hold))
-            (λ q _ p. omega (arith, p, fields_within (hits (Strong q)) m o fields is)) (λ q _ p. omega (arith, p, fields_within (hits (Weak q)) m o fields is)) (λ q. refl) (shape_made id fields),
+        makes_sound m (changed m (make id fields h)) (item.Slot (Strong o) ∷ []) sound id (λ t. slots_weight (names_alike t) fields)
+            (λ t. omega (arith, total-set (entry_weight (names_alike t)) m.objects id (Alive fields) None new, total-set (holding_weight (names_alike t)) m.handles h (holding.Slot (Strong id)) (Some (holding.Slot (Strong o))) hold))
+            (λ q _ p. omega (arith, p, fields_within (names_alike (Strong q)) m o fields is)) (λ q _ p. omega (arith, p, fields_within (names_alike (Weak q)) m o fields is)) (λ q. refl) (shape_made id fields),
       ))
 
   new_from_carriable : (id from to : ℕ) (fields : List Slot) → get m.objects id ≡ None → get m.handles from ≡ Some (holding.Bare fields) → get m.handles to ≡ None → P (act answer.Made (EndHandle from ∷ make id fields to) [] (Some id))
@@ -227,15 +227,15 @@ module _ (m : State) (sound : IsSound m []) where
     makes_sound m (changed m (EndHandle from ∷ make id fields to)) [] sound id (λ _. 0)
         (λ t. omega (
           arith,
-          total-cut (holding_weight (hits t)) m.handles from (Some (holding.Bare fields)) is,
-          total-set (entry_weight (hits t)) m.objects id (Alive fields) None new,
-          total-set (holding_weight (hits t)) (remove m.handles from) to (holding.Slot (Strong id)) None (get_cut_none m.handles from to free),
+          total-cut (holding_weight (names_alike t)) m.handles from (Some (holding.Bare fields)) is,
+          total-set (entry_weight (names_alike t)) m.objects id (Alive fields) None new,
+          total-set (holding_weight (names_alike t)) (remove m.handles from) to (holding.Slot (Strong id)) None (get_cut_none m.handles from to free),
         ))
         (λ q _ p. absurd (omega (arith, p))) (λ q _ p. absurd (omega (arith, p))) (λ q. refl) (shape_made id fields),
   )
 
   -- ---- fields
-  nothing_hits : (t : Slot) → hits t Nothing ≡ 0
+  nothing_hits : (t : Slot) → names_alike t Nothing ≡ 0
   nothing_hits Nothing = refl
   nothing_hits (Strong o) = refl
   nothing_hits (Weak o) = refl
@@ -269,7 +269,7 @@ module _ (m : State) (sound : IsSound m []) where
   set_object_carriable h i from o s old (Some (Alive fields)) at is got = (
     (there _ _ is, (has_field o fields i old at got, tt)),
     moves_sound m (changed m (EndHandle from ∷ SetField o i s ∷ [])) (item.Slot old ∷ []) sound
-        (λ t. omega (arith, total-cut (holding_weight (hits t)) m.handles from (Some (holding.Slot s)) is, object_set (hits t) o fields i old s at got)) (λ q. refl) (shape_set o fields i s at),
+        (λ t. omega (arith, total-cut (holding_weight (names_alike t)) m.handles from (Some (holding.Slot s)) is, object_set (names_alike t) o fields i old s at got)) (λ q. refl) (shape_set o fields i s at),
   )
 
   apart_slot : (from h : ℕ) (s : Slot) (fields : List Slot) → get m.handles from ≡ Some (holding.Slot s) → get m.handles h ≡ Some (holding.Bare fields) → (from == h) ≡ false
@@ -287,7 +287,7 @@ module _ (m : State) (sound : IsSound m []) where
       let still : get (remove m.handles from) h ≡ Some (holding.Bare fields) = get_cut_other m.handles from h (apart_slot from h s fields is bare) ∙ bare in (
         (there _ _ is, (tt, tt)),
         moves_sound m (changed m (EndHandle from ∷ SetHandle h (holding.Bare (slice_set fields i s)) ∷ [])) (item.Slot old ∷ []) sound
-            (λ t. omega (arith, total-cut (holding_weight (hits t)) m.handles from (Some (holding.Slot s)) is, total-set (holding_weight (hits t)) (remove m.handles from) h (holding.Bare (slice_set fields i s)) (Some (holding.Bare fields)) still, slots_weight-set (hits t) fields i old s got)) (λ q. refl) (λ q. refl),
+            (λ t. omega (arith, total-cut (holding_weight (names_alike t)) m.handles from (Some (holding.Slot s)) is, total-set (holding_weight (names_alike t)) (remove m.handles from) h (holding.Bare (slice_set fields i s)) (Some (holding.Bare fields)) still, slots_weight-set (names_alike t) fields i old s got)) (λ q. refl) (λ q. refl),
       )
 
   take_object_carriable : (h i to o : ℕ) (s : Slot) (e : Option Entry) → get m.objects o ≡ e → get m.handles to ≡ None → slice_get (fields_of e) i ≡ Some s
@@ -297,7 +297,7 @@ module _ (m : State) (sound : IsSound m []) where
   take_object_carriable h i to o s (Some (Alive fields)) at free got = (
     (tt, (has_field o fields i s at got, tt)),
     moves_sound m (changed m (SetHandle to (holding.Slot s) ∷ SetField o i Nothing ∷ [])) [] sound
-        (λ t. omega (arith, total-set (holding_weight (hits t)) m.handles to (holding.Slot s) None free, object_set (hits t) o fields i s Nothing at got, nothing_hits t)) (λ q. refl) (shape_set o fields i Nothing at),
+        (λ t. omega (arith, total-set (holding_weight (names_alike t)) m.handles to (holding.Slot s) None free, object_set (names_alike t) o fields i s Nothing at got, nothing_hits t)) (λ q. refl) (shape_set o fields i Nothing at),
   )
 
   take_bare_carriable : (h i to : ℕ) (s : Slot) (fields : List Slot) → get m.handles h ≡ Some (holding.Bare fields) → get m.handles to ≡ None → slice_get fields i ≡ Some s
@@ -306,7 +306,7 @@ module _ (m : State) (sound : IsSound m []) where
       let still : get (insert m.handles to (holding.Slot s)) h ≡ Some (holding.Bare fields) = get_set_other m.handles to (holding.Slot s) h (turned_apart h to (apart_of m.handles h to (holding.Bare fields) bare free)) ∙ bare in (
         (tt, (tt, tt)),
         moves_sound m (changed m (SetHandle to (holding.Slot s) ∷ SetHandle h (holding.Bare (slice_set fields i Nothing)) ∷ [])) [] sound
-            (λ t. omega (arith, total-set (holding_weight (hits t)) m.handles to (holding.Slot s) None free, total-set (holding_weight (hits t)) (insert m.handles to (holding.Slot s)) h (holding.Bare (slice_set fields i Nothing)) (Some (holding.Bare fields)) still, slots_weight-set (hits t) fields i s Nothing got, nothing_hits t)) (λ q. refl) (λ q. refl),
+            (λ t. omega (arith, total-set (holding_weight (names_alike t)) m.handles to (holding.Slot s) None free, total-set (holding_weight (names_alike t)) (insert m.handles to (holding.Slot s)) h (holding.Bare (slice_set fields i Nothing)) (Some (holding.Bare fields)) still, slots_weight-set (names_alike t) fields i s Nothing got, nothing_hits t)) (λ q. refl) (λ q. refl),
       )
 
   get_object_carriable : (i to o : ℕ) (s : Slot) (e : Option Entry) → get m.objects o ≡ e → get m.handles to ≡ None → slice_get (fields_of e) i ≡ Some s → P (act answer.Done (SetHandle to (holding.Slot s) ∷ []) [] (Some o))
@@ -341,12 +341,12 @@ module _ (m : State) (sound : IsSound m []) where
   take_field_carriable : (h i to : ℕ) (owner : Option ℕ) (fields : List Slot)
       → ((s : Slot) → get m.handles to ≡ None → slice_get fields i ≡ Some s → P (act answer.Done (SetHandle to (holding.Slot s) ∷ write_field h owner fields i Nothing ∷ []) [] owner)) → P (take_field h i to (get m.handles to) owner fields)
   take_field_carriable h i to owner fields f =
-      walk.at_field P (λ _. tt) i (slice_get fields i) _ (λ s got. walk.at_free P (λ _. tt) to (get m.handles to) _ (λ free. f s free got))
+      walk.at_field P (λ _. tt) i (slice_get fields i) _ (λ s got. walk.at_unheld P (λ _. tt) to (get m.handles to) _ (λ free. f s free got))
 
   copy_field_carriable : (i to : ℕ) (owner : Option ℕ) (fields : List Slot)
       → ((s : Slot) → get m.handles to ≡ None → slice_get fields i ≡ Some s → P (act answer.Done (SetHandle to (holding.Slot s) ∷ []) [] owner)) → P (copy_field i to (get m.handles to) owner fields)
   copy_field_carriable i to owner fields f =
-      walk.at_field P (λ _. tt) i (slice_get fields i) _ (λ s got. walk.at_free P (λ _. tt) to (get m.handles to) _ (λ free. f s free got))
+      walk.at_field P (λ _. tt) i (slice_get fields i) _ (λ s got. walk.at_unheld P (λ _. tt) to (get m.handles to) _ (λ free. f s free got))
 
   at_to : (to : Option ℕ) (k : ℕ) → to ≡ Some k → held_by m to ≡ get m.handles k
   at_to to k e = ap (held_by m) e
@@ -355,22 +355,22 @@ module _ (m : State) (sound : IsSound m []) where
   row_of_carriable id (kind.New to fields) new apart = new_carriable m id to fields sound new apart
   row_of_carriable id (kind.NewCyclic to fields) new apart = new_carriable m id to fields sound new apart
   row_of_carriable id (kind.NewFrom from to) new apart =
-      walk.at_held P (λ _. tt) from (get m.handles from) _ (λ x is. walk.at_bare P (λ _. tt) from x _ (λ fields was. walk.at_free P (λ _. tt) to (get m.handles to) _ (λ free.
+      walk.at_held P (λ _. tt) from (get m.handles from) _ (λ x is. walk.at_bare P (λ _. tt) from x _ (λ fields was. walk.at_unheld P (λ _. tt) to (get m.handles to) _ (λ free.
       new_from_carriable id from to fields new (is ∙ ap Some was) free)))
-  row_of_carriable id (kind.WeakNew to) new apart = walk.at_free P (λ _. tt) to (get m.handles to) _ (λ free. add_carriable to Dangling answer.Done None free dangling_stands)
-  row_of_carriable id (kind.Null to) new apart = walk.at_free P (λ _. tt) to (get m.handles to) _ (λ free. add_carriable to Nothing answer.Done None free nothing_stands)
+  row_of_carriable id (kind.WeakNew to) new apart = walk.at_unheld P (λ _. tt) to (get m.handles to) _ (λ free. add_carriable to Dangling answer.Done None free dangling_stands)
+  row_of_carriable id (kind.Null to) new apart = walk.at_unheld P (λ _. tt) to (get m.handles to) _ (λ free. add_carriable to Nothing answer.Done None free nothing_stands)
   row_of_carriable id (kind.Clone from to) new apart =
-      walk.at_held P (λ _. tt) from (get m.handles from) _ (λ x is. walk.at_slot P (λ _. tt) from x _ (λ s was. walk.at_free P (λ _. tt) to (get m.handles to) _ (λ free.
+      walk.at_held P (λ _. tt) from (get m.handles from) _ (λ x is. walk.at_slot P (λ _. tt) from x _ (λ s was. walk.at_unheld P (λ _. tt) to (get m.handles to) _ (λ free.
       add_carriable to s answer.Done (named_by s) free (held_stands from s (is ∙ ap Some was)))))
   row_of_carriable id (kind.Drop h) new apart = walk.at_held P (λ _. tt) h (get m.handles h) _ (λ x is. dropped_carriable h x is)
   row_of_carriable id (kind.Downgrade from to) new apart =
-      walk.at_held P (λ _. tt) from (get m.handles from) _ (λ x is. walk.at_strong P (λ _. tt) from x _ (λ o was. walk.at_free P (λ _. tt) to (get m.handles to) _ (λ free.
+      walk.at_held P (λ _. tt) from (get m.handles from) _ (λ x is. walk.at_strong P (λ _. tt) from x _ (λ o was. walk.at_unheld P (λ _. tt) to (get m.handles to) _ (λ free.
       add_carriable to (Weak o) answer.Done (Some o) free (weak_stands o (held_strong from o (is ∙ ap Some was))))))
   row_of_carriable id (kind.Upgrade from to) new apart =
       walk.at_held P (λ _. tt) from (get m.handles from) _ (λ x is. walk.at_weak P (λ _. tt) from x _
-      (λ o was. walk.at_free P (λ _. tt) to (get m.handles to) _ (λ free.
+      (λ o was. walk.at_unheld P (λ _. tt) to (get m.handles to) _ (λ free.
       subst (λ (it : Seen). P (upgraded to it.entry (Some o))) (sym (seen_weak from o x is was)) (upgraded_carriable to o free)))
-      (walk.at_free P (λ _. tt) to (get m.handles to) _ (λ free. add_carriable to Nothing answer.No None free nothing_stands)))
+      (walk.at_unheld P (λ _. tt) to (get m.handles to) _ (λ free. add_carriable to Nothing answer.No None free nothing_stands)))
   row_of_carriable id (kind.TryUnwrap h) new apart =
       walk.at_held P (λ _. tt) h (get m.handles h) _ (λ x is. walk.at_strong P (λ _. tt) h x _ (λ o was.
       subst (λ (it : Seen). P (if it.strong == 1 then unwrapped h o (fields_of it.entry) else act answer.No [] [] (Some o))) (sym (seen_is h o x is was))
@@ -404,10 +404,10 @@ module _ (m : State) (sound : IsSound m []) where
       (copy_field_carriable i to (Some o) (fields_of (get m.objects o)) (λ s free got. get_object_carriable i to o s (get m.objects o) refl free got)))
       (λ fields was. copy_field_carriable i to None fields (λ s free got. get_bare_carriable h i to s fields (is ∙ ap Some was) free got)))
   row_of_carriable id (kind.CellNew c from) new apart =
-      walk.at_held P (λ _. tt) from (get m.handles from) _ (λ x is. walk.at_pointer P (λ _. tt) from x _ (λ s was. walk.at_free_cell P (λ _. tt) c (get m.cells c) _ (λ free.
+      walk.at_held P (λ _. tt) from (get m.handles from) _ (λ x is. walk.at_pointer P (λ _. tt) from x _ (λ s was. walk.at_absent_cell P (λ _. tt) c (get m.cells c) _ (λ free.
       cell_new_carriable c from s (is ∙ ap Some was) free)))
   row_of_carriable id (kind.CellLoad c to) new apart =
-      walk.at_cell P (λ _. tt) c (get m.cells c) _ (λ s is. walk.at_free P (λ _. tt) to (get m.handles to) _ (λ free. add_carriable to s answer.Done (named_by s) free (cell_stands c s is)))
+      walk.at_cell P (λ _. tt) c (get m.cells c) _ (λ s is. walk.at_unheld P (λ _. tt) to (get m.handles to) _ (λ free. add_carriable to s answer.Done (named_by s) free (cell_stands c s is)))
   row_of_carriable id (kind.CellSwap c from to) new apart =
       walk.at_cell P (λ _. tt) c (get m.cells c) _ (λ old had. walk.at_held P (λ _. tt) from (get m.handles from) _ (λ x is. walk.at_pointer P (λ _. tt) from x _ (λ s was.
       swapped_carriable c from to (held_by m to) old s (at_to to) had (is ∙ ap Some was))))

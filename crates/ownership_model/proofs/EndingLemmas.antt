@@ -13,7 +13,7 @@ use Rattle.trace_types.specs.declared.slots.Change.{Change}
 use Rattle.trace_types.specs.declared.slots.Change.TheVariants.{EndHandle}
 use Rattle.trace_types.specs.declared.kinds.Field.{Field}
 use Rattle.trace_types.specs.declared.kinds.Field.TheVariants as field
-use Rattle.ownership_model.specs.State.{State, weight, holding_weight, entry_weight, slots_weight, hits, IsSound}
+use Rattle.ownership_model.specs.State.{State, weight, holding_weight, entry_weight, slots_weight, names_alike, IsSound}
 use Rattle.ownership_model.specs.Changes.{changed, changed_by, CanChange}
 use Rattle.ownership_model.specs.Carry.{IsCarriable}
 use Rattle.ownership_model.specs.View.{Element, Read, Null, Me, elements_of, held_fields, repeated_in}
@@ -105,19 +105,19 @@ ready m n (field.Held h ∷ fs) before same apart held slots =
     at (Some (holding.Slot s)) is p q e r = (e, r p q)
     at (Some (holding.Bare fields)) is p q e r = absurd cc
 
-me_strong : (q id : ℕ) (es : List Element) → me_weight (hits (Strong q)) id es ≡ 0
+me_strong : (q id : ℕ) (es : List Element) → me_weight (names_alike (Strong q)) id es ≡ 0
 me_strong q id [] = refl
 me_strong q id (Read h x ∷ es) = me_strong q id es
 me_strong q id (Null ∷ es) = me_strong q id es
 me_strong q id (Me ∷ es) = omega (arith, me_strong q id es)
 
-me_other : (q id : ℕ) (es : List Element) → (id == q) ≡ false → me_weight (hits (Weak q)) id es ≡ 0
+me_other : (q id : ℕ) (es : List Element) → (id == q) ≡ false → me_weight (names_alike (Weak q)) id es ≡ 0
 me_other q id [] apart = refl
 me_other q id (Read h x ∷ es) apart = me_other q id es apart
 me_other q id (Null ∷ es) apart = me_other q id es apart
 me_other q id (Me ∷ es) apart = omega (arith, other_weak q id apart, me_other q id es apart)
 
-nothing_hits : (t : Slot) → hits t Nothing ≡ 0
+nothing_hits : (t : Slot) → names_alike t Nothing ≡ 0
 nothing_hits Nothing = refl
 nothing_hits (Strong o) = refl
 nothing_hits (Weak o) = refl
@@ -129,15 +129,15 @@ made_shape fields x false = refl
 
 pub new_carriable : (m : State) (id to : ℕ) (fs : List Field) → IsSound m [] → get m.objects id ≡ None → repeated_in (to ∷ []) (held_fields fs) ≡ None → IsCarriable m (new_row id to (elements_of m fs) (get m.handles to))
 new_carriable m id to fs sound new apart =
-    walk.at_all_held (IsCarriable m) (λ _. tt) (first_unheld (elements_of m fs)) _ (λ held. walk.at_all_slots (IsCarriable m) (λ _. tt) (first_bare (elements_of m fs)) _ (λ slots. walk.at_free (IsCarriable m) (λ _. tt) to (get m.handles to) _ (λ free.
+    walk.at_all_held (IsCarriable m) (λ _. tt) (first_unheld (elements_of m fs)) _ (λ held. walk.at_all_slots (IsCarriable m) (λ _. tt) (first_bare (elements_of m fs)) _ (λ slots. walk.at_unheld (IsCarriable m) (λ _. tt) to (get m.handles to) _ (λ free.
     let es : List Element = elements_of m fs in
     let fields : List Slot = made_fields id es in
     let n : State = ended m es in
     let r : Ready m es = ready m m fs (to ∷ []) (λ q _. refl) apart held slots in
     let absent : get n.objects id ≡ None = ap (λ x. get x id) (same_objects m es) ∙ new in
     let none : get n.handles to ≡ None = still_free m es to free in
-    let made : IsSound (changed n (make id fields to)) [] = makes_sound m (changed n (make id fields to)) [] sound id (λ t. me_weight (hits t) id es)
-    (λ t. omega (arith, total-set (entry_weight (hits t)) n.objects id (Alive fields) None absent, total-set (holding_weight (hits t)) n.handles to (holding.Slot (Strong id)) None none, weight-ended (hits t) m id es (nothing_hits t) r))
+    let made : IsSound (changed n (make id fields to)) [] = makes_sound m (changed n (make id fields to)) [] sound id (λ t. me_weight (names_alike t) id es)
+    (λ t. omega (arith, total-set (entry_weight (names_alike t)) n.objects id (Alive fields) None absent, total-set (holding_weight (names_alike t)) n.handles to (holding.Slot (Strong id)) None none, weight-ended (names_alike t) m id es (nothing_hits t) r))
     (λ q _ p. absurd (omega (arith, p, me_strong q id es))) (λ q other p. absurd (omega (arith, p, me_other q id es other))) (λ q. refl)
     (λ q. ap (λ x. shape (get (insert x id (Alive fields)) q)) (same_objects m es) ∙ ap shape (get_inserted m.objects id (Alive fields) q) ∙ made_shape fields (get m.objects q) (id == q)) in
     (can_end m es (make id fields to) r (absent, (tt, tt)), subst (λ (x : State). IsSound x []) (sym (changed-ending m es (make id fields to))) made))))

@@ -11,7 +11,7 @@ use Rattle.trace_types.specs.declared.slots.Entry.TheVariants.{Alive, Husk}
 use Rattle.trace_types.specs.declared.slots.Item.{Item}
 use Rattle.trace_types.specs.declared.slots.Item.TheVariants as item
 use Rattle.ownership_model.specs.Totals.{total_in}
-use Rattle.ownership_model.specs.State.{slots_weight, items_weight, holding_weight, entry_weight, hits, ends, IsSoundAt}
+use Rattle.ownership_model.specs.State.{slots_weight, items_weight, holding_weight, entry_weight, names_alike, ends, IsSoundAt}
 use Rattle.ownership_model.proofs.Listed.{Lists, look, count}
 
 abbrev pub SlotBelow : ℕ → Slot → Type 0
@@ -53,7 +53,7 @@ pub record AreBelow (n : ℕ) (m : Lists) (pending : List Item) : Type 0 where
   pub items : ItemsBelow n pending
 
 abbrev IsFar : ℕ → Slot → Type 0
-IsFar n x = (s : Slot) → SlotBelow n s → hits x s ≡ 0
+IsFar n x = (s : Slot) → SlotBelow n s → names_alike x s ≡ 0
 
 strong_far : (n o : ℕ) → n ≤ o → IsFar n (Strong o)
 strong_far n o le Nothing below = refl
@@ -67,15 +67,15 @@ weak_far n o le (Strong p) below = refl
 weak_far n o le (Weak p) below = grind (arith, nat_tests)
 weak_far n o le Dangling below = refl
 
-slots_none : (n : ℕ) (x : Slot) → IsFar n x → (ss : List Slot) → SlotsBelow n ss → slots_weight (hits x) ss ≡ 0
+slots_none : (n : ℕ) (x : Slot) → IsFar n x → (ss : List Slot) → SlotsBelow n ss → slots_weight (names_alike x) ss ≡ 0
 slots_none n x far [] below = refl
 slots_none n x far (s ∷ ss) below = omega (arith, far s below.0, slots_none n x far ss below.1)
 
-holding_none : (n : ℕ) (x : Slot) → IsFar n x → (h : Holding) → HoldingBelow n h → holding_weight (hits x) h ≡ 0
+holding_none : (n : ℕ) (x : Slot) → IsFar n x → (h : Holding) → HoldingBelow n h → holding_weight (names_alike x) h ≡ 0
 holding_none n x far (holding.Slot s) below = far s below
 holding_none n x far (holding.Bare fields) below = slots_none n x far fields below
 
-entry_none : (n : ℕ) (x : Slot) → IsFar n x → (e : Entry) → EntryBelow n e → entry_weight (hits x) e ≡ 0
+entry_none : (n : ℕ) (x : Slot) → IsFar n x → (e : Entry) → EntryBelow n e → entry_weight (names_alike x) e ≡ 0
 entry_none n x far (Alive fields) below = slots_none n x far fields below
 entry_none n x far Husk below = refl
 
@@ -83,7 +83,7 @@ total_none : {X : Type 0} (P : X → Type 0) (w : X → ℕ) → ((x : X) → P 
 total_none P w none [] below = refl
 total_none P w none (e ∷ es) below = omega (arith, none e.1 below.0, total_none P w none es below.1)
 
-items_none : (n : ℕ) (x : Slot) → IsFar n x → (is : List Item) → ItemsBelow n is → items_weight (hits x) is ≡ 0
+items_none : (n : ℕ) (x : Slot) → IsFar n x → (is : List Item) → ItemsBelow n is → items_weight (names_alike x) is ≡ 0
 items_none n x far [] below = refl
 items_none n x far (item.Slot s ∷ is) below = omega (arith, far s below.0, items_none n x far is below.1)
 items_none n x far (item.End o ∷ is) below = items_none n x far is below.1
@@ -100,9 +100,9 @@ look_none n o le (e ∷ es) below = let rest : look o es ≡ None = look_none n 
 count_none : (n : ℕ) (x : Slot) → IsFar n x → (m : Lists) (pending : List Item) → AreBelow n m pending → count x m pending ≡ 0
 count_none n x far m pending below = omega (
   arith,
-  total_none (HoldingBelow n) (holding_weight (hits x)) (holding_none n x far) m.handles below.handles,
-  total_none (SlotBelow n) (hits x) far m.cells below.cells,
-  total_none (EntryBelow n) (entry_weight (hits x)) (entry_none n x far) m.objects below.objects,
+  total_none (HoldingBelow n) (holding_weight (names_alike x)) (holding_none n x far) m.handles below.handles,
+  total_none (SlotBelow n) (names_alike x) far m.cells below.cells,
+  total_none (EntryBelow n) (entry_weight (names_alike x)) (entry_none n x far) m.objects below.objects,
   items_none n x far pending below.items,
 )
 

@@ -135,7 +135,7 @@ module _ (id : ℕ) (low : id ≤ max_id) where
 
   new_fits : (to : ℕ) (es : List Element) (it : Option Holding) → length es ≤ max_fields → to ≤ max_name → PlanFits (new_row id to es it)
   new_fits to es it few name =
-      walk.at_all_held PlanFits (λ _. tt) (first_unheld es) _ (λ _. walk.at_all_slots PlanFits (λ _. tt) (first_bare es) _ (λ _. walk.at_free PlanFits (λ _. tt) to it _ (λ _.
+      walk.at_all_held PlanFits (λ _. tt) (first_unheld es) _ (λ _. walk.at_all_slots PlanFits (λ _. tt) (first_bare es) _ (λ _. walk.at_unheld PlanFits (λ _. tt) to it _ (λ _.
       ending_fits es (make id (made_fields id es) to) (make_fits (made_fields id es) to (omega (arith, few, length-made_fields id es)) name))))
 
   unique_fits : (h o : ℕ) (it : Seen) → h ≤ max_name → AreFew (fields_of it.entry) → PlanFits (made_unique id h o it)
@@ -150,7 +150,7 @@ module _ (id : ℕ) (low : id ≤ max_id) where
 
   swapped_fits : (c from : ℕ) (to : Option ℕ) (it : Option Holding) (old s : Slot) → c ≤ max_name → IsTrue (is_perhaps_name to) → PlanFits (swapped c from to it old s)
   swapped_fits c from None it old s cell name = (tt, (cell, tt))
-  swapped_fits c from (Some to) it old s cell name = walk.at_free PlanFits (λ _. tt) to it _ (λ _. (tt, (cell, ((below to max_name name, tt), tt))))
+  swapped_fits c from (Some to) it old s cell name = walk.at_unheld PlanFits (λ _. tt) to it _ (λ _. (tt, (cell, ((below to max_name name, tt), tt))))
 
   exchanged_fits : (c expected desired : ℕ) (old e d : Slot) → c ≤ max_name → expected ≤ max_name → PlanFits (exchanged c expected desired old e d)
   exchanged_fits c expected desired old e d cell name =
@@ -162,11 +162,11 @@ module _ (id : ℕ) (low : id ≤ max_id) where
 
   take_fits : (h i to : ℕ) (it : Option Holding) (owner : Option ℕ) (fields : List Slot) → h ≤ max_name → to ≤ max_name → AreFew fields → PlanFits (take_field h i to it owner fields)
   take_fits h i to it owner fields name target few =
-      walk.at_field PlanFits (λ _. tt) i (slice_get fields i) _ (λ s got. walk.at_free PlanFits (λ _. tt) to it _ (λ _. ((target, tt), (write_fits h owner fields i Nothing name few, tt))))
+      walk.at_field PlanFits (λ _. tt) i (slice_get fields i) _ (λ s got. walk.at_unheld PlanFits (λ _. tt) to it _ (λ _. ((target, tt), (write_fits h owner fields i Nothing name few, tt))))
 
   copy_fits : (i to : ℕ) (it : Option Holding) (owner : Option ℕ) (fields : List Slot) → to ≤ max_name → PlanFits (copy_field i to it owner fields)
   copy_fits i to it owner fields target =
-      walk.at_field PlanFits (λ _. tt) i (slice_get fields i) _ (λ s got. walk.at_free PlanFits (λ _. tt) to it _ (λ _. ((target, tt), tt)))
+      walk.at_field PlanFits (λ _. tt) i (slice_get fields i) _ (λ s got. walk.at_unheld PlanFits (λ _. tt) to it _ (λ _. ((target, tt), tt)))
 
   bare_few : (it : Option Holding) (x : Holding) (fields : List Slot) → IfThere HoldingFits it → it ≡ Some x → x ≡ holding.Bare fields → AreFew fields
   bare_few it x fields fits is was = subst HoldingFits was (found it x fits is)
@@ -175,21 +175,21 @@ module _ (id : ℕ) (low : id ≤ max_id) where
   row_of_fits (kind.New to fields) v fits c = new_fits to v.elements v.first c.elements (below to max_name (one (is_name to) _ fits))
   row_of_fits (kind.NewCyclic to fields) v fits c = new_fits to v.elements v.first c.elements (below to max_name (one (is_name to) _ fits))
   row_of_fits (kind.NewFrom from to) v fits c =
-      walk.at_held PlanFits (λ _. tt) from v.first _ (λ x is. walk.at_bare PlanFits (λ _. tt) from x _ (λ fields was. walk.at_free PlanFits (λ _. tt) to v.second _ (λ _.
+      walk.at_held PlanFits (λ _. tt) from v.first _ (λ x is. walk.at_bare PlanFits (λ _. tt) from x _ (λ fields was. walk.at_unheld PlanFits (λ _. tt) to v.second _ (λ _.
       (tt, make_fits fields to (bare_few v.first x fields c.first is was) (below to max_name (other (is_name from) _ fits))))))
-  row_of_fits (kind.WeakNew to) v fits c = walk.at_free PlanFits (λ _. tt) to v.first _ (λ _. ((below to max_name fits, tt), tt))
-  row_of_fits (kind.Null to) v fits c = walk.at_free PlanFits (λ _. tt) to v.first _ (λ _. ((below to max_name fits, tt), tt))
+  row_of_fits (kind.WeakNew to) v fits c = walk.at_unheld PlanFits (λ _. tt) to v.first _ (λ _. ((below to max_name fits, tt), tt))
+  row_of_fits (kind.Null to) v fits c = walk.at_unheld PlanFits (λ _. tt) to v.first _ (λ _. ((below to max_name fits, tt), tt))
   row_of_fits (kind.Clone from to) v fits c =
-      walk.at_held PlanFits (λ _. tt) from v.first _ (λ x is. walk.at_slot PlanFits (λ _. tt) from x _ (λ s was. walk.at_free PlanFits (λ _. tt) to v.second _ (λ _.
+      walk.at_held PlanFits (λ _. tt) from v.first _ (λ x is. walk.at_slot PlanFits (λ _. tt) from x _ (λ s was. walk.at_unheld PlanFits (λ _. tt) to v.second _ (λ _.
       ((below to max_name (other (is_name from) _ fits), tt), tt))))
   row_of_fits (kind.Drop h) v fits c = walk.at_held PlanFits (λ _. tt) h v.first _ (λ x is. dropped_fits h x)
   row_of_fits (kind.Downgrade from to) v fits c =
-      walk.at_held PlanFits (λ _. tt) from v.first _ (λ x is. walk.at_strong PlanFits (λ _. tt) from x _ (λ o was. walk.at_free PlanFits (λ _. tt) to v.second _ (λ _.
+      walk.at_held PlanFits (λ _. tt) from v.first _ (λ x is. walk.at_strong PlanFits (λ _. tt) from x _ (λ o was. walk.at_unheld PlanFits (λ _. tt) to v.second _ (λ _.
       ((below to max_name (other (is_name from) _ fits), tt), tt))))
   row_of_fits (kind.Upgrade from to) v fits c =
       walk.at_held PlanFits (λ _. tt) from v.first _ (λ x is. walk.at_weak PlanFits (λ _. tt) from x _
-      (λ o was. walk.at_free PlanFits (λ _. tt) to v.second _ (λ _. upgraded_fits to v.object.entry (Some o) (below to max_name (other (is_name from) _ fits))))
-      (walk.at_free PlanFits (λ _. tt) to v.second _ (λ _. upgraded_fits to v.object.entry None (below to max_name (other (is_name from) _ fits)))))
+      (λ o was. walk.at_unheld PlanFits (λ _. tt) to v.second _ (λ _. upgraded_fits to v.object.entry (Some o) (below to max_name (other (is_name from) _ fits))))
+      (walk.at_unheld PlanFits (λ _. tt) to v.second _ (λ _. upgraded_fits to v.object.entry None (below to max_name (other (is_name from) _ fits)))))
   row_of_fits (kind.TryUnwrap h) v fits c =
       walk.at_held PlanFits (λ _. tt) h v.first _ (λ x is. walk.at_strong PlanFits (λ _. tt) h x _ (λ o was.
       walk.at_test PlanFits (λ _. tt) (v.object.strong == 1) _ _ (λ _. (tt, ((below h max_name fits, c.object), tt))) (λ _. tt)))
@@ -218,10 +218,10 @@ module _ (id : ℕ) (low : id ≤ max_id) where
       walk.at_held PlanFits (λ _. tt) h v.first _ (λ x is. walk.at_fields PlanFits (λ _. tt) h x v.object.entry _
       (λ o was. copy_fits i to v.second (Some o) (fields_of v.object.entry) target) (λ fields was. copy_fits i to v.second None fields target))
   row_of_fits (kind.CellNew cell from) v fits c =
-      walk.at_held PlanFits (λ _. tt) from v.first _ (λ x is. walk.at_pointer PlanFits (λ _. tt) from x _ (λ s was. walk.at_free_cell PlanFits (λ _. tt) cell v.cell _ (λ _.
+      walk.at_held PlanFits (λ _. tt) from v.first _ (λ x is. walk.at_pointer PlanFits (λ _. tt) from x _ (λ s was. walk.at_absent_cell PlanFits (λ _. tt) cell v.cell _ (λ _.
       (tt, (below cell max_name (one (is_name cell) _ fits), tt)))))
   row_of_fits (kind.CellLoad cell to) v fits c =
-      walk.at_cell PlanFits (λ _. tt) cell v.cell _ (λ s is. walk.at_free PlanFits (λ _. tt) to v.first _ (λ _. ((below to max_name (other (is_name cell) _ fits), tt), tt)))
+      walk.at_cell PlanFits (λ _. tt) cell v.cell _ (λ s is. walk.at_unheld PlanFits (λ _. tt) to v.first _ (λ _. ((below to max_name (other (is_name cell) _ fits), tt), tt)))
   row_of_fits (kind.CellSwap cell from to) v fits c =
       walk.at_cell PlanFits (λ _. tt) cell v.cell _ (λ old had. walk.at_held PlanFits (λ _. tt) from v.first _ (λ x is. walk.at_pointer PlanFits (λ _. tt) from x _ (λ s was.
       swapped_fits cell from to v.second old s (below cell max_name (one (is_name cell) _ fits)) (other (is_name from) _ (other (is_name cell) _ fits)))))

@@ -10,8 +10,8 @@ use Rattle.trace_types.specs.declared.slots.Entry.TheVariants.{Alive, Husk}
 use Rattle.trace_types.specs.declared.slots.Item.{Item}
 use Rattle.trace_types.specs.declared.slots.Item.TheVariants as item
 use Rattle.ownership_model.specs.Totals.{total, weight_at}
-use Rattle.ownership_model.specs.State.{State, strong, weak, ends, hits, holding_weight, entry_weight, IsSound, IsSoundAt}
-use Rattle.ownership_model.specs.Release.{Released, Fate, Stays, Falls, Goes, fate, fall, meet, drop_first, release, release_within, work, is_husk}
+use Rattle.ownership_model.specs.State.{State, strong, weak, ends, names_alike, holding_weight, entry_weight, IsSound, IsSoundAt}
+use Rattle.ownership_model.specs.Release.{Released, Fate, Stays, Falls, Goes, fate, fall, left_by, drop_first, release, release_within, work, is_husk}
 use Rattle.ownership_model.specs.Cascade.{times_destroyed, times_freed, HuskCourse, Course}
 use Rattle.ownership_model.specs.declared.link.Link.TheVariants.{StrongOnly}
 use Rattle.ownership_model.specs.Reach.{has, entry_names, field_names}
@@ -25,7 +25,7 @@ use Rattle.ownership_model.proofs.CascadeLemmas.{course, times_destroyed-append}
 use Rattle.ownership_model.proofs.NamedLemmas.{none_named, none_counted, named_entry, each_zero, roots_unnamed, unnamed_roots}
 
 -- handles and cells stay as they are
-kept_by : (m : State) (xs : List Item) (f : Fate) → ((meet m xs f).state.handles ≡ m.handles) × ((meet m xs f).state.cells ≡ m.cells)
+kept_by : (m : State) (xs : List Item) (f : Fate) → ((left_by m xs f).state.handles ≡ m.handles) × ((left_by m xs f).state.cells ≡ m.cells)
 kept_by m xs Stays = (refl, refl)
 kept_by m xs (Falls o fields) = (refl, refl)
 kept_by m xs (Goes o) = (refl, refl)
@@ -45,16 +45,16 @@ kept_roots m p = kept_within (work m p) m p
 
 -- closed: what stays alive is held by what stays
 
-husk_holds_none : (o g : ℕ) (after : Option Entry) → HuskCourse g after → weight_at (entry_weight (hits (Strong o))) after ≡ 0
-husk_holds_none o g after (inl p) = subst (λ (x : Option Entry). weight_at (entry_weight (hits (Strong o))) x ≡ 0) (sym p.1) refl
-husk_holds_none o g after (inr p) = subst (λ (x : Option Entry). weight_at (entry_weight (hits (Strong o))) x ≡ 0) (sym p.1) refl
+husk_holds_none : (o g : ℕ) (after : Option Entry) → HuskCourse g after → weight_at (entry_weight (names_alike (Strong o))) after ≡ 0
+husk_holds_none o g after (inl p) = subst (λ (x : Option Entry). weight_at (entry_weight (names_alike (Strong o))) x ≡ 0) (sym p.1) refl
+husk_holds_none o g after (inr p) = subst (λ (x : Option Entry). weight_at (entry_weight (names_alike (Strong o))) x ≡ 0) (sym p.1) refl
 
 -- where only objects that are destroyed held it, none holds it afterwards
-holds_none : (o d g : ℕ) (b after : Option Entry) → Course b d g after → (has o (entry_names StrongOnly b) ≡ true → not (d == 0) ≡ true) → weight_at (entry_weight (hits (Strong o))) after ≡ 0
-holds_none o d g None after c h = subst (λ (x : Option Entry). weight_at (entry_weight (hits (Strong o))) x ≡ 0) (sym c.1.1) refl
+holds_none : (o d g : ℕ) (b after : Option Entry) → Course b d g after → (has o (entry_names StrongOnly b) ≡ true → not (d == 0) ≡ true) → weight_at (entry_weight (names_alike (Strong o))) after ≡ 0
+holds_none o d g None after c h = subst (λ (x : Option Entry). weight_at (entry_weight (names_alike (Strong o))) x ≡ 0) (sym c.1.1) refl
 holds_none o d g (Some Husk) after c h = husk_holds_none o g after c.1
 holds_none o d g (Some (Alive fields)) after (inl c) h =
-    subst (λ (x : Option Entry). weight_at (entry_weight (hits (Strong o))) x ≡ 0) (sym c.1.1)
+    subst (λ (x : Option Entry). weight_at (entry_weight (names_alike (Strong o))) x ≡ 0) (sym c.1.1)
     (none_named _ _ (named_entry o (Some (Alive fields))) (unheld (has o (entry_names StrongOnly (Some (Alive fields)))) h))
   where
     unheld : (b : Bool) → (b ≡ true → not (d == 0) ≡ true) → b ≡ false
@@ -74,11 +74,11 @@ destroyed_or_named d g s w (Some (Alive fields)) after lives (inr c) sound none 
 pub destroyed_closed : (m : State) (p : List Item) → IsSound m p → IsClosed m (is_destroyed (release m p).events)
 destroyed_closed m p sound o falls =
     let e : State = (release m p).state in
-    let roots : (total (holding_weight (hits (Strong o))) m.handles ≡ 0) × (total (hits (Strong o)) m.cells ≡ 0) = roots_unnamed m o falls.unrooted in
-    let handles : total (holding_weight (hits (Strong o))) (release m p).state.handles ≡ 0 = ap (total (holding_weight (hits (Strong o)))) (kept_roots m p).0 ∙ roots.0 in
-    let cells : total (hits (Strong o)) (release m p).state.cells ≡ 0 = ap (total (hits (Strong o))) (kept_roots m p).1 ∙ roots.1 in
-    let objects : total (entry_weight (hits (Strong o))) (release m p).state.objects ≡ 0 =
-    total-zero (entry_weight (hits (Strong o))) (release m p).state.objects
+    let roots : (total (holding_weight (names_alike (Strong o))) m.handles ≡ 0) × (total (names_alike (Strong o)) m.cells ≡ 0) = roots_unnamed m o falls.unrooted in
+    let handles : total (holding_weight (names_alike (Strong o))) (release m p).state.handles ≡ 0 = ap (total (holding_weight (names_alike (Strong o)))) (kept_roots m p).0 ∙ roots.0 in
+    let cells : total (names_alike (Strong o)) (release m p).state.cells ≡ 0 = ap (total (names_alike (Strong o))) (kept_roots m p).1 ∙ roots.1 in
+    let objects : total (entry_weight (names_alike (Strong o))) (release m p).state.objects ≡ 0 =
+    total-zero (entry_weight (names_alike (Strong o))) (release m p).state.objects
     (λ q. holds_none o (times_destroyed q (release m p).events) (times_freed q (release m p).events) (get m.objects q) (get (release m p).state.objects q) (course m p q sound) (falls.held q)) in
     destroyed_or_named (times_destroyed o (release m p).events) (times_freed o (release m p).events) (strong (release m p).state [] o) (weak (release m p).state [] o)
     (get m.objects o) (get (release m p).state.objects o) falls.alive (course m p o sound) (sound-release m p sound o) (omega (arith, handles, cells, objects))
@@ -101,8 +101,8 @@ husk_names_none o (Some Husk) husk h = absurd cc
 module _ (k : ℕ → Bool) (m : State) (xs : List Item) where
   -- what one item destroys is in the set, and the set stays closed
   pub record IsLed (f : Fate) : Type 0 where
-    pub into : (o : ℕ) → 0 < times_destroyed o (meet m xs f).events → k o ≡ true
-    pub next : IsClosed (meet m xs f).state k
+    pub into : (o : ℕ) → 0 < times_destroyed o (left_by m xs f).events → k o ≡ true
+    pub next : IsClosed (left_by m xs f).state k
 
   led_stays : IsClosed m k → IsLed Stays
   led_stays c = record { into = λ o h. absurd (omega (arith, h)); next = c }
@@ -121,7 +121,7 @@ module _ (k : ℕ → Bool) (m : State) (xs : List Item) where
 
   -- nothing that stands names an object whose strong count is 0
   unheld : (p q : ℕ) → strong m xs p ≡ 0 → has p (field_names StrongOnly m q) ≡ false
-  unheld p q none = none_counted _ _ (named_entry p (get m.objects q)) (each_zero (entry_weight (hits (Strong p))) m.objects (omega (arith, none)) q)
+  unheld p q none = none_counted _ _ (named_entry p (get m.objects q)) (each_zero (entry_weight (names_alike (Strong p))) m.objects (omega (arith, none)) q)
 
   falls_alone : (p : ℕ) (fields : List Slot) → get m.objects p ≡ Some (Alive fields) → strong m xs p ≡ 0 → FallsWith m k p
   falls_alone p fields is none = record {

@@ -13,7 +13,7 @@ use Rattle.trace_types.specs.declared.slots.Item.TheVariants as item
 use Rattle.trace_types.specs.declared.slots.Change.{Change}
 use Rattle.trace_types.specs.declared.slots.Change.TheVariants.{SetHandle, EndHandle, SetCell, EndCell, SetField, Make, TurnHusk}
 use Rattle.ownership_model.specs.State.{State, nothing_held, strong, weak, ends}
-use Rattle.ownership_model.specs.Release.{Fate, Goes, fall, fate, meet, drop_first, is_husk, release, release_within, work}
+use Rattle.ownership_model.specs.Release.{Fate, Goes, fall, fate, left_by, drop_first, is_husk, release, release_within, work}
 use Rattle.ownership_model.specs.Changes.{with_field, changed_by, changed, HasField, IsAlive, CanBeDone, CanChange}
 use Rattle.ownership_model.specs.Bounds.{HandleFits, CellFits, ObjectFits, IsBounded, ChangeFits, ChangesFit}
 use Rattle.ownership_model.proofs.MapLemmas.{get_inserted, get_removed}
@@ -70,7 +70,7 @@ changed_bounded (c ∷ changes) m b fits can = changed_bounded changes (changed_
 
 module _ (m : State) (rest : List Item) (b : IsBounded m) where
   abbrev Kept : Fate → Type 0
-  Kept f = IsBounded (meet m rest f).state
+  Kept f = IsBounded (left_by m rest f).state
 
   falls_bounded : (o : ℕ) (it : Option Entry) → get m.objects o ≡ it → Kept (fall o it)
   falls_bounded o None is = b

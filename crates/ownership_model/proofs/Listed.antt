@@ -20,7 +20,7 @@ use Rattle.trace_types.specs.declared.outcomes.Counts.{Counts}
 use Rattle.trace_types.specs.declared.outcomes.Verdict.TheVariants.{Did, Skipped}
 use Rattle.trace_types.specs.Operation.{Operation}
 use Rattle.ownership_model.specs.Totals.{total_in}
-use Rattle.ownership_model.specs.State.{holding_weight, entry_weight, items_weight, hits, ends}
+use Rattle.ownership_model.specs.State.{holding_weight, entry_weight, items_weight, names_alike, ends}
 use Rattle.ownership_model.specs.Release.{Fate, Stays, Falls, Goes, fall, is_husk, drops, alive_size}
 use Rattle.ownership_model.specs.Changes.{with_field}
 use Rattle.ownership_model.specs.View.{Members, members, Element, Read, Null, Me, Seen, View, named_in}
@@ -46,7 +46,7 @@ abbrev pub set : {X : Type 0} → ℕ → X → List (ℕ × X) → List (ℕ ×
 set k x es = (k, x) ∷ cut k es
 
 abbrev pub count : Slot → Lists → List Item → ℕ
-count s m p = total_in (holding_weight (hits s)) m.handles + total_in (hits s) m.cells + total_in (entry_weight (hits s)) m.objects + items_weight (hits s) p
+count s m p = total_in (holding_weight (names_alike s)) m.handles + total_in (names_alike s) m.cells + total_in (entry_weight (names_alike s)) m.objects + items_weight (names_alike s) p
 
 abbrev pub fate_in : Lists → Item → List Item → Fate
 fate_in m (item.Slot Nothing) rest = Stays

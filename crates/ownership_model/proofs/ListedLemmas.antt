@@ -22,8 +22,8 @@ use Rattle.trace_types.specs.declared.outcomes.Outcome.{Outcome}
 use Rattle.trace_types.specs.declared.outcomes.Verdict.TheVariants.{Did}
 use Rattle.trace_types.specs.Operation.{Operation}
 use Rattle.ownership_model.specs.Totals.{total_in, total, weight_at}
-use Rattle.ownership_model.specs.State.{State, nothing_held, weight, holding_weight, entry_weight, hits, ends, IsSoundAt, IsSound}
-use Rattle.ownership_model.specs.Release.{Fate, Stays, Falls, Goes, fate, fall, is_husk, Dropped, meet, drop_first, Released, release_within, release, work, alive_size}
+use Rattle.ownership_model.specs.State.{State, nothing_held, weight, holding_weight, entry_weight, names_alike, ends, IsSoundAt, IsSound}
+use Rattle.ownership_model.specs.Release.{Fate, Stays, Falls, Goes, fate, fall, is_husk, Dropped, left_by, drop_first, Released, release_within, release, work, alive_size}
 use Rattle.ownership_model.specs.Changes.{with_field, changed_by, changed, HasField, IsAlive, CanBeDone, CanChange}
 use Rattle.ownership_model.specs.View.{Members, members, Read, Null, Me, View, held_by, cell_of, elements_of, named_in, seen, view_at}
 use Rattle.ownership_model.specs.Table.{row}
@@ -103,8 +103,8 @@ module _ {X : Type 0} where
       subst (λ (r : Option X). total w (insert (map_of es) e.0 e.1) + weight_at w r ≡ total w (map_of es) + w e.1) (get-map_of es e.0 ∙ apart.0) (total-insert w (map_of es) e.0 e.1) in
       omega (arith, more, total-map_of w es apart.1)
 
-count-shown : (s : Slot) (m : Lists) (pending : List Item) → IsApart m → weight (hits s) (shown m) pending ≡ count s m pending
-count-shown s m pending apart = omega (arith, total-map_of (holding_weight (hits s)) m.handles apart.handles, total-map_of (hits s) m.cells apart.cells, total-map_of (entry_weight (hits s)) m.objects apart.objects)
+count-shown : (s : Slot) (m : Lists) (pending : List Item) → IsApart m → weight (names_alike s) (shown m) pending ≡ count s m pending
+count-shown s m pending apart = omega (arith, total-map_of (holding_weight (names_alike s)) m.handles apart.handles, total-map_of (names_alike s) m.cells apart.cells, total-map_of (entry_weight (names_alike s)) m.objects apart.objects)
 
 work-shown : (m : Lists) (pending : List Item) → IsApart m → work (shown m) pending ≡ total_in alive_size m.objects + length pending
 work-shown m pending apart = omega (arith, total-map_of alive_size m.objects apart.objects)
@@ -156,13 +156,13 @@ record Leaves (x : Left) (d : Dropped) : Type 0 where
   pending : x.pending ≡ d.pending
   apart : IsApart x.state
 
-meet-shown : (m : Lists) (rest : List Item) (f : Fate) → IsApart m → Leaves (meet_in m rest f) (meet (shown m) rest f)
-meet-shown m rest Stays a = record { state = refl; events = refl; pending = refl; apart = a }
-meet-shown m rest (Falls o fields) a = record { state = change-shown m (TurnHusk o); events = refl; pending = refl; apart = change_apart m (TurnHusk o) a }
-meet-shown m rest (Goes o) a = record { state = objects-shown m (cut o m.objects) (remove (from_entries m.objects) o) (cut-map_of o m.objects); events = refl; pending = refl; apart = record { handles = a.handles; cells = a.cells; objects = cut_apart o m.objects a.objects } }
+left_by-shown : (m : Lists) (rest : List Item) (f : Fate) → IsApart m → Leaves (meet_in m rest f) (left_by (shown m) rest f)
+left_by-shown m rest Stays a = record { state = refl; events = refl; pending = refl; apart = a }
+left_by-shown m rest (Falls o fields) a = record { state = change-shown m (TurnHusk o); events = refl; pending = refl; apart = change_apart m (TurnHusk o) a }
+left_by-shown m rest (Goes o) a = record { state = objects-shown m (cut o m.objects) (remove (from_entries m.objects) o) (cut-map_of o m.objects); events = refl; pending = refl; apart = record { handles = a.handles; cells = a.cells; objects = cut_apart o m.objects a.objects } }
 
 drop-shown : (m : Lists) (x : Item) (rest : List Item) → IsApart m → Leaves (meet_in m rest (fate_in m x rest)) (drop_first (shown m) x rest)
-drop-shown m x rest a = subst (λ f. Leaves (meet_in m rest (fate_in m x rest)) (meet (shown m) rest f)) (fate-shown m x rest a) (meet-shown m rest (fate_in m x rest) a)
+drop-shown m x rest a = subst (λ f. Leaves (meet_in m rest (fate_in m x rest)) (left_by (shown m) rest f)) (fate-shown m x rest a) (left_by-shown m rest (fate_in m x rest) a)
 
 record Ends (x : Ended) (es : List Event) (r : Released) : Type 0 where
   state : shown x.state ≡ r.state
@@ -278,8 +278,8 @@ sound_made changes pending is =
     let n : Lists = changes_in nothing_listed changes in
     let apart : IsApart n = changes_apart changes nothing_listed (record { handles = tt; cells = tt; objects = tt }) in
     let all : IsSound (shown n) pending = λ o.
-    subst (λ (e : Option Entry). IsSoundAt (weight (hits (Strong o)) (shown n) pending) (weight (hits (Weak o)) (shown n) pending) (ends o pending) e) (sym (get-map_of n.objects o))
-    (subst (λ (w : ℕ). IsSoundAt (weight (hits (Strong o)) (shown n) pending) w (ends o pending) (look o n.objects)) (sym (count-shown (Weak o) n pending apart))
+    subst (λ (e : Option Entry). IsSoundAt (weight (names_alike (Strong o)) (shown n) pending) (weight (names_alike (Weak o)) (shown n) pending) (ends o pending) e) (sym (get-map_of n.objects o))
+    (subst (λ (w : ℕ). IsSoundAt (weight (names_alike (Strong o)) (shown n) pending) w (ends o pending) (look o n.objects)) (sym (count-shown (Weak o) n pending apart))
     (subst (λ (s : ℕ). IsSoundAt s (count (Weak o) n pending) (ends o pending) (look o n.objects)) (sym (count-shown (Strong o) n pending apart)) (is o))) in
     subst (λ (s : State). IsSound s pending) (changes-shown changes nothing_listed) all
 

@@ -10,9 +10,8 @@ use Rattle.trace_types.specs.declared.slots.Entry.{Entry}
 use Rattle.trace_types.specs.Operation.{Operation}
 use Rattle.trace_types.specs.Trace.{is_taken, has_distinct_numbers}
 use Rattle.ownership_model.specs.Totals.{total, weight_at}
-use Rattle.ownership_model.specs.State.{State, nothing_held, weight, strong, weak, hits, holding_weight, entry_weight, IsSound, IsSoundAt}
-use Rattle.ownership_model.specs.Agrees.{AreFree}
-use Rattle.ownership_model.specs.Step.{step, outcomes_from, end_from, AreNew}
+use Rattle.ownership_model.specs.State.{State, nothing_held, weight, strong, weak, names_alike, holding_weight, entry_weight, IsSound, IsSoundAt}
+use Rattle.ownership_model.specs.Step.{step, outcomes_from, end_from, AreNew, AreUnused}
 use Rattle.ownership_model.specs.Laws.{AppendsHold}
 use Rattle.ownership_model.proofs.TotalLemmas.{total-zero}
 use Rattle.ownership_model.proofs.CarryLemmas.{step_sound}
@@ -72,25 +71,25 @@ pub distinct_rest : (ops more : List Operation) → IsTrue (has_distinct_numbers
 distinct_rest [] more distinct = distinct
 distinct_rest (op ∷ ops) more distinct = distinct_rest ops more (untaken (is_taken op.id (ops ++ more)) (has_distinct_numbers (ops ++ more)) distinct).1
 
-pub free_front : (ops more : List Operation) (m : State) → AreFree m (ops ++ more) → AreFree m ops
-free_front [] more m free = tt
-free_front (op ∷ ops) more m free = (free.0, free_front ops more m free.1)
+pub unused_front : (ops more : List Operation) (m : State) → AreUnused m (ops ++ more) → AreUnused m ops
+unused_front [] more m free = tt
+unused_front (op ∷ ops) more m free = (free.0, unused_front ops more m free.1)
 
 other_way : (a b : ℕ) → (a == b) ≡ false → (b == a) ≡ false
 other_way a b apart = grind (arith, nat_tests)
 
 -- a step makes no object but its own, so what is free for later operations stays so
-step_free : (m : State) (op : Operation) (ops : List Operation) → IsSound m [] → is_taken op.id ops ≡ false → AreFree m ops → AreFree (step m op).state ops
+step_free : (m : State) (op : Operation) (ops : List Operation) → IsSound m [] → is_taken op.id ops ≡ false → AreUnused m ops → AreUnused (step m op).state ops
 step_free m op [] sound apart free = tt
 step_free m op (x ∷ ops) sound apart free =
     let each : ((x.id == op.id) ≡ false) × (is_taken op.id ops ≡ false) = neither (x.id == op.id) (is_taken op.id ops) apart in
     (step_absent m op x.id sound free.0 (other_way x.id op.id each.0), step_free m op ops sound each.1 free.1)
 
-pub free_rest : (ops more : List Operation) (m : State) → IsSound m [] → IsTrue (has_distinct_numbers (ops ++ more)) → AreFree m (ops ++ more) → AreFree (end_from m ops) more
-free_rest [] more m sound distinct free = free
-free_rest (op ∷ ops) more m sound distinct free =
+pub unused_rest : (ops more : List Operation) (m : State) → IsSound m [] → IsTrue (has_distinct_numbers (ops ++ more)) → AreUnused m (ops ++ more) → AreUnused (end_from m ops) more
+unused_rest [] more m sound distinct free = free
+unused_rest (op ∷ ops) more m sound distinct free =
     let each : (is_taken op.id (ops ++ more) ≡ false) × IsTrue (has_distinct_numbers (ops ++ more)) = untaken (is_taken op.id (ops ++ more)) (has_distinct_numbers (ops ++ more)) distinct in
-    free_rest ops more (step m op).state (step_sound m op sound free.0) each.1 (step_free m op (ops ++ more) sound each.0 free.1)
+    unused_rest ops more (step m op).state (step_sound m op sound free.0) each.1 (step_free m op (ops ++ more) sound each.0 free.1)
 
 pub appends_hold : AppendsHold
 appends_hold = record {
@@ -102,8 +101,8 @@ appends_hold = record {
   new_whole = λ m ops more. new_appended ops more m;
   distinct_front = distinct_front;
   distinct_rest = distinct_rest;
-  free_front = λ m ops more. free_front ops more m;
-  free_rest = λ m ops more. free_rest ops more m;
+  unused_front = λ m ops more. unused_front ops more m;
+  unused_rest = λ m ops more. unused_rest ops more m;
 }
 
 empty_total : {X : Type 0} (w : X → ℕ) → total w empty ≡ 0
@@ -118,9 +117,9 @@ absent s w (Some e) a b is = absurd cc
 
 -- nothing is held, and nothing stands
 pub nothing_sound : IsSound nothing_held []
-nothing_sound o = absent (strong nothing_held [] o) (weak nothing_held [] o) (get nothing_held.objects o) (nothing_weighs (hits (Strong o))) (nothing_weighs (hits (Weak o))) (get-empty nat_cmp o)
+nothing_sound o = absent (strong nothing_held [] o) (weak nothing_held [] o) (get nothing_held.objects o) (nothing_weighs (names_alike (Strong o))) (nothing_weighs (names_alike (Weak o))) (get-empty nat_cmp o)
 
-pub nothing_taken : (ops : List Operation) → AreFree nothing_held ops
+pub nothing_taken : (ops : List Operation) → AreUnused nothing_held ops
 nothing_taken [] = tt
 nothing_taken (op ∷ ops) = (get-empty nat_cmp op.id, nothing_taken ops)
 

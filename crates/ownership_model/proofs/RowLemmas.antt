@@ -1,4 +1,4 @@
--- A row of the table touches nothing of the rests, where its view shows nothing of them.
+-- A row of the table touches nothing of the remains, where its view shows nothing of them.
 use Rattle.std.proofs.Common.{◌≡◌, ℕ, zero, suc, List, [], ◌∷◌, subst, Bool, false}
 use Rattle.std.specs.Prelude.{Option, Some, None, ◌==◌, slice_get}
 use Rattle.trace_types.specs.declared.slots.Slot.{Slot}
@@ -68,7 +68,7 @@ module _ (r : ℕ → Bool) (id : ℕ) (new : r id ≡ false) where
 
   new_avoids : (to : ℕ) (es : List Element) (it : Option Holding) → AvoidElements r es → Avoids (new_row id to es it)
   new_avoids to es it c =
-      walk.at_all_held Avoids (λ _. tt) (first_unheld es) _ (λ _. walk.at_all_slots Avoids (λ _. tt) (first_bare es) _ (λ _. walk.at_free Avoids (λ _. tt) to it _ (λ _.
+      walk.at_all_held Avoids (λ _. tt) (first_unheld es) _ (λ _. walk.at_all_slots Avoids (λ _. tt) (first_bare es) _ (λ _. walk.at_unheld Avoids (λ _. tt) to it _ (λ _.
       (ending_avoids es (make id (made_fields id es) to) ((new, made_avoids es c), (new, tt)), (tt, new)))))
 
   upgraded_avoids : (to : ℕ) (e : Option Entry) (o : ℕ) → r o ≡ false → Avoids (upgraded to e (Some o))
@@ -89,7 +89,7 @@ module _ (r : ℕ → Bool) (id : ℕ) (new : r id ≡ false) where
 
   swapped_avoids : (c from : ℕ) (to : Option ℕ) (it : Option Holding) (old s : Slot) → AvoidsSlot r old → AvoidsSlot r s → Avoids (swapped c from to it old s)
   swapped_avoids c from None it old s d e = ((tt, (e, tt)), ((d, tt), named_avoids s e))
-  swapped_avoids c from (Some to) it old s d e = walk.at_free Avoids (λ _. tt) to it _ (λ _. ((tt, (e, (d, tt))), (tt, named_avoids s e)))
+  swapped_avoids c from (Some to) it old s d e = walk.at_unheld Avoids (λ _. tt) to it _ (λ _. ((tt, (e, (d, tt))), (tt, named_avoids s e)))
 
   exchanged_avoids : (c expected desired : ℕ) (old e d : Slot) → AvoidsSlot r old → AvoidsSlot r e → AvoidsSlot r d → Avoids (exchanged c expected desired old e d)
   exchanged_avoids c expected desired old e d p q s =
@@ -105,33 +105,33 @@ module _ (r : ℕ → Bool) (id : ℕ) (new : r id ≡ false) where
 
   take_avoids : (h i to : ℕ) (it : Option Holding) (owner : Option ℕ) (fields : List Slot) → IfThere (λ o. r o ≡ false) owner → AvoidSlots r fields → Avoids (take_field h i to it owner fields)
   take_avoids h i to it owner fields a d =
-      walk.at_field Avoids (λ _. tt) i (slice_get fields i) _ (λ s got. walk.at_free Avoids (λ _. tt) to it _ (λ _.
+      walk.at_field Avoids (λ _. tt) i (slice_get fields i) _ (λ s got. walk.at_unheld Avoids (λ _. tt) to it _ (λ _.
       ((there (AvoidsSlot r) (slice_get fields i) s (got_avoids fields i d) got, (write_avoids h owner fields i Nothing a d tt, tt)), (tt, a))))
 
   copy_avoids : (i to : ℕ) (it : Option Holding) (owner : Option ℕ) (fields : List Slot) → IfThere (λ o. r o ≡ false) owner → AvoidSlots r fields → Avoids (copy_field i to it owner fields)
   copy_avoids i to it owner fields a d =
-      walk.at_field Avoids (λ _. tt) i (slice_get fields i) _ (λ s got. walk.at_free Avoids (λ _. tt) to it _ (λ _.
+      walk.at_field Avoids (λ _. tt) i (slice_get fields i) _ (λ s got. walk.at_unheld Avoids (λ _. tt) to it _ (λ _.
       ((there (AvoidsSlot r) (slice_get fields i) s (got_avoids fields i d) got, tt), (tt, a))))
 
   row_of_avoids : (k : Kind) (v : View) → AvoidsView r v → Avoids (row_of id k v)
   row_of_avoids (kind.New to fields) v c = new_avoids to v.elements v.first c.elements
   row_of_avoids (kind.NewCyclic to fields) v c = new_avoids to v.elements v.first c.elements
   row_of_avoids (kind.NewFrom from to) v c =
-      walk.at_held Avoids (λ _. tt) from v.first _ (λ x is. walk.at_bare Avoids (λ _. tt) from x _ (λ fields was. walk.at_free Avoids (λ _. tt) to v.second _ (λ _.
+      walk.at_held Avoids (λ _. tt) from v.first _ (λ x is. walk.at_bare Avoids (λ _. tt) from x _ (λ fields was. walk.at_unheld Avoids (λ _. tt) to v.second _ (λ _.
       ((tt, ((new, subst Held was (there Held v.first x c.first is)), (new, tt))), (tt, new)))))
-  row_of_avoids (kind.WeakNew to) v c = walk.at_free Avoids (λ _. tt) to v.first _ (λ _. ((tt, tt), (tt, tt)))
-  row_of_avoids (kind.Null to) v c = walk.at_free Avoids (λ _. tt) to v.first _ (λ _. ((tt, tt), (tt, tt)))
+  row_of_avoids (kind.WeakNew to) v c = walk.at_unheld Avoids (λ _. tt) to v.first _ (λ _. ((tt, tt), (tt, tt)))
+  row_of_avoids (kind.Null to) v c = walk.at_unheld Avoids (λ _. tt) to v.first _ (λ _. ((tt, tt), (tt, tt)))
   row_of_avoids (kind.Clone from to) v c =
-      walk.at_held Avoids (λ _. tt) from v.first _ (λ x is. walk.at_slot Avoids (λ _. tt) from x _ (λ s was. walk.at_free Avoids (λ _. tt) to v.second _ (λ _.
+      walk.at_held Avoids (λ _. tt) from v.first _ (λ x is. walk.at_slot Avoids (λ _. tt) from x _ (λ s was. walk.at_unheld Avoids (λ _. tt) to v.second _ (λ _.
       let a : AvoidsSlot r s = subst Held was (there Held v.first x c.first is) in ((a, tt), (tt, named_avoids s a)))))
   row_of_avoids (kind.Drop h) v c = walk.at_held Avoids (λ _. tt) h v.first _ (λ x is. dropped_avoids h x (there Held v.first x c.first is))
   row_of_avoids (kind.Downgrade from to) v c =
-      walk.at_held Avoids (λ _. tt) from v.first _ (λ x is. walk.at_strong Avoids (λ _. tt) from x _ (λ o was. walk.at_free Avoids (λ _. tt) to v.second _ (λ _.
+      walk.at_held Avoids (λ _. tt) from v.first _ (λ x is. walk.at_strong Avoids (λ _. tt) from x _ (λ o was. walk.at_unheld Avoids (λ _. tt) to v.second _ (λ _.
       let a : r o ≡ false = subst Held was (there Held v.first x c.first is) in ((a, tt), (tt, a)))))
   row_of_avoids (kind.Upgrade from to) v c =
       walk.at_held Avoids (λ _. tt) from v.first _ (λ x is. walk.at_weak Avoids (λ _. tt) from x _
-      (λ o was. walk.at_free Avoids (λ _. tt) to v.second _ (λ _. upgraded_avoids to v.object.entry o (subst Held was (there Held v.first x c.first is))))
-      (walk.at_free Avoids (λ _. tt) to v.second _ (λ _. ((tt, tt), (tt, tt)))))
+      (λ o was. walk.at_unheld Avoids (λ _. tt) to v.second _ (λ _. upgraded_avoids to v.object.entry o (subst Held was (there Held v.first x c.first is))))
+      (walk.at_unheld Avoids (λ _. tt) to v.second _ (λ _. ((tt, tt), (tt, tt)))))
   row_of_avoids (kind.TryUnwrap h) v c =
       walk.at_held Avoids (λ _. tt) h v.first _ (λ x is. walk.at_strong Avoids (λ _. tt) h x _ (λ o was.
       let a : r o ≡ false = subst Held was (there Held v.first x c.first is) in
@@ -163,10 +163,10 @@ module _ (r : ℕ → Bool) (id : ℕ) (new : r id ≡ false) where
       (λ o was. copy_avoids i to v.second (Some o) (fields_of v.object.entry) (subst Held was (there Held v.first x c.first is)) (fields_avoids v.object.entry c.object))
       (λ fields was. copy_avoids i to v.second None fields tt (subst Held was (there Held v.first x c.first is))))
   row_of_avoids (kind.CellNew k from) v c =
-      walk.at_held Avoids (λ _. tt) from v.first _ (λ x is. walk.at_pointer Avoids (λ _. tt) from x _ (λ s was. walk.at_free_cell Avoids (λ _. tt) k v.cell _ (λ _.
+      walk.at_held Avoids (λ _. tt) from v.first _ (λ x is. walk.at_pointer Avoids (λ _. tt) from x _ (λ s was. walk.at_absent_cell Avoids (λ _. tt) k v.cell _ (λ _.
       let a : AvoidsSlot r s = subst Held was (there Held v.first x c.first is) in ((tt, (a, tt)), (tt, named_avoids s a)))))
   row_of_avoids (kind.CellLoad k to) v c =
-      walk.at_cell Avoids (λ _. tt) k v.cell _ (λ s is. walk.at_free Avoids (λ _. tt) to v.first _ (λ _.
+      walk.at_cell Avoids (λ _. tt) k v.cell _ (λ s is. walk.at_unheld Avoids (λ _. tt) to v.first _ (λ _.
       let a : AvoidsSlot r s = there (AvoidsSlot r) v.cell s c.cell is in ((a, tt), (tt, named_avoids s a))))
   row_of_avoids (kind.CellSwap k from to) v c =
       walk.at_cell Avoids (λ _. tt) k v.cell _ (λ old had. walk.at_held Avoids (λ _. tt) from v.first _ (λ x is. walk.at_pointer Avoids (λ _. tt) from x _ (λ s was.

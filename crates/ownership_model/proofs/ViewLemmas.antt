@@ -1,4 +1,4 @@
--- Two states that differ in rests alone show an operation the same, and nothing of the rests.
+-- Two states that differ in remains alone show an operation the same, and nothing of the remains.
 use Rattle.std.proofs.Common.{◌≡◌, ℕ, List, [], ◌∷◌, refl, ap, ◌∙◌, Bool, false}
 use Rattle.std.specs.Prelude.{Option, Some, None}
 use Rattle.std.specs.FinMap.{get}

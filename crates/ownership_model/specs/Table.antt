@@ -27,7 +27,7 @@ use Rattle.ownership_model.specs.Release.{drops}
 use Rattle.ownership_model.specs.View.{View, Element, Read, Null, Me, Seen, named_by, repeated}
 
 -- What the members of an operation want, asked in this order: no handle twice; each handle is held and each cell is there; each
--- handle holds the right kind of thing; the field is there; what is to be made is free. Each question has the rest of the row
+-- handle holds the right kind of thing; the field is there; what is to be made is not. Each question has the rest of the row
 -- as its last argument, and answers with a reason or with the rest, at what it found.
 
 -- the handle is held
@@ -36,9 +36,9 @@ held h None rest = Skip (NotHeld h)
 held h (Some x) rest = rest x
 
 -- the handle that is to be made is not held
-abbrev pub free : ℕ → Option Holding → Plan → Plan
-free to None rest = rest
-free to (Some x) rest = Skip (AlreadyHeld to)
+abbrev pub unheld : ℕ → Option Holding → Plan → Plan
+unheld to None rest = rest
+unheld to (Some x) rest = Skip (AlreadyHeld to)
 
 -- the cell is there
 abbrev pub in_cell : ℕ → Option Slot → (Slot → Plan) → Plan
@@ -46,9 +46,9 @@ in_cell c None rest = Skip (NoCell c)
 in_cell c (Some s) rest = rest s
 
 -- the cell that is to be made is not there
-abbrev pub free_cell : ℕ → Option Slot → Plan → Plan
-free_cell c None rest = rest
-free_cell c (Some s) rest = Skip (CellHeld c)
+abbrev pub absent_cell : ℕ → Option Slot → Plan → Plan
+absent_cell c None rest = rest
+absent_cell c (Some s) rest = Skip (CellHeld c)
 
 -- a pointer of any kind, and no value
 abbrev pub slot_in : ℕ → Holding → (Slot → Plan) → Plan
@@ -184,7 +184,7 @@ make id fields to = Make id fields ∷ SetHandle to (holding.Slot (Strong id)) �
 -- Arc::new, Arc::new_cyclic
 abbrev pub new_row : ℕ → ℕ → List Element → Option Holding → Plan
 new_row id to es there =
-    all_held (first_unheld es) (all_slots (first_bare es) (free to there
+    all_held (first_unheld es) (all_slots (first_bare es) (unheld to there
     (act answer.Made (ending es (make id (made_fields id es) to)) [] (Some id))))
 
 -- Weak::upgrade: an Arc while the value lives, else None; so a Weak of `Weak::new` gives None
@@ -233,7 +233,7 @@ same_pointer _ _ = false
 abbrev pub swapped : ℕ → ℕ → Option ℕ → Option Holding → Slot → Slot → Plan
 swapped c from None there old s = act answer.Done (EndHandle from ∷ SetCell c s ∷ []) (item.Slot old ∷ []) (named_by s)
 swapped c from (Some to) there old s =
-    free to there (act answer.Done (EndHandle from ∷ SetCell c s ∷ SetHandle to (holding.Slot old) ∷ []) [] (named_by s))
+    unheld to there (act answer.Done (EndHandle from ∷ SetCell c s ∷ SetHandle to (holding.Slot old) ∷ []) [] (named_by s))
 
 -- atomic<shared_ptr<T>>: compare_exchange_strong. Where the cell holds what was expected, it takes what is desired, and what it
 -- held is dropped. Else what was expected is dropped and becomes a copy of what the cell holds, and then what was desired is
@@ -256,13 +256,13 @@ set_field h i from y owner fields =
 -- profile of this project)
 abbrev pub take_field : ℕ → ℕ → ℕ → Option Holding → Option ℕ → List Slot → Plan
 take_field h i to there owner fields =
-    field_at i (slice_get fields i) (λ s. free to there
+    field_at i (slice_get fields i) (λ s. unheld to there
     (act answer.Done (SetHandle to (holding.Slot s) ∷ write_field h owner fields i Nothing ∷ []) [] owner))
 
 -- a clone of what a field holds (Arc::clone, Weak::clone)
 abbrev pub copy_field : ℕ → ℕ → Option Holding → Option ℕ → List Slot → Plan
 copy_field i to there owner fields =
-    field_at i (slice_get fields i) (λ s. free to there (act answer.Done (SetHandle to (holding.Slot s) ∷ []) [] owner))
+    field_at i (slice_get fields i) (λ s. unheld to there (act answer.Done (SetHandle to (holding.Slot s) ∷ []) [] owner))
 
 -- The rows: each asks what its members want, and then says what is answered, what changes, what is then dropped, and whose
 -- counts are told.
@@ -273,25 +273,25 @@ row_of id (kind.New to fields) v = new_row id to v.elements v.first
 row_of id (kind.NewCyclic to fields) v = new_row id to v.elements v.first
 -- Arc::new of a value that Arc::try_unwrap or Arc::into_inner gave
 row_of id (kind.NewFrom from to) v =
-    held from v.first (λ x. bare_in from x (λ fields. free to v.second
+    held from v.first (λ x. bare_in from x (λ fields. unheld to v.second
     (act answer.Made (EndHandle from ∷ make id fields to) [] (Some id))))
 -- Weak::new
-row_of id (kind.WeakNew to) v = free to v.first (act answer.Done (SetHandle to (holding.Slot Dangling) ∷ []) [] None)
+row_of id (kind.WeakNew to) v = unheld to v.first (act answer.Done (SetHandle to (holding.Slot Dangling) ∷ []) [] None)
 -- an empty pointer: None in place of an Arc, or shared_ptr's default constructor
-row_of id (kind.Null to) v = free to v.first (act answer.Done (SetHandle to (holding.Slot Nothing) ∷ []) [] None)
+row_of id (kind.Null to) v = unheld to v.first (act answer.Done (SetHandle to (holding.Slot Nothing) ∷ []) [] None)
 -- Arc::clone, Weak::clone
 row_of id (kind.Clone from to) v =
-    held from v.first (λ x. slot_in from x (λ s. free to v.second
+    held from v.first (λ x. slot_in from x (λ s. unheld to v.second
     (act answer.Done (SetHandle to (holding.Slot s) ∷ []) [] (named_by s))))
 -- drop (std::mem::drop; std::sync::Arc, std::sync::Weak: Drop)
 row_of id (kind.Drop h) v = held h v.first (λ x. dropped h x)
 -- Arc::downgrade
 row_of id (kind.Downgrade from to) v =
-    held from v.first (λ x. strong_in from x (λ o. free to v.second
+    held from v.first (λ x. strong_in from x (λ o. unheld to v.second
     (act answer.Done (SetHandle to (holding.Slot (Weak o)) ∷ []) [] (Some o))))
 -- Weak::upgrade
 row_of id (kind.Upgrade from to) v =
-    held from v.first (λ x. weak_in from x (λ o. free to v.second (upgraded to v.object.entry o)))
+    held from v.first (λ x. weak_in from x (λ o. unheld to v.second (upgraded to v.object.entry o)))
 -- Arc::try_unwrap: the value where this is the only Arc, else the Arc stays
 row_of id (kind.TryUnwrap h) v =
     held h v.first (λ x. strong_in h x (λ o.
@@ -325,11 +325,11 @@ row_of id (kind.Get h i to) v =
     held h v.first (λ x. fields_in h x v.object.entry (λ owner fields. copy_field i to v.second owner fields))
 -- atomic<shared_ptr<T>>: the constructor from a shared_ptr, which is moved in
 row_of id (kind.CellNew c from) v =
-    held from v.first (λ x. pointer_in from x (λ s. free_cell c v.cell
+    held from v.first (λ x. pointer_in from x (λ s. absent_cell c v.cell
     (act answer.Done (EndHandle from ∷ SetCell c s ∷ []) [] (named_by s))))
 -- atomic<shared_ptr<T>>::load
 row_of id (kind.CellLoad c to) v =
-    in_cell c v.cell (λ s. free to v.first (act answer.Done (SetHandle to (holding.Slot s) ∷ []) [] (named_by s)))
+    in_cell c v.cell (λ s. unheld to v.first (act answer.Done (SetHandle to (holding.Slot s) ∷ []) [] (named_by s)))
 -- atomic<shared_ptr<T>>::exchange, store
 row_of id (kind.CellSwap c from to) v =
     in_cell c v.cell (λ old. held from v.first (λ x. pointer_in from x (λ s. swapped c from to v.second old s)))

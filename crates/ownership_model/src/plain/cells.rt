@@ -8,7 +8,7 @@ use crate::plain::effects::{act, hold};
 use crate::plain::state::PlainState;
 use crate::plain::stop::Stop;
 use crate::plain::view::named_by;
-use crate::plain::wants::{free, free_cell, held, in_cell, pointer_in};
+use crate::plain::wants::{absent_cell, held, in_cell, pointer_in, unheld};
 use crate::plan::Plan;
 use std::alloc::{AllocError, Global};
 use trace_types::outcomes::Answer;
@@ -19,7 +19,7 @@ pub fn cell_new(alloc: Global, state: &PlainState, c: u32, from: u32) -> Result<
     ensures { Tells result (row_in state.now 0 (kind.CellNew c from)) }
 {
     let slot = pointer_in(from, held(alloc, state, from)?)?;
-    free_cell(state, c)?;
+    absent_cell(state, c)?;
     let changes = vec![in alloc; Change::EndHandle(from), Change::SetCell(c, slot)]?;
     Ok(act(Answer::Done, changes, Vec::new(alloc), named_by(slot)))
 }
@@ -29,7 +29,7 @@ pub fn cell_load(alloc: Global, state: &PlainState, c: u32, to: u32) -> Result<P
     ensures { Tells result (row_in state.now 0 (kind.CellLoad c to)) }
 {
     let slot = in_cell(state, c)?;
-    free(state, to)?;
+    unheld(state, to)?;
     Ok(hold(alloc, Answer::Done, to, slot, named_by(slot))?)
 }
 
@@ -52,7 +52,7 @@ pub fn cell_swap(
             Ok(act(Answer::Done, changes, pending, named_by(slot)))
         }
         Some(to) => {
-            free(state, to)?;
+            unheld(state, to)?;
             changes.push(Change::SetHandle(to, Holding::Slot(old)))?;
             Ok(act(Answer::Done, changes, Vec::new(alloc), named_by(slot)))
         }

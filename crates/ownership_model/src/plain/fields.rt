@@ -9,7 +9,7 @@ ghost use Rattle.ownership_model.specs.Plain.{row_in, Tells};
 use crate::plain::effects::{act, hold};
 use crate::plain::state::PlainState;
 use crate::plain::stop::Stop;
-use crate::plain::wants::{field_at, fields_in, free, held, slot_in};
+use crate::plain::wants::{field_at, fields_in, held, slot_in, unheld};
 use crate::plan::Plan;
 use std::alloc::Global;
 use trace_types::outcomes::Answer;
@@ -37,7 +37,7 @@ pub fn take(alloc: Global, state: &PlainState, h: u32, i: u32, to: u32) -> Resul
 {
     let (owner, fields) = fields_in(alloc, state, h, held(alloc, state, h)?)?;
     let slot = field_at(i, fields.as_slice())?;
-    free(state, to)?;
+    unheld(state, to)?;
     let written = write_field(h, owner, fields, i, Slot::Nothing);
     let changes = vec![in alloc; Change::SetHandle(to, Holding::Slot(slot)), written]?;
     Ok(act(Answer::Done, changes, Vec::new(alloc), owner))
@@ -49,7 +49,7 @@ pub fn get(alloc: Global, state: &PlainState, h: u32, i: u32, to: u32) -> Result
 {
     let (owner, fields) = fields_in(alloc, state, h, held(alloc, state, h)?)?;
     let slot = field_at(i, fields.as_slice())?;
-    free(state, to)?;
+    unheld(state, to)?;
     Ok(hold(alloc, Answer::Done, to, slot, owner)?)
 }
 

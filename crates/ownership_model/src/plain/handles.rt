@@ -7,7 +7,7 @@ use crate::plain::release::drops;
 use crate::plain::state::PlainState;
 use crate::plain::stop::Stop;
 use crate::plain::view::{is_alive_named, named_by};
-use crate::plain::wants::{counted_in, free, held, slot_in, strong_in, weak_in};
+use crate::plain::wants::{counted_in, held, slot_in, strong_in, unheld, weak_in};
 use crate::plan::Plan;
 use std::alloc::Global;
 use trace_types::outcomes::Answer;
@@ -18,7 +18,7 @@ pub fn clone(alloc: Global, state: &PlainState, from: u32, to: u32) -> Result<Pl
     ensures { Tells result (row_in state.now 0 (kind.Clone from to)) }
 {
     let slot = slot_in(from, held(alloc, state, from)?)?;
-    free(state, to)?;
+    unheld(state, to)?;
     Ok(hold(alloc, Answer::Done, to, slot, named_by(slot))?)
 }
 
@@ -45,7 +45,7 @@ pub fn downgrade(alloc: Global, state: &PlainState, from: u32, to: u32) -> Resul
     ensures { Tells result (row_in state.now 0 (kind.Downgrade from to)) }
 {
     let object = strong_in(from, held(alloc, state, from)?)?;
-    free(state, to)?;
+    unheld(state, to)?;
     Ok(hold(alloc, Answer::Done, to, Slot::Weak(object), Some(object))?)
 }
 
@@ -54,7 +54,7 @@ pub fn upgrade(alloc: Global, state: &PlainState, from: u32, to: u32) -> Result<
     ensures { Tells result (row_in state.now 0 (kind.Upgrade from to)) }
 {
     let object = weak_in(from, held(alloc, state, from)?)?;
-    free(state, to)?;
+    unheld(state, to)?;
     match object {
         Some(named) if is_alive_named(state, from) => {
             Ok(hold(alloc, Answer::Yes, to, Slot::Strong(named), object)?)

@@ -10,7 +10,7 @@ ghost use Rattle.ownership_model.specs.Plain.{state_of, row_in, Tells};
 use crate::plain::effects::{act, hold, push_make};
 use crate::plain::state::PlainState;
 use crate::plain::stop::Stop;
-use crate::plain::wants::{all_held, all_slots, bare_in, free, held};
+use crate::plain::wants::{all_held, all_slots, bare_in, held, unheld};
 use crate::plan::Plan;
 use std::alloc::{AllocError, Global};
 use trace_types::kinds::Field;
@@ -30,7 +30,7 @@ pub fn new(
 {
     all_held(state, fields)?;
     all_slots(state, fields)?;
-    free(state, to)?;
+    unheld(state, to)?;
     let made = made_fields(alloc, state, id, fields)?;
     let changes = making(alloc, state, id, fields, made, to)?;
     Ok(act(Answer::Made, changes, Vec::new(alloc), Some(id)))
@@ -47,7 +47,7 @@ pub fn new_from(
     ensures { Tells result (row_in state.now id (kind.NewFrom from to)) }
 {
     let fields = bare_in(from, held(alloc, state, from)?)?;
-    free(state, to)?;
+    unheld(state, to)?;
     let mut changes = vec![in alloc; Change::EndHandle(from)]?;
     push_make(&mut changes, id, fields, to)?;
     Ok(act(Answer::Made, changes, Vec::new(alloc), Some(id)))
@@ -57,7 +57,7 @@ pub fn new_from(
 pub fn weak_new(alloc: Global, state: &PlainState, to: u32) -> Result<Plan, Stop>
     ensures { Tells result (row_in state.now 0 (kind.WeakNew to)) }
 {
-    free(state, to)?;
+    unheld(state, to)?;
     Ok(hold(alloc, Answer::Done, to, Slot::Dangling, None)?)
 }
 
@@ -65,7 +65,7 @@ pub fn weak_new(alloc: Global, state: &PlainState, to: u32) -> Result<Plan, Stop
 pub fn null(alloc: Global, state: &PlainState, to: u32) -> Result<Plan, Stop>
     ensures { Tells result (row_in state.now 0 (kind.Null to)) }
 {
-    free(state, to)?;
+    unheld(state, to)?;
     Ok(hold(alloc, Answer::Done, to, Slot::Nothing, None)?)
 }
 

@@ -2,7 +2,7 @@
 ghost use Rattle.std.specs.Prelude.{◌≡◌, ◌==◌, ◌&&◌, [], IfOk, OnOk};
 ghost use Rattle.std.specs.FinMap as map;
 ghost use Rattle.ownership_model.specs.State.{weak, ends};
-ghost use Rattle.ownership_model.specs.Release.{release, fall, is_husk, meet, drop_first, Goes};
+ghost use Rattle.ownership_model.specs.Release.{release, fall, is_husk, left_by, drop_first, Goes};
 ghost use Rattle.ownership_model.specs.Release as Release;
 ghost use Rattle.ownership_model.specs.Bounds.{IsBounded};
 ghost use Rattle.ownership_model.specs.Plain.{state_of, Becomes};
@@ -15,7 +15,11 @@ use trace_types::slots::{Entry, Item, Slot};
 impl PlainState {
     /// Drops the items in order, each with all that it sets off before the next: what became of objects, in order. Where
     /// memory runs out some are dropped, and the state is only good to be let go.
-    pub(crate) fn release(&mut self, alloc: Global, items: &[Item]) -> Result<Vec<Event>, AllocError>
+    pub(crate) fn release(
+        &mut self,
+        alloc: Global,
+        items: &[Item],
+    ) -> Result<Vec<Event>, AllocError>
         requires { IsBounded (state_of self.old) }
         ensures state { OnOk result (state_of self.new ≡ (release (state_of self.old) items.now).state) }
         ensures events { IfOk result (λ es. es.items ≡ (release (state_of self.old) items.now).events) }
@@ -69,7 +73,7 @@ impl PlainState {
         rest: &mut Vec<Item>,
         events: &mut Vec<Event>,
     ) -> Result<(), AllocError>
-        ensures { OnOk result (Becomes (state_of self.new) rest.new.items events.old.items events.new.items (meet (state_of self.old) rest.old.items (fall object (map.get self.old.objects object)))) }
+        ensures { OnOk result (Becomes (state_of self.new) rest.new.items events.old.items events.new.items (left_by (state_of self.old) rest.old.items (fall object (map.get self.old.objects object)))) }
     {
         match self.objects.get(object) {
             Some(Entry::Alive(fields)) => {
@@ -85,7 +89,7 @@ impl PlainState {
 
     // The allocation of the object goes.
     fn free(&mut self, object: u32, events: &mut Vec<Event>) -> Result<(), AllocError>
-        ensures { OnOk result (Becomes (state_of self.new) [] events.old.items events.new.items (meet (state_of self.old) [] (Goes object))) }
+        ensures { OnOk result (Becomes (state_of self.new) [] events.old.items events.new.items (left_by (state_of self.old) [] (Goes object))) }
     {
         events.push(Event::Freed(object))?;
         self.objects.remove(object);

@@ -34,14 +34,14 @@ impl PlainState {
     /// objects, and those that are still to be dropped.
     pub fn count(&self, counted: Slot, pending: &[Item]) -> u64
         requires { IsBounded (state_of self.now) }
-        ensures { result ≡ weight (State.hits counted) (state_of self.now) pending.now }
+        ensures { result ≡ weight (State.names_alike counted) (state_of self.now) pending.now }
     {
         self.total(counted, pending)
     }
 
     fn total(&self, counted: Slot, pending: &[Item]) -> u64
-        requires { weight (State.hits counted) (state_of self.now) pending.now < 2 ^ 64 }
-        ensures { result ≡ weight (State.hits counted) (state_of self.now) pending.now }
+        requires { weight (State.names_alike counted) (state_of self.now) pending.now < 2 ^ 64 }
+        ensures { result ≡ weight (State.names_alike counted) (state_of self.now) pending.now }
     {
         count_in_handles(counted, self.handles.entries())
             + count_in_cells(counted, self.cells.entries())
@@ -51,8 +51,8 @@ impl PlainState {
 }
 
 fn count_in_handles(counted: Slot, handles: &[(u32, Holding)]) -> u64
-    requires { total_in (holding_weight (State.hits counted)) handles.now < 2 ^ 64 }
-    ensures { result ≡ total_in (holding_weight (State.hits counted)) handles.now }
+    requires { total_in (holding_weight (State.names_alike counted)) handles.now < 2 ^ 64 }
+    ensures { result ≡ total_in (holding_weight (State.names_alike counted)) handles.now }
 {
     let mut count = 0;
     for handle in handles {
@@ -62,19 +62,19 @@ fn count_in_handles(counted: Slot, handles: &[(u32, Holding)]) -> u64
 }
 
 fn count_in_cells(counted: Slot, cells: &[(u32, Slot)]) -> u64
-    requires { total_in (State.hits counted) cells.now < 2 ^ 64 }
-    ensures { result ≡ total_in (State.hits counted) cells.now }
+    requires { total_in (State.names_alike counted) cells.now < 2 ^ 64 }
+    ensures { result ≡ total_in (State.names_alike counted) cells.now }
 {
     let mut count = 0;
     for cell in cells {
-        count += hits(counted, cell.1);
+        count += names_alike(counted, cell.1);
     }
     count
 }
 
 fn count_in_objects(counted: Slot, objects: &[(u32, Entry)]) -> u64
-    requires { total_in (entry_weight (State.hits counted)) objects.now < 2 ^ 64 }
-    ensures { result ≡ total_in (entry_weight (State.hits counted)) objects.now }
+    requires { total_in (entry_weight (State.names_alike counted)) objects.now < 2 ^ 64 }
+    ensures { result ≡ total_in (entry_weight (State.names_alike counted)) objects.now }
 {
     let mut count = 0;
     for object in objects {
@@ -84,31 +84,31 @@ fn count_in_objects(counted: Slot, objects: &[(u32, Entry)]) -> u64
 }
 
 fn count_in_items(counted: Slot, items: &[Item]) -> u64
-    requires { items_weight (State.hits counted) items.now < 2 ^ 64 }
-    ensures { result ≡ items_weight (State.hits counted) items.now }
+    requires { items_weight (State.names_alike counted) items.now < 2 ^ 64 }
+    ensures { result ≡ items_weight (State.names_alike counted) items.now }
 {
     let mut count = 0;
     for item in items {
         if let Item::Slot(slot) = item {
-            count += hits(counted, *slot);
+            count += names_alike(counted, *slot);
         }
     }
     count
 }
 
 fn count_in_holding(counted: Slot, held: &Holding) -> u64
-    requires { holding_weight (State.hits counted) held.now < 2 ^ 64 }
-    ensures { result ≡ holding_weight (State.hits counted) held.now }
+    requires { holding_weight (State.names_alike counted) held.now < 2 ^ 64 }
+    ensures { result ≡ holding_weight (State.names_alike counted) held.now }
 {
     match held {
-        Holding::Slot(slot) => hits(counted, *slot),
+        Holding::Slot(slot) => names_alike(counted, *slot),
         Holding::Bare(fields) => count_in_slots(counted, fields.as_slice()),
     }
 }
 
 fn count_in_entry(counted: Slot, entry: &Entry) -> u64
-    requires { entry_weight (State.hits counted) entry.now < 2 ^ 64 }
-    ensures { result ≡ entry_weight (State.hits counted) entry.now }
+    requires { entry_weight (State.names_alike counted) entry.now < 2 ^ 64 }
+    ensures { result ≡ entry_weight (State.names_alike counted) entry.now }
 {
     match entry {
         Entry::Alive(fields) => count_in_slots(counted, fields.as_slice()),
@@ -117,19 +117,19 @@ fn count_in_entry(counted: Slot, entry: &Entry) -> u64
 }
 
 fn count_in_slots(counted: Slot, slots: &[Slot]) -> u64
-    requires { slots_weight (State.hits counted) slots.now < 2 ^ 64 }
-    ensures { result ≡ slots_weight (State.hits counted) slots.now }
+    requires { slots_weight (State.names_alike counted) slots.now < 2 ^ 64 }
+    ensures { result ≡ slots_weight (State.names_alike counted) slots.now }
 {
     let mut count = 0;
     for slot in slots {
-        count += hits(counted, *slot);
+        count += names_alike(counted, *slot);
     }
     count
 }
 
 // One where the slot names the object that `counted` names, and as it does.
-fn hits(counted: Slot, slot: Slot) -> u64
-    ensures { result ≡ State.hits counted slot }
+fn names_alike(counted: Slot, slot: Slot) -> u64
+    ensures { result ≡ State.names_alike counted slot }
 {
     match (counted, slot) {
         (Slot::Strong(object), Slot::Strong(named)) | (Slot::Weak(object), Slot::Weak(named)) => {

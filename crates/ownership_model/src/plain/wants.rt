@@ -26,8 +26,8 @@ pub fn held(alloc: Global, state: &PlainState, h: u32) -> Result<Holding, Stop>
 }
 
 /// The handle that is to be made is not held.
-pub fn free(state: &PlainState, to: u32) -> Result<(), Stop>
-    ensures { Allows result (Table.free to (map.get state.now.handles to)) }
+pub fn unheld(state: &PlainState, to: u32) -> Result<(), Stop>
+    ensures { Allows result (Table.unheld to (map.get state.now.handles to)) }
 {
     match state.handles.get(to) {
         None => Ok(()),
@@ -46,8 +46,8 @@ pub fn in_cell(state: &PlainState, c: u32) -> Result<Slot, Stop>
 }
 
 /// The cell that is to be made is not there.
-pub fn free_cell(state: &PlainState, c: u32) -> Result<(), Stop>
-    ensures { Allows result (Table.free_cell c (map.get state.now.cells c)) }
+pub fn absent_cell(state: &PlainState, c: u32) -> Result<(), Stop>
+    ensures { Allows result (Table.absent_cell c (map.get state.now.cells c)) }
 {
     match state.cells.get(c) {
         None => Ok(()),

@@ -7,4 +7,4 @@ use Rattle.op_step.proofs.chunk_run.run.Goals as goal
 pub replay_from-requires : goal.replay_from-requires
 replay_from-requires c =
     subst (λ (m : State). AreNew m c.args.ops.now) (sym c.in_ok-from.ensures)
-    (soundness_holds.replays c.args.start.now c.args.ops.now c.see_kept.ensures.sound c.requires.distinct c.requires.free).0
+    (soundness_holds.replays c.args.start.now c.args.ops.now c.see_kept.ensures.sound c.requires.distinct c.requires.unused).0
