@@ -19,13 +19,13 @@ use Rattle.trace_types.specs.declared.slots.Slot.{Slot}
 use Rattle.trace_types.specs.declared.slots.Slot.TheVariants.{Nothing, Strong, Weak, Dangling}
 use Rattle.trace_types.specs.declared.slots.Entry.{Entry}
 use Rattle.trace_types.specs.declared.slots.Entry.TheVariants.{Alive, Husk}
-use Rattle.ownership_model.specs.State.{State}
+use Rattle.ownership_model.specs.State.{State, is_alive}
 use Rattle.ownership_model.specs.declared.leaks.Leak.{Leak}
 use Rattle.ownership_model.specs.declared.leaks.Holder.{Holder}
 use Rattle.ownership_model.specs.declared.link.Link.TheVariants.{StrongOnly}
 use Rattle.ownership_model.specs.Reach.{IsReach, is_reached}
 use Rattle.ownership_model.proofs.ReachedLemmas.{is_reach}
-use Rattle.ownership_model.specs.Leaks.{is_alive, holds, fields_holding, entry_holding, holders_in, leaks_in, leaked_in, holders_of}
+use Rattle.ownership_model.specs.Leaks.{holds, fields_holding, entry_holding, holders_in, leaks_in, leaked_in, holders_of}
 use Rattle.leak_report.specs.HolderPass.{with_slot, with_slots, with_entry, with_entries, unheld, leak_names}
 
 pub names-with_slot : (p i : ℕ) (s : Slot) (ls : List Leak) → leak_names (with_slot p i s ls) ≡ leak_names ls

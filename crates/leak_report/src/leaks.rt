@@ -4,7 +4,7 @@ ghost use Rattle.std.specs.Option.{option_copied};
 ghost use Rattle.std.specs.Ordering.{nat_cmp};
 ghost use Rattle.std.specs.FinMap.{get};
 ghost use Rattle.std.specs.BTreeSet.{contains};
-ghost use Rattle.ownership_model.specs.Leaks as definition;
+ghost use Rattle.ownership_model.specs.State as definition;
 ghost use Rattle.ownership_model.specs.Leaks.{leaks_of, leaked_in, husk_of, husks_in};
 
 use crate::holders::{push_holders, without_holders};

@@ -14,7 +14,7 @@ use Rattle.trace_types.specs.declared.slots.Item.TheVariants as item
 use Rattle.trace_types.specs.declared.outcomes.Event.{Event}
 use Rattle.ownership_model.specs.Totals.{weight_at}
 use Rattle.ownership_model.specs.State.{State, strong, weak, ends, weight, names_alike, entry_weight, IsSound, IsSoundAt}
-use Rattle.ownership_model.specs.Release.{Fate, Stays, Goes, fate, fall, is_husk, left_by, drop_first, Released, after, release, work}
+use Rattle.ownership_model.specs.Release.{Fate, Stays, Goes, fate, fall, is_husk, left_by, drop_first, Becomes, Released, after, release, work}
 use Rattle.ownership_model.proofs.ReleaseLemmas.{either, release-nil, release-cons, work_drops}
 use Rattle.ownership_model.proofs.CountLemmas.{total-set, total-cut, items_weight-drops, ends-drops, self_strong, self_weak, other_strong, other_weak, same_number}
 use Rattle.ownership_model.proofs.DropLemmas.{decide, sound-drop_first}
@@ -22,7 +22,7 @@ use Rattle.object_heap.specs.declared.counters.Counters.{Counters}
 use Rattle.object_heap.specs.declared.draft.Draft.{Draft}
 use Rattle.object_heap.specs.Counted.{counters_at, state_of, IsCounted}
 use Rattle.object_heap.specs.Gains.{IsSetAt}
-use Rattle.object_heap.specs.Drops.{Becomes, DropsFirst}
+use Rattle.object_heap.specs.Drops.{DropsFirst}
 use Rattle.object_heap.proofs.GainLemmas.{chosen}
 
 -- what all slots weigh is what those of the rest weigh
@@ -169,11 +169,11 @@ is_some n h = grind (arith, nat_tests)
 module _ (old new : Draft) (x : Item) (o : ℕ) (xs left : List Item) (before told : List Event) (c : Counters)
     (sound : IsSound (state_of old) (x ∷ xs)) (counted : IsCounted old.counts (state_of old) (x ∷ xs)) (only : NamesOnly (state_of old) x xs o) (set : IsSetAt old.counts new.counts o c) where
   drops_by : (f : Fate) → fate (state_of old) x xs ≡ f → c.strong ≡ strong (state_of old) xs o → c.weak ≡ weak (state_of old) xs o → c.ends ≡ ends o (left_by (state_of old) xs f).pending
-      → Becomes new left before told (left_by (state_of old) xs f) → DropsFirst old new x xs left before told
+      → Becomes (state_of new) left before told (left_by (state_of old) xs f) → DropsFirst old new x xs left before told
   drops_by f is s w e step =
       let next : IsCounted new.counts (drop_first (state_of old) x xs).state (drop_first (state_of old) x xs).pending =
       counted_next (state_of old) x xs old.counts new.counts o c sound counted only set s w (e ∙ ap (λ (g : Fate). ends o (left_by (state_of old) xs g).pending) (sym is)) in
-      let here : Becomes new left before told (drop_first (state_of old) x xs) = subst (λ (g : Fate). Becomes new left before told (left_by (state_of old) xs g)) (sym is) step in
+      let here : Becomes (state_of new) left before told (drop_first (state_of old) x xs) = subst (λ (g : Fate). Becomes (state_of new) left before told (left_by (state_of old) xs g)) (sym is) step in
       record {
         step = here;
         counted = subst (λ (p : List Item). IsCounted new.counts (state_of new) p) (sym here.pending) (subst (λ (m : State). IsCounted new.counts m (drop_first (state_of old) x xs).pending) (sym here.state) next);
@@ -189,7 +189,7 @@ module _ (old new : Draft) (o : ℕ) (xs left : List Item) (before told : List E
   weak_rest = omega (arith, same, counted.weak_is o)
 
   -- the last strong slot
-  pub drops_last : c.strong ≡ 0 → c.ends ≡ 1 + (counters_at (get old.counts o)).ends → Becomes new left before told (left_by (state_of old) xs (fall o (get old.objects o))) → DropsFirst old new (item.Slot (Strong o)) xs left before told
+  pub drops_last : c.strong ≡ 0 → c.ends ≡ 1 + (counters_at (get old.counts o)).ends → Becomes (state_of new) left before told (left_by (state_of old) xs (fall o (get old.objects o))) → DropsFirst old new (item.Slot (Strong o)) xs left before told
   unfolding EndsAt
   drops_last none more step =
       let is : fate (state_of old) (item.Slot (Strong o)) xs ≡ fall o (get old.objects o) = fate_by true (strong (state_of old) xs o == 0) (fall o (get old.objects o)) Stays (sym (is_none (strong (state_of old) xs o) (sym strong_rest ∙ none))) in
@@ -197,7 +197,7 @@ module _ (old new : Draft) (o : ℕ) (xs left : List Item) (before told : List E
       (more ∙ ap (λ n. 1 + n) (counted.ends_is o) ∙ sym (fall_ends_self (state_of old) xs o _ _ (get old.objects o) (first_strong (state_of old) xs o sound))) step
 
   -- one of several
-  pub drops_more : (c.strong ≡ 0 → ⊥) → c.ends ≡ (counters_at (get old.counts o)).ends → Becomes new left before told (left_by (state_of old) xs Stays) → DropsFirst old new (item.Slot (Strong o)) xs left before told
+  pub drops_more : (c.strong ≡ 0 → ⊥) → c.ends ≡ (counters_at (get old.counts o)).ends → Becomes (state_of new) left before told (left_by (state_of old) xs Stays) → DropsFirst old new (item.Slot (Strong o)) xs left before told
   drops_more some kept step =
       let is : fate (state_of old) (item.Slot (Strong o)) xs ≡ Stays = fate_by false (strong (state_of old) xs o == 0) (fall o (get old.objects o)) Stays (sym (is_some (strong (state_of old) xs o) (λ z. some (strong_rest ∙ z)))) in
       drops_by old new (item.Slot (Strong o)) o xs left before told c sound counted (strong_names_only (state_of old) xs o) set Stays is strong_rest weak_rest (kept ∙ counted.ends_is o) step
@@ -205,7 +205,7 @@ module _ (old new : Draft) (o : ℕ) (xs left : List Item) (before told : List E
 module _ (old new : Draft) (o : ℕ) (xs : List Item) (before told : List Event) (c : Counters)
     (set : IsSetAt old.counts new.counts o c) (same : c.strong ≡ (counters_at (get old.counts o)).strong) where
   pub drops_weak : (b : Bool) → IsSound (state_of old) (item.Slot (Weak o) ∷ xs) → IsCounted old.counts (state_of old) (item.Slot (Weak o) ∷ xs) → c.weak ≡ (counters_at (get old.counts o)).weak - 1 → c.ends ≡ (counters_at (get old.counts o)).ends
-      → b ≡ ((c.weak == 0) && (is_husk (get old.objects o) && (c.ends == 0))) → Becomes new xs before told (left_by (state_of old) xs (if b then Goes o else Stays)) → DropsFirst old new (item.Slot (Weak o)) xs xs before told
+      → b ≡ ((c.weak == 0) && (is_husk (get old.objects o) && (c.ends == 0))) → Becomes (state_of new) xs before told (left_by (state_of old) xs (if b then Goes o else Stays)) → DropsFirst old new (item.Slot (Weak o)) xs xs before told
   drops_weak b sound counted less kept test step =
       let s : c.strong ≡ strong (state_of old) xs o = omega (arith, same, counted.strong_is o) in
       let w : c.weak ≡ weak (state_of old) xs o = omega (arith, less, counted.weak_is o, self_weak o) in
@@ -215,7 +215,7 @@ module _ (old new : Draft) (o : ℕ) (xs : List Item) (before told : List Event)
       drops_by old new (item.Slot (Weak o)) o xs xs before told c sound counted (weak_names_only (state_of old) xs o) set (if b then Goes o else Stays) is s w (e ∙ ap (ends o) (sym (weak_pending (state_of old) xs o)) ∙ ap (λ (g : Fate). ends o (left_by (state_of old) xs g).pending) is) step
 
   pub drops_end : (b : Bool) → IsSound (state_of old) (item.End o ∷ xs) → IsCounted old.counts (state_of old) (item.End o ∷ xs) → c.weak ≡ (counters_at (get old.counts o)).weak → c.ends ≡ (counters_at (get old.counts o)).ends - 1
-      → b ≡ (c.weak == 0) → Becomes new xs before told (left_by (state_of old) xs (if b then Goes o else Stays)) → DropsFirst old new (item.End o) xs xs before told
+      → b ≡ (c.weak == 0) → Becomes (state_of new) xs before told (left_by (state_of old) xs (if b then Goes o else Stays)) → DropsFirst old new (item.End o) xs xs before told
   drops_end b sound counted kept less test step =
       let s : c.strong ≡ strong (state_of old) xs o = same ∙ counted.strong_is o in
       let w : c.weak ≡ weak (state_of old) xs o = kept ∙ counted.weak_is o in
@@ -226,7 +226,7 @@ module _ (old new : Draft) (o : ℕ) (xs : List Item) (before told : List Event)
 
 pub drops_nothing : (old : Draft) (s : Slot) (xs : List Item) (before : List Event) → fate (state_of old) (item.Slot s) xs ≡ Stays → ((w : ℕ) → names_alike (Strong w) s ≡ 0) → ((w : ℕ) → names_alike (Weak w) s ≡ 0) → IsCounted old.counts (state_of old) (item.Slot s ∷ xs) → DropsFirst old old (item.Slot s) xs xs before before
 drops_nothing old s xs before is a b counted = record {
-  step = subst (λ (g : Fate). Becomes old xs before before (left_by (state_of old) xs g)) (sym is) (record { state = refl; pending = refl; events = sym (append-nil before) });
+  step = subst (λ (g : Fate). Becomes (state_of old) xs before before (left_by (state_of old) xs g)) (sym is) (record { state = refl; pending = refl; events = sym (append-nil before) });
   counted = record {
     strong_is = λ o. omega (arith, counted.strong_is o, a o);
     weak_is = λ o. omega (arith, counted.weak_is o, b o);

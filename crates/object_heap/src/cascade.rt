@@ -4,10 +4,10 @@ ghost use Rattle.std.specs.FinMap as map;
 ghost use Rattle.trace_types.specs.declared.slots.Item.TheVariants as item;
 ghost use Rattle.trace_types.specs.declared.slots.Slot.TheVariants as slot;
 ghost use Rattle.ownership_model.specs.State.{IsSound};
-ghost use Rattle.ownership_model.specs.Release.{release, drops, fall, is_husk, left_by, Goes};
+ghost use Rattle.ownership_model.specs.Release.{release, drops, fall, is_husk, left_by, Becomes, Goes};
 ghost use Rattle.ownership_model.specs.Bounds.{IsBounded};
 ghost use Rattle.object_heap.specs.Counted.{counters_at, state_of, IsCounted};
-ghost use Rattle.object_heap.specs.Drops.{Becomes, DropsFirst};
+ghost use Rattle.object_heap.specs.Drops.{DropsFirst};
 
 use crate::counters::{Counters, counters_of, hold_item, set_counters};
 use crate::draft::Draft;
@@ -180,7 +180,7 @@ impl Draft {
         pending: &mut VecDeque<Item>,
         events: &mut Vec<Event>,
     ) -> Result<(), AllocError>
-        ensures step { OnOk result (Becomes self.new pending.new.items events.old.items events.new.items (left_by (state_of self.old) pending.old.items (fall object (map.get self.old.objects object)))) }
+        ensures step { OnOk result (Becomes (state_of self.new) pending.new.items events.old.items events.new.items (left_by (state_of self.old) pending.old.items (fall object (map.get self.old.objects object)))) }
         ensures counts { OnOk result (self.new.counts ≡ self.old.counts) }
     {
         match self.objects.get(object) {
@@ -200,7 +200,7 @@ impl Draft {
         object: u32,
         events: &mut Vec<Event>,
     ) -> Result<(), AllocError>
-        ensures step { OnOk result (Becomes self.new [] events.old.items events.new.items (left_by (state_of self.old) [] (Goes object))) }
+        ensures step { OnOk result (Becomes (state_of self.new) [] events.old.items events.new.items (left_by (state_of self.old) [] (Goes object))) }
         ensures counts { OnOk result (self.new.counts ≡ self.old.counts) }
     {
         events.push(Event::Freed(object))?;

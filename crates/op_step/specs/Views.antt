@@ -1,9 +1,7 @@
 -- What the row of an operation reads, where it reads less than a whole view.
-use Rattle.std.specs.Prelude.{[], Option, None, Some}
+use Rattle.std.specs.Prelude.{[], Option, None}
 use Rattle.trace_types.specs.declared.slots.Slot.{Slot}
-use Rattle.trace_types.specs.declared.slots.Slot.TheVariants.{Nothing, Strong, Weak, Dangling}
 use Rattle.trace_types.specs.declared.slots.Holding.{Holding}
-use Rattle.trace_types.specs.declared.slots.Holding.TheVariants as holding
 use Rattle.trace_types.specs.declared.slots.Entry.{Entry}
 use Rattle.trace_types.specs.declared.kinds.Kind.{Kind}
 use Rattle.ownership_model.specs.View.{View, Seen}
@@ -41,11 +39,3 @@ cell_and_one cell first = cell_and_two cell first None
 -- the row of an operation that makes no object, whose number does not matter
 abbrev pub row_by : Kind → View → Plan
 row_by kind v = row_of 0 kind v
-
--- what a cell may hold of it: a strong reference, or an empty pointer
-abbrev pub pointer_of : Holding → Option Slot
-pointer_of (holding.Slot Nothing) = Some Nothing
-pointer_of (holding.Slot (Strong o)) = Some (Strong o)
-pointer_of (holding.Slot (Weak o)) = None
-pointer_of (holding.Slot Dangling) = None
-pointer_of (holding.Bare fields) = None

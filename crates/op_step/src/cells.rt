@@ -3,7 +3,7 @@ ghost use Rattle.std.specs.Prelude.{◌≡◌, IfOk, None, Some};
 ghost use Rattle.std.specs.Option.{option_copied};
 ghost use Rattle.trace_types.specs.declared.kinds.Kind.TheVariants as kind;
 ghost use Rattle.ownership_model.specs.Table as Table;
-ghost use Rattle.op_step.specs.Views.{cell_and_one, cell_and_two, pointer_of, row_by};
+ghost use Rattle.op_step.specs.Views.{cell_and_one, cell_and_two, row_by};
 
 use crate::effect::{acting, holding, object_of};
 use ownership_model::plan::Plan;
@@ -191,7 +191,7 @@ pub fn cell_drop(alloc: Global, c: u32, cell: Option<Slot>) -> Result<Plan, Allo
 
 // What a cell may hold: a strong reference, or an empty pointer.
 fn pointer_in(held: &Holding) -> Option<Slot>
-    ensures { result ≡ pointer_of held.now }
+    ensures { result ≡ Table.pointer_of held.now }
 {
     match held {
         Holding::Slot(Slot::Nothing) => Some(Slot::Nothing),

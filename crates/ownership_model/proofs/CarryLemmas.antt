@@ -1,6 +1,6 @@
 -- What a row does can be done, and leaves a sound state.
 use Rattle.std.proofs.Common.{◌≡◌, ℕ, ◌+◌, ◌<◌, ◌≤◌, List, [], ◌∷◌, refl, ap, ◌∙◌, sym, subst, arith, Bool, true, false}
-use Rattle.std.specs.Prelude.{Option, Some, None, ◌==◌, ◌||◌, if◌then◌else◌, slice_get, slice_set, IsSome}
+use Rattle.std.specs.Prelude.{Option, Some, None, IsTrue, ◌==◌, ◌||◌, if◌then◌else◌, slice_get, slice_set, IsSome}
 use Rattle.std.proofs.lemmas.Bool.Decides.{nat_tests}
 use Rattle.std.proofs.lemmas.Option.{slice_get_within}
 use Rattle.std.specs.FinMap.{get, insert, remove}
@@ -18,16 +18,16 @@ use Rattle.trace_types.specs.declared.outcomes.Answer.{Answer}
 use Rattle.trace_types.specs.declared.outcomes.Answer.TheVariants as answer
 use Rattle.ownership_model.specs.declared.plan.Plan.{Plan}
 use Rattle.ownership_model.specs.declared.plan.Plan.TheVariants.{Skip, Act}
-use Rattle.ownership_model.specs.State.{State, strong, weak, weight, holding_weight, entry_weight, slots_weight, names_alike, IsSound, IsSoundAt}
+use Rattle.ownership_model.specs.State.{State, strong, weak, weight, holding_weight, entry_weight, slots_weight, names_alike, IsSound, IsSoundAt, is_alive}
 use Rattle.ownership_model.specs.Release.{drops}
-use Rattle.ownership_model.specs.Changes.{changed, HasField, IsAlive, with_field}
+use Rattle.ownership_model.specs.Changes.{changed, HasField, with_field}
 use Rattle.ownership_model.specs.Carry.{IsCarriable}
 use Rattle.ownership_model.specs.View.{Seen, held_by, named_by, named_in, seen, view_of, repeated}
 use Rattle.ownership_model.specs.Step.{step, carried_out, end_from, AreNew}
 use Rattle.trace_types.specs.Operation.{Operation}
 use Rattle.ownership_model.proofs.DropLemmas.{sound-release}
 use Rattle.ownership_model.proofs.EndingLemmas.{new_carriable}
-use Rattle.ownership_model.specs.Table.{row, row_of, upgraded, unwrapped, made_unique, dropped, swapped, exchanged, set_field, take_field, copy_field, write_field, fields_of, is_alive, same_pointer, make, act}
+use Rattle.ownership_model.specs.Table.{row, row_of, upgraded, unwrapped, made_unique, dropped, swapped, exchanged, set_field, take_field, copy_field, write_field, fields_of, same_pointer, make, act}
 use Rattle.ownership_model.proofs.WalkLemmas as walk
 use Rattle.ownership_model.proofs.MapLemmas.{get_inserted}
 use Rattle.ownership_model.proofs.CountLemmas.{total-set, total-cut, get_cut_none, get_cut_other, get_set_other, apart_of, slots_weight-set, slots_weight-get, items_weight-drops, ends-drops, held_within, cell_within, fields_within, self_strong, named_weak, named_strong, same_number, positive, shape}
@@ -173,8 +173,8 @@ module _ (m : State) (sound : IsSound m []) where
   here : (o : ℕ) (e : Option Entry) → get m.objects o ≡ e → IsSoundAt (strong m [] o) (weak m [] o) 0 e
   here o e is = subst (λ (x : Option Entry). IsSoundAt (strong m [] o) (weak m [] o) 0 x) is (sound o)
 
-  is_alive_at : (o : ℕ) (fields : List Slot) → get m.objects o ≡ Some (Alive fields) → IsAlive (get m.objects o)
-  is_alive_at o fields is = subst (λ (x : Option Entry). IsAlive x) (sym is) tt
+  is_alive_at : (o : ℕ) (fields : List Slot) → get m.objects o ≡ Some (Alive fields) → IsTrue (is_alive (get m.objects o))
+  is_alive_at o fields is = ap is_alive is
 
   unwrapped_carriable : (h o : ℕ) (e : Option Entry) → get m.objects o ≡ e → get m.handles h ≡ Some (holding.Slot (Strong o)) → strong m [] o ≡ 1 → P (unwrapped h o (fields_of e))
   unwrapped_carriable h o None is hold one = absurd (let a : IsSoundAt (strong m [] o) (weak m [] o) 0 None = here o None is in omega (arith, a.0, one))

@@ -4,9 +4,10 @@ use Rattle.std.specs.Prelude.{◌&&◌, not, Option, Some, None, filter, is_some
 use Rattle.std.proofs.lemmas.Bool.Decides.{nat_tests}
 use Rattle.std.specs.FinMap.{get, keys, contains_key-keys}
 use Rattle.trace_types.specs.declared.slots.Entry.{Entry}
+use Rattle.ownership_model.specs.State.{is_alive}
 use Rattle.ownership_model.specs.declared.link.Link.TheVariants.{StrongOnly}
 use Rattle.ownership_model.specs.Reach.{is_reached, has}
-use Rattle.ownership_model.specs.Leaks.{is_alive, leaked_in}
+use Rattle.ownership_model.specs.Leaks.{leaked_in}
 use Rattle.ownership_model.specs.ReachLaws.{ReachIsLeast, LeakedAreUnreached}
 use Rattle.ownership_model.proofs.ReachLemmas.{has_as_any}
 use Rattle.ownership_model.proofs.ReachedLemmas.{reached, has_reached}

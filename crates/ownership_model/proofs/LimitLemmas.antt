@@ -1,6 +1,6 @@
 -- Changes, releases, steps and whole replays keep the limits of a state.
-use Rattle.std.proofs.Common.{◌≡◌, ℕ, zero, suc, List, [], ◌∷◌, length, refl, sym, subst, arith, true, false}
-use Rattle.std.specs.Prelude.{Option, Some, None, ◌==◌, ◌&&◌, if◌then◌else◌, slice_set}
+use Rattle.std.proofs.Common.{◌≡◌, ℕ, zero, suc, List, [], ◌∷◌, length, refl, ap, sym, subst, arith, true, false}
+use Rattle.std.specs.Prelude.{Option, Some, None, IsTrue, ◌==◌, ◌&&◌, if◌then◌else◌, slice_set}
 use Rattle.std.proofs.lemmas.Bool.Decides.{nat_tests}
 use Rattle.std.specs.Ordering.{nat_cmp}
 use Rattle.std.specs.FinMap.{FinMap, get, insert, remove, get-empty}
@@ -12,9 +12,9 @@ use Rattle.trace_types.specs.declared.slots.Item.{Item}
 use Rattle.trace_types.specs.declared.slots.Item.TheVariants as item
 use Rattle.trace_types.specs.declared.slots.Change.{Change}
 use Rattle.trace_types.specs.declared.slots.Change.TheVariants.{SetHandle, EndHandle, SetCell, EndCell, SetField, Make, TurnHusk}
-use Rattle.ownership_model.specs.State.{State, nothing_held, strong, weak, ends}
+use Rattle.ownership_model.specs.State.{State, nothing_held, strong, weak, ends, is_alive}
 use Rattle.ownership_model.specs.Release.{Fate, Goes, fall, fate, left_by, drop_first, is_husk, release, release_within, work}
-use Rattle.ownership_model.specs.Changes.{with_field, changed_by, changed, HasField, IsAlive, CanBeDone, CanChange}
+use Rattle.ownership_model.specs.Changes.{with_field, changed_by, changed, HasField, CanBeDone, CanChange}
 use Rattle.ownership_model.specs.Bounds.{HandleFits, CellFits, ObjectFits, IsBounded, ChangeFits, ChangesFit}
 use Rattle.ownership_model.proofs.MapLemmas.{get_inserted, get_removed}
 use Rattle.ownership_model.proofs.ReleaseLemmas.{either}
@@ -37,10 +37,10 @@ length-slice_set [] i s = refl
 length-slice_set (f ∷ fields) zero s = refl
 length-slice_set (f ∷ fields) (suc i) s = omega (arith, length-slice_set fields i s)
 
-husk_fits : (o : ℕ) (it : Option Entry) → ObjectFits o it → IsAlive it → ObjectFits o (Some Husk)
-husk_fits o None fits alive = absurd alive
+husk_fits : (o : ℕ) (it : Option Entry) → ObjectFits o it → IsTrue (is_alive it) → ObjectFits o (Some Husk)
+husk_fits o None fits alive = absurd cc
 husk_fits o (Some (Alive fields)) fits alive = (fits.0, tt)
-husk_fits o (Some Husk) fits alive = absurd alive
+husk_fits o (Some Husk) fits alive = absurd cc
 
 field_fits : (o i : ℕ) (s : Slot) (it : Option Entry) → ObjectFits o it → HasField it i → ObjectFits o (Some (with_field it i s))
 field_fits o i s None fits has = absurd has
@@ -74,7 +74,7 @@ module _ (m : State) (rest : List Item) (b : IsBounded m) where
 
   falls_bounded : (o : ℕ) (it : Option Entry) → get m.objects o ≡ it → Kept (fall o it)
   falls_bounded o None is = b
-  falls_bounded o (Some (Alive fields)) is = change_bounded m (TurnHusk o) b tt (subst IsAlive (sym is) tt)
+  falls_bounded o (Some (Alive fields)) is = change_bounded m (TurnHusk o) b tt (ap is_alive is)
   falls_bounded o (Some Husk) is = b
 
   goes_bounded : (o : ℕ) → Kept (Goes o)

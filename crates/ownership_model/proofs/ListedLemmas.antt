@@ -1,6 +1,6 @@
 -- The replay over plain lists is the replay.
 use Rattle.std.proofs.Common.{◌≡◌, ℕ, zero, suc, ◌+◌, List, [], ◌∷◌, ◌++◌, length, refl, ap, ◌∙◌, sym, subst, arith, append_assoc, Bool, true, false}
-use Rattle.std.specs.Prelude.{Option, Some, None, IsSome, ◌==◌, ◌&&◌, if◌then◌else◌}
+use Rattle.std.specs.Prelude.{Option, Some, None, IsTrue, IsSome, ◌==◌, ◌&&◌, if◌then◌else◌}
 use Rattle.std.proofs.lemmas.Bool.Decides.{nat_tests}
 use Rattle.std.proofs.lemmas.List.{append-nil}
 use Rattle.std.specs.Ordering.{nat_cmp}
@@ -22,9 +22,9 @@ use Rattle.trace_types.specs.declared.outcomes.Outcome.{Outcome}
 use Rattle.trace_types.specs.declared.outcomes.Verdict.TheVariants.{Did}
 use Rattle.trace_types.specs.Operation.{Operation}
 use Rattle.ownership_model.specs.Totals.{total_in, total, weight_at}
-use Rattle.ownership_model.specs.State.{State, nothing_held, weight, holding_weight, entry_weight, names_alike, ends, IsSoundAt, IsSound}
+use Rattle.ownership_model.specs.State.{State, nothing_held, weight, holding_weight, entry_weight, names_alike, ends, IsSoundAt, IsSound, is_alive}
 use Rattle.ownership_model.specs.Release.{Fate, Stays, Falls, Goes, fate, fall, is_husk, Dropped, left_by, drop_first, Released, release_within, release, work, alive_size}
-use Rattle.ownership_model.specs.Changes.{with_field, changed_by, changed, HasField, IsAlive, CanBeDone, CanChange}
+use Rattle.ownership_model.specs.Changes.{with_field, changed_by, changed, HasField, CanBeDone, CanChange}
 use Rattle.ownership_model.specs.View.{Members, members, Read, Null, Me, View, held_by, cell_of, elements_of, named_in, seen, view_at}
 use Rattle.ownership_model.specs.Table.{row}
 use Rattle.ownership_model.specs.Step.{step, carried_out, counts_of, named_event, outcomes_from}
@@ -290,7 +290,7 @@ CanBeDoneIn m (SetCell c s) = Unit {0}
 CanBeDoneIn m (EndCell c) = IsSome (look c m.cells)
 CanBeDoneIn m (SetField o i s) = HasField (look o m.objects) i
 CanBeDoneIn m (Make o fields) = look o m.objects ≡ None
-CanBeDoneIn m (TurnHusk o) = IsAlive (look o m.objects)
+CanBeDoneIn m (TurnHusk o) = IsTrue (is_alive (look o m.objects))
 
 abbrev pub CanChangeIn : Lists → List Change → Type 0
 CanChangeIn m [] = Unit {0}
@@ -303,7 +303,7 @@ can-shown m (SetCell c s) can = tt
 can-shown m (EndCell c) can = subst (λ (e : Option Slot). IsSome e) (sym (get-map_of m.cells c)) can
 can-shown m (SetField o i s) can = subst (λ (e : Option Entry). HasField e i) (sym (get-map_of m.objects o)) can
 can-shown m (Make o fields) can = get-map_of m.objects o ∙ can
-can-shown m (TurnHusk o) can = subst (λ (e : Option Entry). IsAlive e) (sym (get-map_of m.objects o)) can
+can-shown m (TurnHusk o) can = ap is_alive (get-map_of m.objects o) ∙ can
 
 can_change-shown : (changes : List Change) (m : Lists) → CanChangeIn m changes → CanChange (shown m) changes
 can_change-shown [] m can = tt

@@ -12,11 +12,10 @@ use Rattle.ownership_model.specs.State.{State}
 use Rattle.ownership_model.specs.Bounds.{IsBounded, PlanFits}
 use Rattle.ownership_model.specs.Carry.{IsCarriable}
 use Rattle.ownership_model.specs.Changes.{changed}
-use Rattle.ownership_model.specs.Release.{drop_first, Released, after, release, work}
+use Rattle.ownership_model.specs.Release.{drop_first, Released, after, release, work, Becomes}
 use Rattle.ownership_model.specs.View.{view_of, repeated_in}
 use Rattle.ownership_model.specs.Table.{row}
 use Rattle.ownership_model.specs.Step.{step, carried_out}
-use Rattle.ownership_model.specs.Plain.{Becomes}
 use Rattle.ownership_model.specs.declared.plan.Plan.{Plan}
 use Rattle.ownership_model.specs.declared.plan.Plan.TheVariants.{Act}
 use Rattle.ownership_model.proofs.ReleaseLemmas.{release-nil, release-cons, work_drops}

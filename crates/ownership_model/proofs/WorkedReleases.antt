@@ -98,7 +98,7 @@ pub own_weak_is_sound : IsSound (changed nothing_held own_weak) (item.Slot (Stro
 own_weak_is_sound = sound_made own_weak (item.Slot (Strong 1) ∷ []) own_weak_counts
 
 pub husk_can : CanChange nothing_held husk
-husk_can = can_be_made husk (refl, (tt, (tt, tt)))
+husk_can = can_be_made husk (refl, (refl, (tt, tt)))
 
 husk_counts : IsSoundIn (changes_in nothing_listed husk) []
 husk_counts zero = (refl, refl, refl)

@@ -1,10 +1,7 @@
 -- The state that plain lists hold, and what the program over them does with it (profile of this project).
-use Rattle.std.specs.Prelude.{ℕ, ◌≡◌, ◌++◌, List, Result, Ok, Err}
-use Rattle.trace_types.specs.declared.slots.Item.{Item}
-use Rattle.trace_types.specs.declared.outcomes.Event.{Event}
+use Rattle.std.specs.Prelude.{ℕ, ◌≡◌, Result, Ok, Err}
 use Rattle.trace_types.specs.declared.kinds.Kind.{Kind}
 use Rattle.ownership_model.specs.State.{State}
-use Rattle.ownership_model.specs.Release.{Dropped}
 use Rattle.ownership_model.specs.View.{view_of}
 use Rattle.ownership_model.specs.Table.{row_of}
 use Rattle.ownership_model.specs.declared.plan.Plan.{Plan}
@@ -15,12 +12,6 @@ use Rattle.ownership_model.specs.declared.plain.stop.Stop.TheVariants as stop
 
 abbrev pub state_of : PlainState → State
 state_of s = record { handles = s.handles; cells = s.cells; objects = s.objects }
-
--- the state, the items that are left and the events, after those before, are what a drop leaves
-pub record Becomes (new : State) (left : List Item) (before told : List Event) (d : Dropped) : Type 0 where
-  pub state : new ≡ d.state
-  pub pending : left ≡ d.pending
-  pub events : told ≡ before ++ d.events
 
 -- A row of the table ends with its plan, or early with a reason. Of want of memory nothing is said.
 

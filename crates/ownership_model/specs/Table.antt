@@ -23,6 +23,7 @@ use Rattle.trace_types.specs.declared.outcomes.Reason.TheVariants.{SameName, Not
 use Rattle.trace_types.specs.Operation.{Operation}
 use Rattle.ownership_model.specs.declared.plan.Plan.{Plan}
 use Rattle.ownership_model.specs.declared.plan.Plan.TheVariants.{Skip, Act}
+use Rattle.ownership_model.specs.State.{is_alive}
 use Rattle.ownership_model.specs.Release.{drops}
 use Rattle.ownership_model.specs.View.{View, Element, Read, Null, Me, Seen, named_by, repeated}
 
@@ -84,25 +85,28 @@ counted_in h (holding.Slot Dangling) rest = rest None
 counted_in h (holding.Slot Nothing) rest = Skip (WrongKind h)
 counted_in h (holding.Bare fields) rest = Skip (WrongKind h)
 
--- what a cell may hold: an Arc or an empty pointer, as a shared_ptr may be
+-- what a cell may hold of it: an Arc or an empty pointer, as a shared_ptr may be
+abbrev pub pointer_of : Holding → Option Slot
+pointer_of (holding.Slot Nothing) = Some Nothing
+pointer_of (holding.Slot (Strong o)) = Some (Strong o)
+pointer_of (holding.Slot (Weak o)) = None
+pointer_of (holding.Slot Dangling) = None
+pointer_of (holding.Bare fields) = None
+
+-- the handle holds the right kind of thing
+abbrev pub kind_wanted : {X : Type 0} → ℕ → Option X → (X → Plan) → Plan
+kind_wanted h None rest = Skip (WrongKind h)
+kind_wanted h (Some x) rest = rest x
+
+-- what a cell may hold
 abbrev pub pointer_in : ℕ → Holding → (Slot → Plan) → Plan
-pointer_in h (holding.Slot Nothing) rest = rest Nothing
-pointer_in h (holding.Slot (Strong o)) rest = rest (Strong o)
-pointer_in h (holding.Slot (Weak o)) rest = Skip (WrongKind h)
-pointer_in h (holding.Slot Dangling) rest = Skip (WrongKind h)
-pointer_in h (holding.Bare fields) rest = Skip (WrongKind h)
+pointer_in h x rest = kind_wanted h (pointer_of x) rest
 
 -- the fields of the value, where it lives
 abbrev pub fields_of : Option Entry → List Slot
 fields_of (Some (Alive fields)) = fields
 fields_of (Some Husk) = []
 fields_of None = []
-
--- whether the value lives
-abbrev pub is_alive : Option Entry → Bool
-is_alive (Some (Alive fields)) = true
-is_alive (Some Husk) = false
-is_alive None = false
 
 -- an Arc, whose value's fields are meant, or a value outside any allocation
 abbrev pub fields_in : ℕ → Holding → Option Entry → (Option ℕ → List Slot → Plan) → Plan

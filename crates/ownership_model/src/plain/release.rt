@@ -2,10 +2,10 @@
 ghost use Rattle.std.specs.Prelude.{◌≡◌, ◌==◌, ◌&&◌, [], IfOk, OnOk};
 ghost use Rattle.std.specs.FinMap as map;
 ghost use Rattle.ownership_model.specs.State.{weak, ends};
-ghost use Rattle.ownership_model.specs.Release.{release, fall, is_husk, left_by, drop_first, Goes};
+ghost use Rattle.ownership_model.specs.Release.{release, fall, is_husk, left_by, drop_first, Becomes, Goes};
 ghost use Rattle.ownership_model.specs.Release as Release;
 ghost use Rattle.ownership_model.specs.Bounds.{IsBounded};
-ghost use Rattle.ownership_model.specs.Plain.{state_of, Becomes};
+ghost use Rattle.ownership_model.specs.Plain.{state_of};
 
 use crate::plain::state::PlainState;
 use std::alloc::{AllocError, Global};

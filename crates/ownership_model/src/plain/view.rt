@@ -4,7 +4,8 @@ ghost use Rattle.std.specs.Option.{option_copied};
 ghost use Rattle.std.specs.FinMap as map;
 ghost use Rattle.ownership_model.specs.View.{seen};
 ghost use Rattle.ownership_model.specs.View as View;
-ghost use Rattle.ownership_model.specs.Table.{fields_of, is_alive};
+ghost use Rattle.ownership_model.specs.State.{is_alive};
+ghost use Rattle.ownership_model.specs.Table.{fields_of};
 ghost use Rattle.ownership_model.specs.Bounds.{IsBounded};
 ghost use Rattle.ownership_model.specs.Plain.{state_of};
 
