@@ -25,7 +25,8 @@ use Rattle.ownership_model.proofs.BoundLemmas.{strong-le, weak-le, names_alike-l
 use Rattle.object_heap.specs.declared.counters.Counters.{Counters}
 use Rattle.object_heap.specs.declared.draft.Draft.{Draft}
 use Rattle.object_heap.specs.Counted.{counters_at, state_of, IsCounted}
-use Rattle.object_heap.specs.Gains.{IsSetAt, CountsMore, HasSlots, HasRoom, field_weight, gained, lost, Changes}
+use Rattle.object_heap.specs.Gains.{IsSetAt, CountsMore, HasSlots, HasRoom, Changes}
+use Rattle.object_heap.proofs.ChangeWeights.{field_weight, gained, lost}
 
 -- what a call that succeeded gives
 pub on_ok : {T E : Type 0} (r : Result T E) {P Q : Type 0} → OnOk r P → (P → Q) → OnOk r Q

@@ -27,7 +27,7 @@ use Rattle.ownership_model.specs.Bounds.{max_name, max_id, max_fields, AreFew, H
 use Rattle.ownership_model.specs.Carry.{IsCarriable}
 use Rattle.ownership_model.specs.Step.{step, carried_out, end_from, AreNew}
 use Rattle.ownership_model.specs.Laws.{BoundsHold}
-use Rattle.ownership_model.specs.Twins.{IfThere}
+use Rattle.ownership_model.proofs.Twins.{IfThere}
 use Rattle.ownership_model.proofs.WalkLemmas as walk
 use Rattle.ownership_model.proofs.BoundLemmas.{standing_weight-le}
 use Rattle.ownership_model.proofs.LimitLemmas.{length-slice_set, nothing_bounded, changed_bounded, release_bounded}

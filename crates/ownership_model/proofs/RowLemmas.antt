@@ -15,7 +15,7 @@ use Rattle.ownership_model.specs.declared.plan.Plan.{Plan}
 use Rattle.ownership_model.specs.View.{Element, Read, Null, Me, Seen, View, named_by, repeated}
 use Rattle.ownership_model.specs.State.{is_alive}
 use Rattle.ownership_model.specs.Table.{row, row_of, new_row, upgraded, unwrapped, made_unique, dropped, swapped, exchanged, write_field, set_field, take_field, copy_field, fields_of, slot_of, made_fields, ending, first_unheld, first_bare, same_pointer, make}
-use Rattle.ownership_model.specs.Twins.{AvoidsSlot, AvoidSlots, AvoidsHolding, AvoidsEntry, IfThere, AvoidsChange, AvoidChanges, AvoidsPlan, AvoidElements, AvoidsView}
+use Rattle.ownership_model.proofs.Twins.{AvoidsSlot, AvoidSlots, AvoidsHolding, AvoidsEntry, IfThere, AvoidsChange, AvoidChanges, AvoidsPlan, AvoidElements, AvoidsView}
 use Rattle.ownership_model.proofs.WalkLemmas as walk
 use Rattle.ownership_model.proofs.TwinLemmas.{set_avoids, drops_avoid}
 

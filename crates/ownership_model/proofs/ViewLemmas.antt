@@ -10,7 +10,7 @@ use Rattle.trace_types.specs.declared.kinds.Field.TheVariants as field
 use Rattle.trace_types.specs.declared.kinds.Kind.{Kind}
 use Rattle.ownership_model.specs.State.{State}
 use Rattle.ownership_model.specs.View.{Members, members, Read, Null, Me, held_by, cell_of, elements_of, named_in, seen, view_at, view_of}
-use Rattle.ownership_model.specs.Twins.{AvoidsSlot, AvoidsHolding, AvoidsEntry, IfThere, AvoidElements, AvoidsView, Twins}
+use Rattle.ownership_model.proofs.Twins.{AvoidsSlot, AvoidsHolding, AvoidsEntry, IfThere, AvoidElements, AvoidsView, Twins}
 use Rattle.ownership_model.proofs.TwinLemmas.{same_weight}
 
 module _ (r : ℕ → Bool) (n o : State) (t : Twins r n o) where

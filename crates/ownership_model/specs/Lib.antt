@@ -8,7 +8,6 @@ pub mod Bounds
 pub mod View
 pub mod Table
 pub mod Step
-pub mod Twins
 pub mod Carry
 pub mod Agrees
 pub mod Laws

@@ -1,14 +1,9 @@
 //! The laws of reach, leaks and holders, and of what a release destroys, each the contract of a function that does nothing.
-ghost use Rattle.ownership_model.specs.ReachLaws.{ReachIsLeast, ReachEncloses, LeakedAreUnreached, HoldersHold, DestroyedAreLeast};
+ghost use Rattle.ownership_model.specs.ReachLaws.{ReachIsLeast, LeakedAreUnreached, HoldersHold, DestroyedAreLeast};
 
 /// What counts as reached is the least set with what roots name and what fields of its members name.
 pub fn reach_is_least()
     ensures { ReachIsLeast }
-{}
-
-/// What strong or weak slots reach is the set on which two states are to agree to replay alike.
-pub fn reach_encloses()
-    ensures { ReachEncloses }
 {}
 
 /// The leaked objects of a state are those that are alive and that no retain path leads to.

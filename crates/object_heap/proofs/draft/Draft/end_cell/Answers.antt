@@ -5,7 +5,7 @@ use Rattle.trace_types.specs.declared.slots.Slot.{Slot}
 use Rattle.trace_types.specs.declared.slots.Change.TheVariants.{EndCell}
 use Rattle.object_heap.specs.declared.draft.Draft.{Draft}
 use Rattle.object_heap.specs.Counted.{state_of}
-use Rattle.object_heap.specs.Gains.{gained}
+use Rattle.object_heap.proofs.ChangeWeights.{gained}
 use Rattle.object_heap.proofs.GainLemmas.{on_ok, no_more, lost_in, changes}
 use Rattle.object_heap.proofs.draft.Draft.end_cell.Goals as goal
 

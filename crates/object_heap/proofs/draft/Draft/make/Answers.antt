@@ -9,7 +9,8 @@ use Rattle.trace_types.specs.declared.slots.Change.TheVariants.{Make}
 use Rattle.ownership_model.specs.State.{slots_weight}
 use Rattle.object_heap.specs.declared.draft.Draft.{Draft}
 use Rattle.object_heap.specs.Counted.{state_of}
-use Rattle.object_heap.specs.Gains.{gained, lost, CountsMore}
+use Rattle.object_heap.specs.Gains.{CountsMore}
+use Rattle.object_heap.proofs.ChangeWeights.{gained, lost}
 use Rattle.object_heap.proofs.GainLemmas.{on_ok, no_more, same_more, changes, room, less_room}
 use Rattle.object_heap.proofs.draft.Draft.make.Goals as goal
 

@@ -10,7 +10,8 @@ use Rattle.trace_types.specs.declared.slots.Change.TheVariants.{SetField}
 use Rattle.ownership_model.specs.Changes.{with_field}
 use Rattle.object_heap.specs.declared.draft.Draft.{Draft}
 use Rattle.object_heap.specs.Counted.{state_of}
-use Rattle.object_heap.specs.Gains.{lost, CountsMore}
+use Rattle.object_heap.specs.Gains.{CountsMore}
+use Rattle.object_heap.proofs.ChangeWeights.{lost}
 use Rattle.object_heap.proofs.GainLemmas.{on_ok, lost_in, changes, room, less_room, field_in, field_gone}
 use Rattle.object_heap.proofs.draft.Draft.set_field.Goals as goal
 

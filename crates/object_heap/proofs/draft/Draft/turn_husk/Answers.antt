@@ -10,7 +10,8 @@ use Rattle.ownership_model.specs.Totals.{weight_at}
 use Rattle.ownership_model.specs.State.{slots_weight, entry_weight}
 use Rattle.object_heap.specs.declared.draft.Draft.{Draft}
 use Rattle.object_heap.specs.Counted.{state_of}
-use Rattle.object_heap.specs.Gains.{gained, lost, CountsMore}
+use Rattle.object_heap.specs.Gains.{CountsMore}
+use Rattle.object_heap.proofs.ChangeWeights.{gained, lost}
 use Rattle.object_heap.proofs.GainLemmas.{on_ok, no_more, same_more, part_in, lost_in, changes}
 use Rattle.object_heap.proofs.draft.Draft.turn_husk.Goals as goal
 
