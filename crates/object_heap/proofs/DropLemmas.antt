@@ -12,7 +12,7 @@ use Rattle.trace_types.specs.declared.slots.Entry.TheVariants.{Alive, Husk}
 use Rattle.trace_types.specs.declared.slots.Item.{Item}
 use Rattle.trace_types.specs.declared.slots.Item.TheVariants as item
 use Rattle.trace_types.specs.declared.outcomes.Event.{Event}
-use Rattle.ownership_model.specs.Totals.{weight_at}
+use Rattle.ownership_model.proofs.TotalLemmas.{weight_at}
 use Rattle.ownership_model.specs.State.{State, strong, weak, ends, weight, names_alike, entry_weight, IsSound, IsSoundAt}
 use Rattle.ownership_model.specs.Release.{Fate, Stays, Goes, fate, fall, is_husk, left_by, drop_first, Becomes, Released, after, release, work}
 use Rattle.ownership_model.proofs.ReleaseLemmas.{either, release-nil, release-cons, work_drops}

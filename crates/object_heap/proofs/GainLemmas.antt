@@ -13,11 +13,11 @@ use Rattle.trace_types.specs.declared.slots.Item.{Item}
 use Rattle.trace_types.specs.declared.slots.Item.TheVariants as item
 use Rattle.trace_types.specs.declared.slots.Change.{Change}
 use Rattle.trace_types.specs.declared.slots.Change.TheVariants.{SetHandle, EndHandle, SetCell, EndCell, SetField, Make, TurnHusk}
-use Rattle.ownership_model.specs.Totals.{total, weight_at}
+use Rattle.ownership_model.specs.Totals.{total}
 use Rattle.ownership_model.specs.State.{State, ends, weight, names_alike, slots_weight, holding_weight, entry_weight}
 use Rattle.ownership_model.specs.Changes.{changed, changed_by, with_field, HasField, CanBeDone, CanChange}
 use Rattle.ownership_model.specs.Bounds.{IsBounded, ChangeFits, ChangesFit}
-use Rattle.ownership_model.proofs.TotalLemmas.{total-insert, total-remove}
+use Rattle.ownership_model.proofs.TotalLemmas.{weight_at, total-insert, total-remove}
 use Rattle.ownership_model.proofs.CountLemmas.{total-set, self_strong, self_weak, other_strong, other_weak, same_number}
 use Rattle.ownership_model.proofs.MapLemmas.{get_inserted, get_removed}
 use Rattle.ownership_model.proofs.LimitLemmas.{change_bounded}

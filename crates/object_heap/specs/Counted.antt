@@ -1,5 +1,5 @@
 -- What a heap keeps beside its state: how often each object is named.
-use Rattle.std.specs.Prelude.{ℕ, ◌≡◌, List, [], Option, Some, None}
+use Rattle.std.specs.Prelude.{ℕ, ◌≡◌, List, [], Option, unwrap_or}
 use Rattle.std.specs.Ordering.{nat_cmp}
 use Rattle.std.specs.FinMap.{FinMap, get}
 use Rattle.trace_types.specs.declared.slots.Item.{Item}
@@ -10,8 +10,7 @@ use Rattle.object_heap.specs.declared.draft.Draft.{Draft}
 
 -- zeros, where nothing is kept
 abbrev pub counters_at : Option Counters → Counters
-counters_at None = record { strong = 0; weak = 0; ends = 0 }
-counters_at (Some c) = c
+counters_at kept = unwrap_or kept (record { strong = 0; weak = 0; ends = 0 })
 
 abbrev pub state_of : Draft → State
 state_of d = record { handles = d.handles; cells = d.cells; objects = d.objects }

@@ -1,8 +1,8 @@
 //! The changes of a state, with the counts of its slots.
 ghost use Rattle.std.specs.Prelude.{◌≡◌, ◌<◌, OnOk, IfOk, [], length, slice_set};
+ghost use Rattle.std.specs.Option.{option_map_or};
 ghost use Rattle.std.specs.FinMap as map;
 ghost use Rattle.trace_types.specs.declared.slots.Change.TheVariants as change;
-ghost use Rattle.ownership_model.specs.Totals.{weight_at};
 ghost use Rattle.ownership_model.specs.State.{holding_weight, entry_weight};
 ghost use Rattle.ownership_model.specs.Changes.{HasField, CanBeDone, CanChange, changed};
 ghost use Rattle.ownership_model.specs.Bounds.{IsBounded, HoldingFits, AreFew, ChangeFits, ChangesFit, max_fields};
@@ -158,8 +158,8 @@ fn let_go_handle(
     handles: &ShareTree<Holding>,
     handle: u32,
 ) -> Result<(), AllocError>
-    requires { HasSlots counts.old (λ w. weight_at (holding_weight w) (map.get handles.now handle)) }
-    ensures { OnOk result (CountsMore counts.new counts.old (λ w. weight_at (holding_weight w) (map.get handles.now handle))) }
+    requires { HasSlots counts.old (λ w. option_map_or (holding_weight w) (map.get handles.now handle) 0) }
+    ensures { OnOk result (CountsMore counts.new counts.old (λ w. option_map_or (holding_weight w) (map.get handles.now handle) 0)) }
 {
     match handles.get(handle) {
         Some(holding) => let_go_holding(alloc, counts, holding),
@@ -174,8 +174,8 @@ fn let_go_cell(
     cells: &ShareTree<Slot>,
     cell: u32,
 ) -> Result<(), AllocError>
-    requires { HasSlots counts.old (λ w. weight_at w (map.get cells.now cell)) }
-    ensures { OnOk result (CountsMore counts.new counts.old (λ w. weight_at w (map.get cells.now cell))) }
+    requires { HasSlots counts.old (λ w. option_map_or w (map.get cells.now cell) 0) }
+    ensures { OnOk result (CountsMore counts.new counts.old (λ w. option_map_or w (map.get cells.now cell) 0)) }
 {
     match cells.get(cell) {
         Some(slot) => let_go(alloc, counts, *slot),

@@ -1,10 +1,10 @@
 //! One operation carried out on a heap.
-ghost use Rattle.std.specs.Prelude.{◌≡◌, ◌++◌, [], None, IfOk, OnOk, OnErr};
+ghost use Rattle.std.specs.Prelude.{◌≡◌, ◌++◌, [], None, IfOk, OnOk, OnErr, option_to_list};
 ghost use Rattle.std.specs.FinMap.{get};
 ghost use Rattle.ownership_model.specs.State.{IsSound};
 ghost use Rattle.ownership_model.specs.Bounds.{IsBounded, PlanFits};
 ghost use Rattle.ownership_model.specs.Carry.{IsCarriable};
-ghost use Rattle.ownership_model.specs.Step.{step, carried_out, named_event};
+ghost use Rattle.ownership_model.specs.Step.{step, carried_out};
 ghost use Rattle.ownership_model.specs.Step as Step;
 ghost use Rattle.op_step.specs.Meter.{raised};
 
@@ -109,7 +109,7 @@ fn with_named(
     event: Option<Event>,
     released: Sequence<Event>,
 ) -> Result<Sequence<Event>, AllocError>
-    ensures { IfOk result (λ s. s ≡ named_event event ++ released) }
+    ensures { IfOk result (λ s. s ≡ option_to_list event ++ released) }
 {
     let Some(event) = event else {
         return Ok(released);

@@ -9,7 +9,7 @@ use Rattle.trace_types.specs.declared.slots.Entry.{Entry}
 use Rattle.trace_types.specs.declared.slots.Entry.TheVariants.{Alive, Husk}
 use Rattle.trace_types.specs.declared.slots.Item.{Item}
 use Rattle.trace_types.specs.declared.slots.Item.TheVariants as item
-use Rattle.ownership_model.specs.Totals.{total, weight_at}
+use Rattle.ownership_model.specs.Totals.{total}
 use Rattle.ownership_model.specs.State.{State, strong, weak, ends, names_alike, holding_weight, entry_weight, IsSound, IsSoundAt, is_alive}
 use Rattle.ownership_model.specs.Release.{Released, Fate, Stays, Falls, Goes, fate, fall, left_by, drop_first, release, release_within, work, is_husk}
 use Rattle.ownership_model.specs.Cascade.{times_destroyed, times_freed, HuskCourse, Course}
@@ -17,7 +17,7 @@ use Rattle.ownership_model.specs.declared.link.Link.TheVariants.{StrongOnly}
 use Rattle.ownership_model.specs.Reach.{has, entry_names, field_names}
 use Rattle.ownership_model.specs.Falling.{FallsWith, IsClosed, IsLeastClosed, is_destroyed}
 use Rattle.ownership_model.proofs.MapLemmas.{get_inserted, get_removed}
-use Rattle.ownership_model.proofs.TotalLemmas.{total-zero}
+use Rattle.ownership_model.proofs.TotalLemmas.{weight_at, total-zero}
 use Rattle.ownership_model.proofs.CountLemmas.{at, same_number, is_zero}
 use Rattle.ownership_model.proofs.DropLemmas.{decide, all_three, end_husk, self_end, sound-drop_first, sound-release}
 use Rattle.ownership_model.proofs.CascadeLemmas.{course, times_destroyed-append}

@@ -1,6 +1,6 @@
 -- A replay over plain lists in place of finite maps, since these compute: so outcomes of whole traces are found by
 -- computation. `ListedLemmas` shows that it is the replay.
-use Rattle.std.specs.Prelude.{ℕ, zero, suc, ◌+◌, ◌==◌, List, [], ◌∷◌, ◌++◌, length, Option, Some, None, ◌&&◌, if◌then◌else◌}
+use Rattle.std.specs.Prelude.{ℕ, zero, suc, ◌+◌, ◌==◌, List, [], ◌∷◌, ◌++◌, length, Option, Some, None, ◌&&◌, if◌then◌else◌, option_to_list}
 use Rattle.trace_types.specs.declared.slots.Slot.{Slot}
 use Rattle.trace_types.specs.declared.slots.Slot.TheVariants.{Nothing, Strong, Weak, Dangling}
 use Rattle.trace_types.specs.declared.slots.Holding.{Holding}
@@ -25,7 +25,6 @@ use Rattle.ownership_model.specs.Release.{Fate, Stays, Falls, Goes, fall, is_hus
 use Rattle.ownership_model.specs.Changes.{with_field}
 use Rattle.ownership_model.specs.View.{Members, members, Element, Read, Null, Me, Seen, View, named_in}
 use Rattle.ownership_model.specs.Table.{row}
-use Rattle.ownership_model.specs.Step.{named_event}
 use Rattle.ownership_model.specs.declared.plan.Plan.{Plan}
 use Rattle.ownership_model.specs.declared.plan.Plan.TheVariants.{Skip, Act}
 
@@ -123,7 +122,7 @@ pub record Stepped : Type 0 where
   pub outcome : Outcome
 
 abbrev pub finished : ℕ → Answer → Option Event → Option ℕ → Ended → Stepped
-finished id answer event object x = record { state = x.state; outcome = record { id = id; verdict = Did answer; events = named_event event ++ x.events; counts = counts_in x.state object } }
+finished id answer event object x = record { state = x.state; outcome = record { id = id; verdict = Did answer; events = option_to_list event ++ x.events; counts = counts_in x.state object } }
 
 abbrev pub cascade_in : Lists → List Item → Ended
 cascade_in m pending = dropped_in (total_in alive_size m.objects + length pending) m [] pending

@@ -1,6 +1,6 @@
 -- The replay over plain lists is the replay.
 use Rattle.std.proofs.Common.{◌≡◌, ℕ, zero, suc, ◌+◌, List, [], ◌∷◌, ◌++◌, length, refl, ap, ◌∙◌, sym, subst, arith, append_assoc, Bool, true, false}
-use Rattle.std.specs.Prelude.{Option, Some, None, IsTrue, IsSome, ◌==◌, ◌&&◌, if◌then◌else◌}
+use Rattle.std.specs.Prelude.{Option, Some, None, IsTrue, IsSome, ◌==◌, ◌&&◌, if◌then◌else◌, option_to_list}
 use Rattle.std.proofs.lemmas.Bool.Decides.{nat_tests}
 use Rattle.std.proofs.lemmas.List.{append-nil}
 use Rattle.std.specs.Ordering.{nat_cmp}
@@ -21,17 +21,17 @@ use Rattle.trace_types.specs.declared.outcomes.Event.{Event}
 use Rattle.trace_types.specs.declared.outcomes.Outcome.{Outcome}
 use Rattle.trace_types.specs.declared.outcomes.Verdict.TheVariants.{Did}
 use Rattle.trace_types.specs.Operation.{Operation}
-use Rattle.ownership_model.specs.Totals.{total_in, total, weight_at}
+use Rattle.ownership_model.specs.Totals.{total_in, total}
 use Rattle.ownership_model.specs.State.{State, nothing_held, weight, holding_weight, entry_weight, names_alike, ends, IsSoundAt, IsSound, is_alive}
 use Rattle.ownership_model.specs.Release.{Fate, Stays, Falls, Goes, fate, fall, is_husk, Dropped, left_by, drop_first, Released, release_within, release, work, alive_size}
 use Rattle.ownership_model.specs.Changes.{with_field, changed_by, changed, HasField, CanBeDone, CanChange}
 use Rattle.ownership_model.specs.View.{Members, members, Read, Null, Me, View, held_by, cell_of, elements_of, named_in, seen, view_at}
 use Rattle.ownership_model.specs.Table.{row}
-use Rattle.ownership_model.specs.Step.{step, carried_out, counts_of, named_event, outcomes_from}
+use Rattle.ownership_model.specs.Step.{step, carried_out, counts_of, outcomes_from}
 use Rattle.ownership_model.specs.Step as real
 use Rattle.ownership_model.specs.declared.plan.Plan.{Plan}
 use Rattle.ownership_model.specs.declared.plan.Plan.TheVariants.{Skip, Act}
-use Rattle.ownership_model.proofs.TotalLemmas.{total-insert, total-zero}
+use Rattle.ownership_model.proofs.TotalLemmas.{weight_at, total-insert, total-zero}
 use Rattle.ownership_model.proofs.MapLemmas.{get_inserted, get_removed}
 use Rattle.ownership_model.proofs.ReleaseLemmas.{release-enough}
 use Rattle.ownership_model.proofs.Listed.{Lists, look, cut, set, count, fate_in, Left, meet_in, Ended, dropped_in, change_in, changes_in, look_if, elements_in, seen_in, view_in, counts_in, Stepped, cascade_in, carried_in, step_in, told_after, nothing_listed, told}
@@ -240,7 +240,7 @@ carried-shown m id (Act answer changes event pending object) a =
     let told_counts : counts_in x.state object ≡ counts_of r.state object = counts-shown x.state object e.apart ∙ ap (λ s. counts_of s object) e.state in
     record {
       state = e.state;
-      outcome = λ i. record { id = id; verdict = Did answer; events = named_event event ++ e.events i; counts = told_counts i };
+      outcome = λ i. record { id = id; verdict = Did answer; events = option_to_list event ++ e.events i; counts = told_counts i };
       apart = e.apart;
     }
 

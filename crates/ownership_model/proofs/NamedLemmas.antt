@@ -10,11 +10,11 @@ use Rattle.trace_types.specs.declared.slots.Holding.{Holding}
 use Rattle.trace_types.specs.declared.slots.Holding.TheVariants as holding
 use Rattle.trace_types.specs.declared.slots.Entry.{Entry}
 use Rattle.trace_types.specs.declared.slots.Entry.TheVariants.{Alive, Husk}
-use Rattle.ownership_model.specs.Totals.{total, weight_at}
+use Rattle.ownership_model.specs.Totals.{total}
 use Rattle.ownership_model.specs.State.{State, names_alike, slots_weight, holding_weight, entry_weight}
 use Rattle.ownership_model.specs.declared.link.Link.TheVariants.{StrongOnly}
 use Rattle.ownership_model.specs.Reach.{has, named, slots_names, holding_names, cell_names, entry_names, handle_names, all_cell_names, root_names}
-use Rattle.ownership_model.proofs.TotalLemmas.{total-zero}
+use Rattle.ownership_model.proofs.TotalLemmas.{weight_at, total-zero}
 use Rattle.ownership_model.proofs.CountLemmas.{total-cut}
 use Rattle.ownership_model.proofs.ReachLemmas.{has-append}
 use Rattle.ownership_model.proofs.NameLemmas.{all_of_each, at_each_key, all_but, but_all}

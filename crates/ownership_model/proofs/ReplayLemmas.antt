@@ -9,11 +9,11 @@ use Rattle.trace_types.specs.declared.slots.Slot.TheVariants.{Strong, Weak}
 use Rattle.trace_types.specs.declared.slots.Entry.{Entry}
 use Rattle.trace_types.specs.Operation.{Operation}
 use Rattle.trace_types.specs.Trace.{is_taken, has_distinct_numbers}
-use Rattle.ownership_model.specs.Totals.{total, weight_at}
+use Rattle.ownership_model.specs.Totals.{total}
 use Rattle.ownership_model.specs.State.{State, nothing_held, weight, strong, weak, names_alike, holding_weight, entry_weight, IsSound, IsSoundAt}
 use Rattle.ownership_model.specs.Step.{step, outcomes_from, end_from, AreNew, AreUnused}
 use Rattle.ownership_model.specs.Laws.{AppendsHold}
-use Rattle.ownership_model.proofs.TotalLemmas.{total-zero}
+use Rattle.ownership_model.proofs.TotalLemmas.{weight_at, total-zero}
 use Rattle.ownership_model.proofs.CarryLemmas.{step_sound}
 use Rattle.ownership_model.proofs.NewLemmas.{step_absent}
 use Rattle.ownership_model.proofs.JoinedLemmas.{replays}

@@ -1,6 +1,7 @@
 -- The limits of a state (profile of this project): which numbers handles, cells and objects may have, and how many
 -- fields a value may have. They bound the counts.
-use Rattle.std.specs.Prelude.{ℕ, ◌≤◌, List, [], ◌∷◌, Option, Some, None, length}
+use Rattle.std.specs.Prelude.{ℕ, ◌≤◌, List, Option, Some, None, length}
+use Rattle.std.specs.List.{AllByRecursion}
 use Rattle.std.specs.FinMap.{get}
 use Rattle.trace_types.specs.declared.slots.Slot.{Slot}
 use Rattle.trace_types.specs.declared.slots.Holding.{Holding}
@@ -73,8 +74,7 @@ ChangeFits (Make o fields) = (o ≤ max_id) × AreFew fields
 ChangeFits (TurnHusk o) = Unit {0}
 
 abbrev pub ChangesFit : List Change → Type 0
-ChangesFit [] = Unit {0}
-ChangesFit (c ∷ cs) = ChangeFits c × ChangesFit cs
+ChangesFit cs = AllByRecursion ChangeFits cs
 
 -- so do all changes of a plan
 abbrev pub PlanFits : Plan → Type 0

@@ -1,6 +1,6 @@
 -- What an operation reads of a state: what stands at the handles and the cell that it names, and the object that its first
 -- handle names, with its counts. It does nothing else with the state before it is carried out (profile of this project).
-use Rattle.std.specs.Prelude.{ℕ, ◌==◌, List, [], ◌∷◌, ◌++◌, Option, Some, None, if◌then◌else◌}
+use Rattle.std.specs.Prelude.{ℕ, ◌==◌, List, [], ◌∷◌, ◌++◌, Option, Some, None, if◌then◌else◌, option_to_list, map}
 use Rattle.std.specs.List.{list_any}
 use Rattle.std.specs.FinMap.{get}
 use Rattle.trace_types.specs.declared.slots.Slot.{Slot}
@@ -92,8 +92,7 @@ element_of m field.Null = Null
 element_of m field.Me = Me
 
 abbrev pub elements_of : State → List Field → List Element
-elements_of m [] = []
-elements_of m (f ∷ fs) = element_of m f ∷ elements_of m fs
+elements_of m fs = map (element_of m) fs
 
 -- the object that a slot names, strongly or weakly
 abbrev pub named_by : Slot → Option ℕ
@@ -127,10 +126,6 @@ view_at m a = record {
 abbrev pub view_of : State → Kind → View
 view_of m k = view_at m (members k)
 
-abbrev pub listed : Option ℕ → List ℕ
-listed None = []
-listed (Some h) = h ∷ []
-
 -- the handles among the elements of `fields`
 abbrev pub held_fields : List Field → List ℕ
 held_fields [] = []
@@ -142,7 +137,7 @@ held_fields (field.Me ∷ fs) = held_fields fs
 -- one handle twice
 abbrev pub apart_handles : Kind → List ℕ
 apart_handles (kind.PtrEq a b) = []
-apart_handles k = let a = members k in listed a.first ++ listed a.second ++ held_fields a.fields
+apart_handles k = let a = members k in option_to_list a.first ++ option_to_list a.second ++ held_fields a.fields
 
 -- the first handle that repeats an earlier one
 abbrev pub repeated_in : List ℕ → List ℕ → Option ℕ

@@ -1,5 +1,5 @@
 //! One operation carried out on plain lists.
-ghost use Rattle.std.specs.Prelude.{◌≡◌, [], None, IfOk, OnOk};
+ghost use Rattle.std.specs.Prelude.{◌≡◌, [], None, IfOk, OnOk, option_to_list};
 ghost use Rattle.std.specs.FinMap as map;
 ghost use Rattle.ownership_model.specs.State.{IsSound};
 ghost use Rattle.ownership_model.specs.Bounds.{IsBounded, PlanFits};
@@ -84,7 +84,7 @@ impl PlainState {
 }
 
 fn named_event(alloc: Global, event: Option<Event>) -> Result<Vec<Event>, AllocError>
-    ensures { IfOk result (λ v. v.items ≡ Step.named_event event) }
+    ensures { IfOk result (λ v. v.items ≡ option_to_list event) }
 {
     match event {
         None => Ok(Vec::new(alloc)),
