@@ -19,5 +19,6 @@ abbrev pub answer_of : Result (List Operation) LineFault → Due
 answer_of (Ok ops) = record { text = report_of_replay ops; is_fault = false }
 answer_of (Err fault) = record { text = fault_text fault ++ 10 ∷ []; is_fault = true }
 
+-- what the command writes for an input that is not too long
 unfoldable pub replay_due : List ℕ → Due
 replay_due input = answer_of (read_trace input)

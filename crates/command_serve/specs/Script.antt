@@ -42,6 +42,7 @@ abbrev pub script_answer : Result Script LineFault → Due
 script_answer (Ok script) = record { text = script_text script; is_fault = false }
 script_answer (Err fault) = record { text = fault_text fault ++ 10 ∷ []; is_fault = true }
 
+-- what the command writes for an input that is not too long
 unfoldable pub script_due : List ℕ → Due
 script_due input = script_answer (read_script false input)
 
@@ -59,5 +60,6 @@ abbrev pub whatif_answer : Result Script LineFault → Due
 whatif_answer (Ok script) = whatif_edited (edited_by script.trace (only_batch script.requests))
 whatif_answer (Err fault) = record { text = fault_text fault ++ 10 ∷ []; is_fault = true }
 
+-- what the command writes for an input that is not too long
 unfoldable pub whatif_due : List ℕ → Due
 whatif_due input = whatif_answer (read_script true input)

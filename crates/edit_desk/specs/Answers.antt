@@ -29,11 +29,13 @@ abbrev pub settled : ℕ → Result (List Operation) RunFault → Reply
 settled version (Ok ops) = Accepted (version + 1)
 settled version (Err fault) = Refused fault
 
+-- the reply to a request
 abbrev pub reply_to : Standing → Request → Reply
 reply_to s r =
     if nat_le max_entries (length s.history) then HistoryFull
     else (if r.base == s.version then settled s.version (edited_by s.trace r.batch) else Stale s.version)
 
+-- the edited trace, or the one that stands where the edits are refused
 abbrev pub edited_or : List Operation → Result (List Operation) RunFault → List Operation
 edited_or trace (Ok ops) = ops
 edited_or trace (Err fault) = trace
@@ -45,6 +47,7 @@ after_reply s e (Stale version) = record s { history = s.history ++ e ∷ [] }
 after_reply s e (Refused fault) = record s { history = s.history ++ e ∷ [] }
 after_reply s e HistoryFull = s
 
+-- what stands after a request
 abbrev pub after : Standing → ℕ → Request → Standing
 after s session r = let e : Entry = record { session = session; request = r; reply = reply_to s r } in after_reply s e (reply_to s r)
 

@@ -23,6 +23,7 @@ edit_of fault.EmptyBatch = 0
 edit_of fault.TooManyEdits = 0
 edit_of fault.Memory = 0
 
+-- the line of a reply, without its newline
 abbrev pub reply_text : Reply → List ℕ
 reply_text (Accepted version) = codes "accepted " ++ decimal version
 reply_text (Stale version) = codes "stale " ++ decimal version

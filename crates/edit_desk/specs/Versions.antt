@@ -56,11 +56,11 @@ pub record IsSettled (v : Version) (r : Request) (reply : Reply) (next : Version
   pub trace : next.run.trace ≡ next_trace v r reply
   pub version : next.version ≡ next_version v.version reply
 
--- edits of a trace whose run has these checkpoints replay at most what they have to, from one count to another
+-- where the edits are made, the meter rises from one count to the other by at most the bound of the edit
 unfoldable pub ReplaysWithin : List Operation → List ℕ → List Edit → ℕ → ℕ → Type 0
 ReplaysWithin trace marks batch before after = (ops : List Operation) → edited_by trace batch ≡ Ok ops → IsBoundedFrom trace ops marks before after
 
--- and at least those that no old stretch covers
+-- and by at least the operations that no old stretch covers
 unfoldable pub StepsAtLeast : List Operation → List ℕ → List Edit → ℕ → ℕ → Type 0
 StepsAtLeast trace marks batch before after = (ops : List Operation) → edited_by trace batch ≡ Ok ops → AreSteppedFrom trace ops marks before after
 

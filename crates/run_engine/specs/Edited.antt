@@ -26,7 +26,7 @@ abbrev pub changed : ℕ → List Operation → ℕ → Operation → Option ℕ
 changed k ops id op None = Err (NoSuchOp k)
 changed k ops id op (Some i) = if op.id == id then Ok (slice_set ops i op) else (if is_taken op.id ops then Err (IdTaken k) else Ok (slice_set ops i op))
 
--- the edit with the index k
+-- the operations after the edit with the index k, or its refusal
 abbrev pub edited_one : ℕ → List Operation → Edit → Result (List Operation) RunFault
 edited_one k ops (Insert after op) = inserted k ops op (place_after after ops)
 edited_one k ops (Remove id) = removed k ops (place_of id ops)

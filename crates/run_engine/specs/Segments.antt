@@ -16,11 +16,12 @@ abbrev pub trace_of : List Stretch → List Operation
 trace_of [] = []
 trace_of (s ∷ segments) = ops_of s ++ trace_of segments
 
--- the positions of the checkpoints, where the first segment begins at `at`
+-- the position, where a checkpoint is kept there
 abbrev pub mark_here : ℕ → Option State → List ℕ
 mark_here at None = []
 mark_here at (Some m) = at ∷ []
 
+-- the positions of the checkpoints, where the first segment begins at `at`
 abbrev pub marks_from : ℕ → List Stretch → List ℕ
 marks_from at [] = []
 marks_from at (s ∷ segments) = mark_here at s.mark ++ marks_from (at + length (ops_of s)) segments

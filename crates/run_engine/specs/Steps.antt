@@ -27,7 +27,7 @@ pub record IsCovered (old ops : List Operation) (marks : List ℕ) (p : ℕ) : T
   pub before_end : p < at + len
   pub stretch : IsOldStretch old marks (end_from nothing_held (take at ops)) (drop at ops) len
 
--- the numbers rise, from the first one on and below the second
+-- the positions rise, from `from` on and below `to`
 abbrev pub AreRising : ℕ → ℕ → List ℕ → Type 0
 AreRising from to [] = Unit {0}
 AreRising from to (p ∷ ps) = (from ≤ p) × (p < to) × AreRising (p + 1) to ps
