@@ -15,17 +15,17 @@ cause_text fault.TooManyEdits = codes "TooManyEdits"
 cause_text fault.Memory = codes "Memory"
 
 -- the index of the edit that is refused, from 0; 0 where it is the batch
-abbrev pub edit_of : RunFault → ℕ
-edit_of (fault.NoSuchOp edit) = edit
-edit_of (fault.IdTaken edit) = edit
-edit_of (fault.TooMany edit) = edit
-edit_of fault.EmptyBatch = 0
-edit_of fault.TooManyEdits = 0
-edit_of fault.Memory = 0
+abbrev pub edit_index : RunFault → ℕ
+edit_index (fault.NoSuchOp edit) = edit
+edit_index (fault.IdTaken edit) = edit
+edit_index (fault.TooMany edit) = edit
+edit_index fault.EmptyBatch = 0
+edit_index fault.TooManyEdits = 0
+edit_index fault.Memory = 0
 
 -- the line of a reply, without its newline
 abbrev pub reply_text : Reply → List ℕ
 reply_text (Accepted version) = codes "accepted " ++ decimal version
 reply_text (Stale version) = codes "stale " ++ decimal version
-reply_text (Refused why) = codes "refused " ++ cause_text why ++ codes " " ++ decimal (edit_of why)
+reply_text (Refused why) = codes "refused " ++ cause_text why ++ codes " " ++ decimal (edit_index why)
 reply_text HistoryFull = codes "full"

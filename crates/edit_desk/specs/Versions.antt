@@ -3,7 +3,7 @@ use Rattle.std.specs.Prelude.{◌≡◌, ◌⊎◌, ℕ, ◌==◌, List, Ok, if�
 use Rattle.trace_types.specs.Operation.{Operation}
 use Rattle.trace_types.specs.declared.edits.Edit.{Edit}
 use Rattle.run_engine.specs.RunView.{RunView}
-use Rattle.run_engine.specs.Bounds.{IsBoundedFrom}
+use Rattle.run_engine.specs.Bounds.{StepsAtMostFrom}
 use Rattle.run_engine.specs.NewMarks.{AreMarksAfter}
 use Rattle.run_engine.specs.Steps.{AreSteppedFrom}
 use Rattle.edit_desk.specs.declared.entries.Entry.{Entry}
@@ -58,7 +58,7 @@ pub record IsSettled (v : Version) (r : Request) (reply : Reply) (next : Version
 
 -- where the edits are made, the meter rises from one count to the other by at most the bound of the edit
 unfoldable pub ReplaysWithin : List Operation → List ℕ → List Edit → ℕ → ℕ → Type 0
-ReplaysWithin trace marks batch before after = (ops : List Operation) → edited_by trace batch ≡ Ok ops → IsBoundedFrom trace ops marks before after
+ReplaysWithin trace marks batch before after = (ops : List Operation) → edited_by trace batch ≡ Ok ops → StepsAtMostFrom trace ops marks before after
 
 -- and by at least the operations that no old stretch covers
 unfoldable pub StepsAtLeast : List Operation → List ℕ → List Edit → ℕ → ℕ → Type 0

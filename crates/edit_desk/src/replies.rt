@@ -1,6 +1,6 @@
 //! What a desk replies to a request.
 ghost use Rattle.std.specs.Prelude.{◌≡◌, ◌++◌, ◌∷◌, [], Some, IfOk, OnOk, string_bytes};
-ghost use Rattle.edit_desk.specs.ReplyText.{cause_text, edit_of as edit_index, reply_text};
+ghost use Rattle.edit_desk.specs.ReplyText.{cause_text, edit_index, reply_text};
 
 use run_engine::faults::RunFault;
 use std::alloc::AllocError;

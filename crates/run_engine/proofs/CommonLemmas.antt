@@ -6,7 +6,7 @@ use mathlib.Core.Logic.{⊎_elim}
 use Rattle.trace_types.specs.Operation.{Operation}
 use Rattle.run_engine.specs.Common.{ShareEnd, IsHead, IsTail, AreShared}
 use Rattle.run_engine.specs.Marks.{IsGreatest}
-use Rattle.run_engine.specs.Bounds.{IsBoundedFrom}
+use Rattle.run_engine.specs.Bounds.{StepsAtMostFrom}
 use Rattle.run_engine.specs.Steps.{AreSteppedFrom}
 use Rattle.run_engine.proofs.ListingLemmas.{around, take-shorter}
 
@@ -85,9 +85,9 @@ from-greatest P old ops marks head tail at shared greatest h other last r both i
     subst (λ t. P t r) te (subst (λ x. P tail x) re h)
 
 -- the bound by other names
-pub bound-as : (old old_is ops : List Operation) (marks marks_are : List ℕ) (before after : ℕ) → old ≡ old_is → marks ≡ marks_are → IsBoundedFrom old ops marks before after → IsBoundedFrom old_is ops marks_are before after
+pub bound-as : (old old_is ops : List Operation) (marks marks_are : List ℕ) (before after : ℕ) → old ≡ old_is → marks ≡ marks_are → StepsAtMostFrom old ops marks before after → StepsAtMostFrom old_is ops marks_are before after
 bound-as old old_is ops marks marks_are before after e f h =
-    subst (λ o. IsBoundedFrom o ops marks_are before after) e (subst (λ ms. IsBoundedFrom old ops ms before after) f h)
+    subst (λ o. StepsAtMostFrom o ops marks_are before after) e (subst (λ ms. StepsAtMostFrom old ops ms before after) f h)
 
 -- what is stepped, by other names
 pub stepped-as : (old old_is ops : List Operation) (marks marks_are : List ℕ) (before after : ℕ) → old ≡ old_is → marks ≡ marks_are → AreSteppedFrom old ops marks before after → AreSteppedFrom old_is ops marks_are before after
@@ -95,7 +95,7 @@ stepped-as old old_is ops marks marks_are before after e f h =
     subst (λ o. AreSteppedFrom o ops marks_are before after) e (subst (λ ms. AreSteppedFrom old ops ms before after) f h)
 
 -- nothing was stepped
-pub bounded-none : (old ops : List Operation) (marks : List ℕ) (before : ℕ) → IsBoundedFrom old ops marks before before
+pub bounded-none : (old ops : List Operation) (marks : List ℕ) (before : ℕ) → StepsAtMostFrom old ops marks before before
 bounded-none old ops marks before head tail r both is =
     let within = both.tail_is.within in
     let early = is.early in

@@ -7,11 +7,11 @@ use Rattle.std.proofs.lemmas.List.Elements.{Contains-append_cases}
 use Rattle.std.proofs.Math.Seq.{take-length}
 use Rattle.ownership_model.specs.State.{State, nothing_held}
 use Rattle.trace_types.specs.Operation.{Operation}
-use Rattle.run_engine.specs.Stretch.{Stretch}
+use Rattle.run_engine.specs.SegmentView.{SegmentView}
 use Rattle.ownership_model.specs.Step.{end_from}
 use Rattle.run_engine.specs.Segments.{trace_of, mark_here, marks_from, AreReplayFrom, AreFull, BeginsMarked, IsRun, IsReached, all_marks}
 use Rattle.run_engine.specs.Common.{ShareEnd}
-use Rattle.run_engine.specs.Bounds.{AgreesAt, IsBounded}
+use Rattle.run_engine.specs.Bounds.{AgreesAt, StepsAtMost}
 use Rattle.ownership_model.proofs.ReplayLemmas.{end_from-append}
 use Rattle.run_engine.proofs.SegmentLemmas.{trace_of-append, AreReplayFrom-append, AreReplayFrom-back, length-trace_of-next}
 use Rattle.run_engine.proofs.ListingLemmas.{around}
@@ -22,18 +22,18 @@ pub ShareEnd-length : (old ops : List Operation) (a b : ℕ) → ShareEnd old op
 ShareEnd-length old ops a b h = sym (length-drop a old) ∙ ap length h.same ∙ length-drop b ops
 
 -- a loop over the old segments: it stands at the one at i, which begins at `at`; the replay of the edited trace stands at x
-pub record IsBeside (old : List Stretch) (ops : List Operation) (a b r before i at x : ℕ) (segments : List Stretch) (heap : State) (count : ℕ) : Type 0 where
+pub record IsBeside (old : List SegmentView) (ops : List Operation) (a b r before i at x : ℕ) (segments : List SegmentView) (heap : State) (count : ℕ) : Type 0 where
   pub place : length (trace_of (take i old)) ≡ at
   pub front : IsReached ops x segments heap
   pub order : x ≤ at - a + b
   pub rise : count + r ≤ before + x
   pub later : (p : ℕ) → Contains (all_marks old) p → a ≤ p → AgreesAt (trace_of old) ops a b p → Contains (marks_from at (drop i old) ++ length (trace_of old) ∷ []) p
 
-pub IsBeside-none : (old : List Stretch) (ops : List Operation) (a b r before : ℕ) (segments : List Stretch) (heap : State)
+pub IsBeside-none : (old : List SegmentView) (ops : List Operation) (a b r before : ℕ) (segments : List SegmentView) (heap : State)
     → IsReached ops r segments heap → r ≤ b → IsBeside old ops a b r before 0 0 r segments heap before
 IsBeside-none old ops a b r before segments heap h le = record { place = refl; front = h; order = omega arith; rise = omega arith; later = λ p h k l. h }
 
-pub IsBeside-next : (old : List Stretch) (ops : List Operation) (a b r before i at x : ℕ) (segments : List Stretch) (heap : State) (count y : ℕ) (next : List Stretch) (then : State) (counted : ℕ) (s : Stretch)
+pub IsBeside-next : (old : List SegmentView) (ops : List Operation) (a b r before i at x : ℕ) (segments : List SegmentView) (heap : State) (count y : ℕ) (next : List SegmentView) (then : State) (counted : ℕ) (s : SegmentView)
     → IsBeside old ops a b r before i at x segments heap count → i < length old → s ≡ get_or old i s
     → IsReached ops y next then → y ≤ at - a + b → counted + r ≤ before + y
     → (is_some s.mark ≡ true → a ≤ at → AgreesAt (trace_of old) ops a b at → ⊥)
@@ -57,7 +57,7 @@ IsBeside-next old ops a b r before i at x segments heap count y next then counte
     }
 
 -- no checkpoint that agrees stands before the loop
-pub least-agreeing : (old : List Stretch) (ops : List Operation) (a b r before i at x : ℕ) (segments : List Stretch) (heap : State) (count : ℕ)
+pub least-agreeing : (old : List SegmentView) (ops : List Operation) (a b r before i at x : ℕ) (segments : List SegmentView) (heap : State) (count : ℕ)
     → IsBeside old ops a b r before i at x segments heap count → (p : ℕ) → Contains (all_marks old) p → a ≤ p → AgreesAt (trace_of old) ops a b p → at ≤ p
 least-agreeing old ops a b r before i at x segments heap count h p mark le agrees =
     let n : ℕ = length (trace_of old) in
@@ -65,9 +65,9 @@ least-agreeing old ops a b r before i at x segments heap count h p mark le agree
     ⊎_elim (λ k. marks_from-least at (drop i old) p k) (λ k. let e : n ≡ p = Contains-one n p k in omega arith) (Contains-append_cases (marks_from at (drop i old)) (n ∷ []) p (h.later p mark le agrees))
 
 -- no more is stepped than the bound allows
-pub bounded : (old : List Stretch) (ops : List Operation) (a b r before i at x : ℕ) (segments : List Stretch) (heap : State) (count counted : ℕ)
+pub bounded : (old : List SegmentView) (ops : List Operation) (a b r before i at x : ℕ) (segments : List SegmentView) (heap : State) (count counted : ℕ)
     → IsBeside old ops a b r before i at x segments heap count → ShareEnd (trace_of old) ops a b → a ≤ at → counted + r ≤ before + (at - a + b)
-    → IsBounded (trace_of old) ops a b (all_marks old) r before counted
+    → StepsAtMost (trace_of old) ops a b (all_marks old) r before counted
 bounded old ops a b r before i at x segments heap count counted h shared behind rise =
     let n : ℕ = length (trace_of old) in
     let fits : at ≤ n = place-within old i at h.place in
@@ -77,16 +77,16 @@ bounded old ops a b r before i at x segments heap count counted h shared behind 
       stop = λ p mark le agrees. let least : at ≤ p = least-agreeing old ops a b r before i at x segments heap count h p mark le agrees in omega arith;
     }
 
-BeginsMarked-joined : (a b : List Stretch) → BeginsMarked a → BeginsMarked b → BeginsMarked (a ++ b)
+BeginsMarked-joined : (a b : List SegmentView) → BeginsMarked a → BeginsMarked b → BeginsMarked (a ++ b)
 BeginsMarked-joined [] b h k = k
 BeginsMarked-joined (s ∷ a) b h k = h
 
 -- where the heaps are the same the old segments go on
-pub record IsSpliced (ops : List Operation) (segments : List Stretch) (end : State) : Type 0 where
+pub record IsSpliced (ops : List Operation) (segments : List SegmentView) (end : State) : Type 0 where
   pub run : IsRun segments end
   pub trace : trace_of segments ≡ ops
 
-pub IsSpliced-stop : (old : List Stretch) (end : State) (ops : List Operation) (a b i at : ℕ) (s : Stretch) (segments : List Stretch) (heap : State)
+pub IsSpliced-stop : (old : List SegmentView) (end : State) (ops : List Operation) (a b i at : ℕ) (s : SegmentView) (segments : List SegmentView) (heap : State)
     → IsRun old end → ShareEnd (trace_of old) ops a b → i < length old → s ≡ get_or old i s → is_some s.mark ≡ true → length (trace_of (take i old)) ≡ at → a ≤ at
     → IsReached ops (at - a + b) segments heap → heap ≡ end_from nothing_held (trace_of (take i old))
     → IsSpliced ops (segments ++ drop i old) end
@@ -112,7 +112,7 @@ IsSpliced-stop old end ops a b i at s segments heap run shared lt is marked plac
       trace = trace;
     }
 
-pub IsSpliced-end : (ops : List Operation) (x : ℕ) (segments : List Stretch) (heap : State) → IsReached ops x segments heap → x ≡ length ops → IsSpliced ops segments heap
+pub IsSpliced-end : (ops : List Operation) (x : ℕ) (segments : List SegmentView) (heap : State) → IsReached ops x segments heap → x ≡ length ops → IsSpliced ops segments heap
 IsSpliced-end ops x segments heap h e =
     let t : trace_of segments ≡ ops = h.trace ∙ ap (λ n. take n ops) e ∙ take-length ops in
     record {

@@ -7,7 +7,7 @@ use Rattle.std.proofs.lemmas.List.{drop_all}
 use Rattle.std.proofs.lemmas.List.Elements.{filter-append, Contains-append_cases, Contains-append_left, Contains-append_right}
 use Rattle.ownership_model.specs.State.{State, nothing_held}
 use Rattle.ownership_model.specs.Step.{end_from}
-use Rattle.run_engine.specs.Stretch.{Stretch}
+use Rattle.run_engine.specs.SegmentView.{SegmentView}
 use Rattle.run_engine.specs.Segments.{ops_of, trace_of, mark_here, marks_from, all_marks, AreFull, BeginsMarked, IsKept, IsInner, IsNoMark, has_mark, without, without_mark}
 use Rattle.run_engine.proofs.SegmentLemmas.{trace_of-without_mark, AreReplayFrom-without_mark}
 use Rattle.run_engine.proofs.ListingLemmas.{around}
@@ -18,7 +18,7 @@ without-here : (p at : ℕ) (o : Option State) → at ≢ p → without p (mark_
 without-here p at None ne = refl
 without-here p at (Some m) ne = ap (λ b. cond (not b) (at ∷ []) []) (ne_eqb at p ne)
 
-without-later : (p at : ℕ) (segments : List Stretch) → p < at → without p (marks_from at segments) ≡ marks_from at segments
+without-later : (p at : ℕ) (segments : List SegmentView) → p < at → without p (marks_from at segments) ≡ marks_from at segments
 without-later p at [] lt = refl
 without-later p at (s ∷ segments) lt =
     filter-append (λ q. not (nat_eq q p)) (mark_here at s.mark) (marks_from (at + length (ops_of s)) segments)
@@ -29,7 +29,7 @@ without-own : (p : ℕ) (o : Option State) → without p (mark_here p o) ≡ []
 without-own p None = refl
 without-own p (Some m) = ap (λ b. cond (not b) (p ∷ []) []) (eq-eqb p p refl)
 
-pub marks-without : (at : ℕ) (segments : List Stretch) (i : ℕ) → AreFull segments → i < length segments
+pub marks-without : (at : ℕ) (segments : List SegmentView) (i : ℕ) → AreFull segments → i < length segments
     → marks_from at (without_mark segments i) ≡ without (at + length (trace_of (take i segments))) (marks_from at segments)
 marks-without at [] i full lt = absurd (omega arith)
 marks-without at (s ∷ segments) zero full lt =
@@ -53,7 +53,7 @@ contains-own : (p : ℕ) (o : Option State) → is_some o ≡ true → Contains 
 contains-own p None h = cc
 contains-own p (Some m) h = (0, omega arith, refl)
 
-pub has_mark-contains : (at : ℕ) (segments : List Stretch) (i : ℕ) → has_mark segments i ≡ true → Contains (marks_from at segments) (at + length (trace_of (take i segments)))
+pub has_mark-contains : (at : ℕ) (segments : List SegmentView) (i : ℕ) → has_mark segments i ≡ true → Contains (marks_from at segments) (at + length (trace_of (take i segments)))
 has_mark-contains at [] i h = cc
 has_mark-contains at (s ∷ segments) zero h =
     let here : at + 0 ≡ at = omega arith in
@@ -63,7 +63,7 @@ has_mark-contains at (s ∷ segments) (suc i) h =
     let place : at + length (ops_of s) + length (trace_of (take i segments)) ≡ at + length (ops_of s ++ trace_of (take i segments)) = omega arith in
     Contains-append_right (mark_here at s.mark) (marks_from (at + length (ops_of s)) segments) _ (subst (λ p. Contains (marks_from (at + length (ops_of s)) segments) p) place (has_mark-contains (at + length (ops_of s)) segments i h))
 
-pub contains-has_mark : (at : ℕ) (segments : List Stretch) (i : ℕ) → AreFull segments → i < length segments → Contains (marks_from at segments) (at + length (trace_of (take i segments))) → has_mark segments i ≡ true
+pub contains-has_mark : (at : ℕ) (segments : List SegmentView) (i : ℕ) → AreFull segments → i < length segments → Contains (marks_from at segments) (at + length (trace_of (take i segments))) → has_mark segments i ≡ true
 contains-has_mark at [] i full lt h = absurd (omega arith)
 contains-has_mark at (s ∷ segments) zero full lt h =
     let some = full.0 in
@@ -79,25 +79,25 @@ contains-has_mark at (s ∷ segments) (suc i) full lt h =
     (Contains-append_cases (mark_here at s.mark) (marks_from (at + length (ops_of s)) segments) p h)
 
 -- a segment inside begins inside
-pub place-inner : (segments : List Stretch) (i : ℕ) → AreFull segments → i < length segments → length (trace_of (take i segments)) < length (trace_of segments)
+pub place-inner : (segments : List SegmentView) (i : ℕ) → AreFull segments → i < length segments → length (trace_of (take i segments)) < length (trace_of segments)
 place-inner [] i full lt = absurd (omega arith)
 place-inner (s ∷ segments) zero full lt = let some = full.0 in omega (arith, length-append (ops_of s) (trace_of segments))
 place-inner (s ∷ segments) (suc i) full lt =
     let h = place-inner segments i full.1 (omega arith) in
     omega (arith, length-append (ops_of s) (trace_of segments), length-append (ops_of s) (trace_of (take i segments)))
 
-pub place-behind : (segments : List Stretch) (i : ℕ) → AreFull segments → i < length segments → 0 < i → 0 < length (trace_of (take i segments))
+pub place-behind : (segments : List SegmentView) (i : ℕ) → AreFull segments → i < length segments → 0 < i → 0 < length (trace_of (take i segments))
 place-behind [] i full lt pos = absurd (omega arith)
 place-behind (s ∷ segments) zero full lt pos = absurd (omega arith)
 place-behind (s ∷ segments) (suc i) full lt pos = let some = full.0 in omega (arith, length-append (ops_of s) (trace_of (take i segments)))
 
-pub without_mark-none : (segments : List Stretch) (i : ℕ) → has_mark segments i ≡ false → without_mark segments i ≡ segments
+pub without_mark-none : (segments : List SegmentView) (i : ℕ) → has_mark segments i ≡ false → without_mark segments i ≡ segments
 without_mark-none [] i h = refl
 without_mark-none (s ∷ segments) zero h = ap (λ o. record s { mark = o } ∷ segments) (sym (is_some-none s.mark h))
 without_mark-none (s ∷ segments) (suc i) h = ap (λ ss. s ∷ ss) (without_mark-none segments i h)
 
 -- what `give_up` makes of the segment i, which begins at p
-pub all_marks-without : (segments : List Stretch) (i p : ℕ) → AreFull segments → i < length segments → length (trace_of (take i segments)) ≡ p → all_marks (without_mark segments i) ≡ without p (all_marks segments)
+pub all_marks-without : (segments : List SegmentView) (i p : ℕ) → AreFull segments → i < length segments → length (trace_of (take i segments)) ≡ p → all_marks (without_mark segments i) ≡ without p (all_marks segments)
 all_marks-without segments i p full lt e =
     let n : ℕ = length (trace_of segments) in
     let inner = place-inner segments i full lt in
@@ -107,7 +107,7 @@ all_marks-without segments i p full lt e =
     ∙ ap (λ ps. without p (marks_from 0 segments) ++ ps) (sym (ap (λ b. cond (not b) (n ∷ []) []) (ne_eqb n p (λ x. omega arith))))
     ∙ sym (filter-append (λ q. not (nat_eq q p)) (marks_from 0 segments) (n ∷ []))
 
-pub IsInner-answer : (segments : List Stretch) (i p : ℕ) → AreFull segments → i < length segments → 0 < i → length (trace_of (take i segments)) ≡ p → (has_mark segments i ≡ true) ↔ IsInner (all_marks segments) (length (trace_of segments)) p
+pub IsInner-answer : (segments : List SegmentView) (i p : ℕ) → AreFull segments → i < length segments → 0 < i → length (trace_of (take i segments)) ≡ p → (has_mark segments i ≡ true) ↔ IsInner (all_marks segments) (length (trace_of segments)) p
 IsInner-answer segments i p full lt pos e =
     let inner = place-inner segments i full lt in
     let behind = place-behind segments i full lt pos in
@@ -117,42 +117,42 @@ IsInner-answer segments i p full lt pos e =
           (⊎_elim (λ x. x) (λ x. let b = h.before in let c : length (trace_of segments) ≡ p = Contains-one _ p x in absurd (omega arith)) (Contains-append_cases (marks_from 0 segments) (length (trace_of segments) ∷ []) p h.mark))),
     )
 
-pub has_mark-at : (segments : List Stretch) (i : ℕ) (s : Stretch) → i < length segments → s ≡ get_or segments i s → has_mark segments i ≡ is_some s.mark
+pub has_mark-at : (segments : List SegmentView) (i : ℕ) (s : SegmentView) → i < length segments → s ≡ get_or segments i s → has_mark segments i ≡ is_some s.mark
 has_mark-at [] i s lt is = absurd (omega arith)
-has_mark-at (t ∷ segments) zero s lt is = ap (λ (u : Stretch). is_some u.mark) (sym is)
+has_mark-at (t ∷ segments) zero s lt is = ap (λ (u : SegmentView). is_some u.mark) (sym is)
 has_mark-at (t ∷ segments) (suc i) s lt is = has_mark-at segments i s (omega arith) is
 
 -- a checkpoint at p stands behind the segment i, which begins elsewhere
-pub mark-later : (segments : List Stretch) (i at p : ℕ) (s : Stretch) → i < length segments → s ≡ get_or segments i s → at ≢ p
+pub mark-later : (segments : List SegmentView) (i at p : ℕ) (s : SegmentView) → i < length segments → s ≡ get_or segments i s → at ≢ p
     → Contains (marks_from at (drop i segments)) p → Contains (marks_from (at + length s.ops) (drop (i + 1) segments)) p
 mark-later segments i at p s lt is ne h = ⊎_elim (λ x. absurd (ne (sym (mark_here-place at p s.mark x)))) (λ x. x)
     (Contains-append_cases (mark_here at s.mark) (marks_from (at + length s.ops) (drop (i + 1) segments)) p (subst (λ ss. Contains (marks_from at ss) p) (around segments i s lt is) h))
 
-pub no-mark-past : (segments : List Stretch) (i at p : ℕ) → p < at → Contains (marks_from at (drop i segments)) p → ⊥
+pub no-mark-past : (segments : List SegmentView) (i at p : ℕ) → p < at → Contains (marks_from at (drop i segments)) p → ⊥
 no-mark-past segments i at p lt h = let le : at ≤ p = marks_from-least at (drop i segments) p h in omega arith
 
-pub no-mark-end : (segments : List Stretch) (i at p : ℕ) → length segments ≤ i → Contains (marks_from at (drop i segments)) p → ⊥
+pub no-mark-end : (segments : List SegmentView) (i at p : ℕ) → length segments ≤ i → Contains (marks_from at (drop i segments)) p → ⊥
 no-mark-end segments i at p le h = Contains-none p (subst (λ ss. Contains (marks_from at ss) p) (drop_all i segments le) h)
 
-pub IsInner-none : (segments : List Stretch) (p : ℕ) → IsNoMark segments p → IsInner (all_marks segments) (length (trace_of segments)) p → ⊥
+pub IsInner-none : (segments : List SegmentView) (p : ℕ) → IsNoMark segments p → IsInner (all_marks segments) (length (trace_of segments)) p → ⊥
 IsInner-none segments p away h = away (⊎_elim (λ x. x) (λ x. let b = h.before in let c : length (trace_of segments) ≡ p = Contains-one _ p x in absurd (omega arith)) (Contains-append_cases (marks_from 0 segments) (length (trace_of segments) ∷ []) p h.mark))
 
-pub given-up : (segments : List Stretch) (i p : ℕ) (answer : Bool) → AreFull segments → i < length segments → length (trace_of (take i segments)) ≡ p → answer ≡ has_mark segments i
+pub given-up : (segments : List SegmentView) (i p : ℕ) (answer : Bool) → AreFull segments → i < length segments → length (trace_of (take i segments)) ≡ p → answer ≡ has_mark segments i
     → all_marks (without_mark segments i) ≡ (if answer then without p (all_marks segments) else all_marks segments)
 given-up segments i p true full lt e is = all_marks-without segments i p full lt e
 given-up segments i p false full lt e is = ap all_marks (without_mark-none segments i (sym is))
 
-pub AreFull-without_mark : (segments : List Stretch) (i : ℕ) → AreFull segments → AreFull (without_mark segments i)
+pub AreFull-without_mark : (segments : List SegmentView) (i : ℕ) → AreFull segments → AreFull (without_mark segments i)
 AreFull-without_mark [] i h = tt
 AreFull-without_mark (s ∷ segments) zero h = h
 AreFull-without_mark (s ∷ segments) (suc i) h = (h.0, AreFull-without_mark segments i h.1)
 
-BeginsMarked-without_mark : (segments : List Stretch) (i : ℕ) → 0 < i → BeginsMarked segments → BeginsMarked (without_mark segments i)
+BeginsMarked-without_mark : (segments : List SegmentView) (i : ℕ) → 0 < i → BeginsMarked segments → BeginsMarked (without_mark segments i)
 BeginsMarked-without_mark [] i lt h = tt
 BeginsMarked-without_mark (s ∷ segments) zero lt h = absurd (omega arith)
 BeginsMarked-without_mark (s ∷ segments) (suc i) lt h = h
 
-pub IsKept-without_mark : (segments : List Stretch) (end : State) (i : ℕ) → 0 < i → IsKept segments end → IsKept (without_mark segments i) end
+pub IsKept-without_mark : (segments : List SegmentView) (end : State) (i : ℕ) → 0 < i → IsKept segments end → IsKept (without_mark segments i) end
 IsKept-without_mark segments end i lt h =
     let t = trace_of-without_mark segments i in
     record {

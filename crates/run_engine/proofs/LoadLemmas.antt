@@ -8,7 +8,7 @@ use Rattle.std.proofs.lemmas.List.{length-take, length-drop}
 use Rattle.ownership_model.specs.State.{State, nothing_held}
 use Rattle.trace_types.specs.Operation.{Operation}
 use Rattle.op_step.specs.Meter.{raised}
-use Rattle.run_engine.specs.Stretch.{Stretch}
+use Rattle.run_engine.specs.SegmentView.{SegmentView}
 use Rattle.run_engine.specs.Segments.{trace_of, marks_from, IsReached, IsPiece}
 use Rattle.run_engine.specs.Part.{part}
 use Rattle.run_engine.specs.Marks.{multiples_below, load_marks}
@@ -43,13 +43,13 @@ multiples_below-next at (suc n) z pos small =
     ∙ ap (λ ps. multiples_below at ++ ps) (ap (λ b. cond b (at ∷ filter test (range_with_len (at + 1) n)) (filter test (range_with_len (at + 1) n))) (eq-eqb _ _ z) ∙ ap (λ ps. at ∷ ps) none)
 
 -- a loaded run as far as the operation `at`
-pub record IsLoaded (ops : List Operation) (before at : ℕ) (segments : List Stretch) (end : State) (count : ℕ) : Type 0 where
+pub record IsLoaded (ops : List Operation) (before at : ℕ) (segments : List SegmentView) (end : State) (count : ℕ) : Type 0 where
   pub front : IsReached ops at segments end
   pub aligned : at < length ops → at % 64 ≡ 0
   pub marks : marks_from 0 segments ≡ multiples_below at
   pub count_is : count ≡ raised before at
 
-pub IsLoaded-next : (ops : List Operation) (before at to len count : ℕ) (segments more : List Stretch) (heap end : State)
+pub IsLoaded-next : (ops : List Operation) (before at to len count : ℕ) (segments more : List SegmentView) (heap end : State)
     → IsLoaded ops before at segments heap count → at < length ops → to ≡ at + min (length ops - at) 64 → IsPiece heap (part ops at to) more end len → len ≡ length (part ops at to)
     → IsLoaded ops before (at + len) (segments ++ more) end (raised count len)
 IsLoaded-next ops before at to len count segments more heap end h lt there piece whole =
@@ -71,6 +71,6 @@ IsLoaded-next ops before at to len count segments more heap end h lt there piece
 pub IsLoaded-none : (ops : List Operation) (before : ℕ) → IsLoaded ops before 0 [] nothing_held before
 IsLoaded-none ops before = record { front = record { within = omega arith; trace = refl; replay = tt; full = tt; begins = tt; state = refl }; aligned = λ _. refl; marks = refl; count_is = omega arith }
 
-pub load-marks : (ops : List Operation) (at : ℕ) (segments : List Stretch) → at ≡ length ops → trace_of segments ≡ ops → marks_from 0 segments ≡ multiples_below at
+pub load-marks : (ops : List Operation) (at : ℕ) (segments : List SegmentView) → at ≡ length ops → trace_of segments ≡ ops → marks_from 0 segments ≡ multiples_below at
     → marks_from 0 segments ++ length (trace_of segments) ∷ [] ≡ load_marks (length ops)
 load-marks ops at segments e t m = ap (λ ps. ps ++ length (trace_of segments) ∷ []) (m ∙ ap multiples_below e) ∙ ap (λ xs. multiples_below (length ops) ++ length xs ∷ []) t

@@ -8,7 +8,7 @@ use mathlib.Core.Logic.{⊎_elim, inl, inr}
 use Rattle.std.proofs.lemmas.List.Elements.{Contains-append_cases}
 use Rattle.ownership_model.specs.State.{State}
 use Rattle.trace_types.specs.Operation.{Operation}
-use Rattle.run_engine.specs.Stretch.{Stretch}
+use Rattle.run_engine.specs.SegmentView.{SegmentView}
 use Rattle.run_engine.specs.Segments.{ops_of, trace_of, mark_here, marks_from, all_marks, AreFull, BeginsMarked, IsRun, IsRestart, IsReached, IsPiece}
 use Rattle.run_engine.specs.Common.{ShareEnd, AreShared}
 use Rattle.run_engine.specs.Bounds.{AgreesAt}
@@ -38,7 +38,7 @@ Each-append P (x ∷ gaps) g h k = (h.0, Each-append P gaps g h.1 k)
 pub AreLaid-none : (old kept : List ℕ) (r : ℕ) → AreLaid old kept r r kept
 AreLaid-none old kept r = record { gaps = []; laid = sym (append-nil kept); reach = refl; some = tt }
 
-pub AreLaid-next : (ops rest : List Operation) (old kept : List ℕ) (r at len : ℕ) (segments more : List Stretch) (heap end : State)
+pub AreLaid-next : (ops rest : List Operation) (old kept : List ℕ) (r at len : ℕ) (segments more : List SegmentView) (heap end : State)
     → IsReached ops at segments heap → IsPiece heap rest more end len → IsGap old len → AreLaid old kept r at (marks_from 0 segments) → AreLaid old kept r (at + len) (marks_from 0 (segments ++ more))
 AreLaid-next ops rest old kept r at len segments more heap end h piece gap laid =
     let within = h.within in
@@ -53,7 +53,7 @@ AreLaid-next ops rest old kept r at len segments more heap end h piece gap laid 
     }
 
 -- segments that begin elsewhere
-pub marks_from-moved : (a b at : ℕ) (segments : List Stretch) → a ≤ at → marks_from (at - a + b) segments ≡ map (λ p. p - a + b) (marks_from at segments)
+pub marks_from-moved : (a b at : ℕ) (segments : List SegmentView) → a ≤ at → marks_from (at - a + b) segments ≡ map (λ p. p - a + b) (marks_from at segments)
 marks_from-moved a b at [] le = refl
 marks_from-moved a b at (s ∷ segments) le =
     let e : at - a + b + length (ops_of s) ≡ at + length (ops_of s) - a + b = omega arith in
@@ -65,7 +65,7 @@ marks_from-moved a b at (s ∷ segments) le =
     here-moved a b at (Some m) rest = refl
 
 -- after a stop at the segment i, which begins at `at`
-pub AreMarksOf-stop : (old segments : List Stretch) (ops : List Operation) (kept : List ℕ) (a b i at r : ℕ) (s : Stretch)
+pub AreMarksOf-stop : (old segments : List SegmentView) (ops : List Operation) (kept : List ℕ) (a b i at r : ℕ) (s : SegmentView)
     → ShareEnd (trace_of old) ops a b → i < length old → s ≡ get_or old i s → (m : State) → s.mark ≡ Some m → length (trace_of (take i old)) ≡ at → a ≤ at
     → AgreesAt (trace_of old) ops a b at → ((p : ℕ) → Contains (all_marks old) p → a ≤ p → AgreesAt (trace_of old) ops a b p → at ≤ p)
     → length (trace_of segments) ≡ at - a + b → trace_of (segments ++ drop i old) ≡ ops → AreLaid (all_marks old) kept r (at - a + b) (marks_from 0 segments)
@@ -100,7 +100,7 @@ AreMarksOf-stop old segments ops kept a b i at r s shared lt is m mark place beh
     }
 
 -- with no stop
-pub AreMarksOf-end : (old segments : List Stretch) (ops : List Operation) (kept : List ℕ) (a b r : ℕ)
+pub AreMarksOf-end : (old segments : List SegmentView) (ops : List Operation) (kept : List ℕ) (a b r : ℕ)
     → ShareEnd (trace_of old) ops a b → ((p : ℕ) → Contains (all_marks old) p → a ≤ p → AgreesAt (trace_of old) ops a b p → length (trace_of old) ≤ p)
     → trace_of segments ≡ ops → AreLaid (all_marks old) kept r (length ops) (marks_from 0 segments) → AreMarksOf (trace_of old) ops kept (all_marks old) (all_marks segments) r a b
 AreMarksOf-end old segments ops kept a b r shared first trace laid =
@@ -121,11 +121,11 @@ AreMarksOf-end old segments ops kept a b r shared first trace laid =
       some = laid.some;
     }
 
-pub IsReached-length : (ops : List Operation) (at : ℕ) (segments : List Stretch) (heap : State) → IsReached ops at segments heap → length (trace_of segments) ≡ at
+pub IsReached-length : (ops : List Operation) (at : ℕ) (segments : List SegmentView) (heap : State) → IsReached ops at segments heap → length (trace_of segments) ≡ at
 IsReached-length ops at segments heap h = let within = h.within in ap length h.trace ∙ omega (arith, length-take at ops)
 
 -- the checkpoints of segments that are not empty are before their end
-marks_from-below : (at : ℕ) (segments : List Stretch) (p : ℕ) → AreFull segments → Contains (marks_from at segments) p → p < at + length (trace_of segments)
+marks_from-below : (at : ℕ) (segments : List SegmentView) (p : ℕ) → AreFull segments → Contains (marks_from at segments) p → p < at + length (trace_of segments)
 marks_from-below at [] p full h = absurd (Contains-none p h)
 marks_from-below at (s ∷ segments) p full h =
     let long = length-append (ops_of s) (trace_of segments) in
@@ -135,7 +135,7 @@ marks_from-below at (s ∷ segments) p full h =
     (λ later. let lt : p < at + length (ops_of s) + length (trace_of segments) = marks_from-below (at + length (ops_of s)) segments p full.1 later in omega arith)
     (Contains-append_cases (mark_here at s.mark) (marks_from (at + length (ops_of s)) segments) p h)
 
-pub AreMarksAfter-restart : (segments front : List Stretch) (end heap : State) (ops : List Operation) (new : List ℕ) (head tail i at : ℕ)
+pub AreMarksAfter-restart : (segments front : List SegmentView) (end heap : State) (ops : List Operation) (new : List ℕ) (head tail i at : ℕ)
     → IsRun segments end → IsRestart segments head i at heap → front ≡ take i segments → AreShared (trace_of segments) ops head tail
     → AreMarksOf (trace_of segments) ops (marks_from 0 front) (all_marks segments) new at (length (trace_of segments) - tail) (length ops - tail)
     → AreMarksAfter (record { trace = trace_of segments; marks = all_marks segments }) (record { trace = ops; marks = new })
@@ -160,7 +160,7 @@ AreMarksAfter-restart segments front end heap ops new head tail i at run h is sh
       laid = subst (λ ss. AreMarksOf (trace_of segments) ops (marks_from 0 ss) (all_marks segments) new at (n - tail) (length ops - tail)) is marks;
     }
 
-abbrev pub first-mark : (at : ℕ) (c : List Stretch) → BeginsMarked c → List ℕ
+abbrev pub first-mark : (at : ℕ) (c : List SegmentView) → BeginsMarked c → List ℕ
 first-mark at [] h = []
 first-mark at (t ∷ c) h = marks_from (at + length (ops_of t)) c ++ (at + length (trace_of (t ∷ c))) ∷ []
 
@@ -168,12 +168,12 @@ mark_here-is : (at : ℕ) (o : Option State) → IsTrue (is_some o) → mark_her
 mark_here-is at None h = cc
 mark_here-is at (Some m) h = refl
 
-first-mark-is : (at : ℕ) (c : List Stretch) (h : BeginsMarked c) → marks_from at c ++ (at + length (trace_of c)) ∷ [] ≡ at ∷ first-mark at c h
+first-mark-is : (at : ℕ) (c : List SegmentView) (h : BeginsMarked c) → marks_from at c ++ (at + length (trace_of c)) ∷ [] ≡ at ∷ first-mark at c h
 first-mark-is at [] h = ap (λ n. n ∷ []) (add-zero at)
 first-mark-is at (t ∷ c) h = ap (λ ps. (ps ++ marks_from (at + length (ops_of t)) c) ++ (at + length (trace_of (t ∷ c))) ∷ []) (mark_here-is at t.mark h)
 
 -- a stretch from a checkpoint to the next
-pub stretch-neighbours : (a b c : List Stretch) (s : Stretch) (m : State) (len : ℕ) → s.mark ≡ Some m → ((at : ℕ) → marks_from at b ≡ []) → length (trace_of (s ∷ b)) ≡ len → BeginsMarked c
+pub stretch-neighbours : (a b c : List SegmentView) (s : SegmentView) (m : State) (len : ℕ) → s.mark ≡ Some m → ((at : ℕ) → marks_from at b ≡ []) → length (trace_of (s ∷ b)) ≡ len → BeginsMarked c
     → AreNeighbours (all_marks (a ++ ((s ∷ b) ++ c))) len
 stretch-neighbours a b c s m len mark bare long begins =
     let p : ℕ = 0 + length (trace_of a) in
@@ -192,12 +192,12 @@ stretch-neighbours a b c s m len mark bare long begins =
           ∙ ap (λ ps. marks_from 0 a ++ (p ∷ ps)) (first-mark-is (p + len) c begins);
     }
 
-pub old-neighbours : (old : List Stretch) (i k : ℕ) (s : Stretch) (heap : State) (ops : List Operation) (len : ℕ)
+pub old-neighbours : (old : List SegmentView) (i k : ℕ) (s : SegmentView) (heap : State) (ops : List Operation) (len : ℕ)
     → i < length old → s ≡ get_or old i s → s.mark ≡ Some heap → ((at : ℕ) → marks_from at (take k (drop (i + 1) old)) ≡ [])
     → len ≤ length ops → trace_of (take (suc k) (drop i old)) ≡ take len ops → BeginsMarked (drop (i + suc k) old) → AreNeighbours (all_marks old) len
 old-neighbours old i k s heap ops len lt is mark bare fits same begins =
-    let b : List Stretch = take k (drop (i + 1) old) in
-    let c : List Stretch = drop k (drop (i + 1) old) in
+    let b : List SegmentView = take k (drop (i + 1) old) in
+    let c : List SegmentView = drop k (drop (i + 1) old) in
     let here : drop i old ≡ s ∷ drop (i + 1) old = around old i s lt is in
     let stretch : take (suc k) (drop i old) ≡ s ∷ take k (drop (i + 1) old) = ap (take (suc k)) here in
     let parts : take i old ++ ((s ∷ b) ++ c) ≡ old = ap (λ xs. take i old ++ (s ∷ xs)) (take-append-drop k (drop (i + 1) old)) ∙ ap (λ xs. take i old ++ xs) (sym here) ∙ take-append-drop i old in
@@ -206,14 +206,14 @@ old-neighbours old i k s heap ops len lt is mark bare fits same begins =
     let rest : drop k (drop (i + 1) old) ≡ drop (i + suc k) old = drop-drop k (i + 1) old ∙ ap (λ n. drop n old) j in
     subst (λ ss. AreNeighbours (all_marks ss) len) parts (stretch-neighbours (take i old) b c s heap len mark bare long (subst BeginsMarked (sym rest) begins))
 
-pub IfSome-begins : (segments : List Stretch) (j : ℕ) (s : Stretch) → j < length segments → s ≡ get_or segments j s → IfSome s.mark (λ h. BeginsMarked (drop j segments))
+pub IfSome-begins : (segments : List SegmentView) (j : ℕ) (s : SegmentView) → j < length segments → s ≡ get_or segments j s → IfSome s.mark (λ h. BeginsMarked (drop j segments))
 IfSome-begins segments j s lt is = go s.mark refl
   where
     go : (o : Option State) → s.mark ≡ o → IfSome o (λ h. BeginsMarked (drop j segments))
     go None e = tt
     go (Some m) e = subst BeginsMarked (sym (around segments j s lt is)) (ap is_some e)
 
-pub marks_from-next : (segments : List Stretch) (j : ℕ) (s : Stretch) (at : ℕ) → j < length segments → s ≡ get_or segments j s → at ≡ length (trace_of (take j segments))
+pub marks_from-next : (segments : List SegmentView) (j : ℕ) (s : SegmentView) (at : ℕ) → j < length segments → s ≡ get_or segments j s → at ≡ length (trace_of (take j segments))
     → marks_from 0 (take (j + 1) segments) ≡ marks_from 0 (take j segments) ++ mark_here at s.mark
 marks_from-next segments j s at lt is place =
     let here : 0 + length (trace_of (take j segments)) ≡ at = omega arith in
@@ -231,7 +231,7 @@ mark_here-marked at None e = cc
 mark_here-marked at (Some m) e = refl
 
 -- a stretch from a checkpoint to the next is one of the old trace
-stretch-old : (a b c : List Stretch) (s : Stretch) (m : State) (ops : List Operation) (len : ℕ) → s.mark ≡ Some m → ((at : ℕ) → marks_from at b ≡ []) → length (trace_of (s ∷ b)) ≡ len → BeginsMarked c
+stretch-old : (a b c : List SegmentView) (s : SegmentView) (m : State) (ops : List Operation) (len : ℕ) → s.mark ≡ Some m → ((at : ℕ) → marks_from at b ≡ []) → length (trace_of (s ∷ b)) ≡ len → BeginsMarked c
     → m ≡ end_from nothing_held (trace_of a) → trace_of (s ∷ b) ≡ take len ops → IsOldStretch (trace_of (a ++ ((s ∷ b) ++ c))) (all_marks (a ++ ((s ∷ b) ++ c))) m ops len
 unfolding stretch-neighbours
 stretch-old a b c s m ops len mark bare long begins is same =
@@ -245,12 +245,12 @@ stretch-old a b c s m ops len mark bare long begins is same =
           ∙ ap (λ n. take n (trace_of (s ∷ b) ++ trace_of c)) (sym long) ∙ take-append_seam (trace_of (s ∷ b)) (trace_of c) ∙ same;
     }
 
-pub old-stretch-is : (old : List Stretch) (end : State) (i k : ℕ) (s : Stretch) (heap : State) (ops : List Operation) (len : ℕ)
+pub old-stretch-is : (old : List SegmentView) (end : State) (i k : ℕ) (s : SegmentView) (heap : State) (ops : List Operation) (len : ℕ)
     → IsRun old end → i < length old → s ≡ get_or old i s → s.mark ≡ Some heap → ((at : ℕ) → marks_from at (take k (drop (i + 1) old)) ≡ [])
     → len ≤ length ops → trace_of (take (suc k) (drop i old)) ≡ take len ops → BeginsMarked (drop (i + suc k) old) → IsOldStretch (trace_of old) (all_marks old) heap ops len
 old-stretch-is old end i k s heap ops len run lt is mark bare fits same begins =
-    let b : List Stretch = take k (drop (i + 1) old) in
-    let c : List Stretch = drop k (drop (i + 1) old) in
+    let b : List SegmentView = take k (drop (i + 1) old) in
+    let c : List SegmentView = drop k (drop (i + 1) old) in
     let here : drop i old ≡ s ∷ drop (i + 1) old = around old i s lt is in
     let stretch : take (suc k) (drop i old) ≡ s ∷ take k (drop (i + 1) old) = ap (take (suc k)) here in
     let parts : take i old ++ ((s ∷ b) ++ c) ≡ old = ap (λ xs. take i old ++ (s ∷ xs)) (take-append-drop k (drop (i + 1) old)) ∙ ap (λ xs. take i old ++ xs) (sym here) ∙ take-append-drop i old in
@@ -269,7 +269,7 @@ rising-here at b n None ps lt le h = rising-earlier at b (n + 1) (ps ++ n ∷ []
 rising-here at b n (Some m) ps lt le h = (omega arith, omega arith, rising-earlier (at + 1) b (n + 1) (ps ++ n ∷ []) (omega arith) h)
 
 -- the checkpoints rise
-pub rising-marks : (at n : ℕ) (segments : List Stretch) → n ≡ at + length (trace_of segments) → AreFull segments → AreRising at (n + 1) (marks_from at segments ++ n ∷ [])
+pub rising-marks : (at n : ℕ) (segments : List SegmentView) → n ≡ at + length (trace_of segments) → AreFull segments → AreRising at (n + 1) (marks_from at segments ++ n ∷ [])
 rising-marks at n [] e full = (omega arith, omega arith, tt)
 rising-marks at n (s ∷ segments) e full =
     let long = length-append (ops_of s) (trace_of segments) in

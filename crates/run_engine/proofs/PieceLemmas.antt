@@ -6,7 +6,7 @@ use Rattle.std.proofs.Math.Seq.{take-add, take-length}
 use Rattle.std.specs.Prelude.{IfSome}
 use Rattle.ownership_model.specs.State.{State, nothing_held}
 use Rattle.trace_types.specs.Operation.{Operation}
-use Rattle.run_engine.specs.Stretch.{Stretch}
+use Rattle.run_engine.specs.SegmentView.{SegmentView}
 use Rattle.trace_types.specs.declared.outcomes.Outcome.{Outcome}
 use Rattle.ownership_model.specs.Step.{end_from, outcomes_from, AreNew}
 use Rattle.run_engine.specs.Segments.{ops_of, trace_of, mark_here, marks_from, IsMarkOf, IsSegmentFrom, AreReplayFrom, AreFull, BeginsMarked, IsRun, IsReached, IsPiece}
@@ -15,23 +15,23 @@ use Rattle.ownership_model.proofs.ReplayLemmas.{end_from-append, new_front, new_
 use Rattle.run_engine.proofs.ListingLemmas.{around, take-shorter}
 use Rattle.run_engine.proofs.SegmentLemmas.{trace_of-append, marks_from-append, AreReplayFrom-append, AreReplayFrom-front, AreReplayFrom-back}
 
-pub AreFull-append : (a b : List Stretch) → AreFull a → AreFull b → AreFull (a ++ b)
+pub AreFull-append : (a b : List SegmentView) → AreFull a → AreFull b → AreFull (a ++ b)
 AreFull-append [] b h k = k
 AreFull-append (s ∷ a) b h k = (h.0, AreFull-append a b h.1 k)
 
-pub AreFull-front : (a b : List Stretch) → AreFull (a ++ b) → AreFull a
+pub AreFull-front : (a b : List SegmentView) → AreFull (a ++ b) → AreFull a
 AreFull-front [] b h = tt
 AreFull-front (s ∷ a) b h = (h.0, AreFull-front a b h.1)
 
-pub AreFull-back : (a b : List Stretch) → AreFull (a ++ b) → AreFull b
+pub AreFull-back : (a b : List SegmentView) → AreFull (a ++ b) → AreFull b
 AreFull-back [] b h = h
 AreFull-back (s ∷ a) b h = AreFull-back a b h.1
 
-pub BeginsMarked-append : (a b : List Stretch) → BeginsMarked a → BeginsMarked b → BeginsMarked (a ++ b)
+pub BeginsMarked-append : (a b : List SegmentView) → BeginsMarked a → BeginsMarked b → BeginsMarked (a ++ b)
 BeginsMarked-append [] b h k = k
 BeginsMarked-append (s ∷ a) b h k = h
 
-pub BeginsMarked-front : (a b : List Stretch) → BeginsMarked (a ++ b) → BeginsMarked a
+pub BeginsMarked-front : (a b : List SegmentView) → BeginsMarked (a ++ b) → BeginsMarked a
 BeginsMarked-front [] b h = tt
 BeginsMarked-front (s ∷ a) b h = h
 
@@ -40,10 +40,10 @@ pub IsMarkOf-some : (m n : State) (o : Option State) → o ≡ Some n → IsMark
 IsMarkOf-some m n o e h = subst (IsMarkOf m) e h
 
 -- the state at a kept checkpoint
-pub mark-state : (a b : List Stretch) (s : Stretch) (m : State) → AreReplayFrom nothing_held (a ++ s ∷ b) → s.mark ≡ Some m → m ≡ end_from nothing_held (trace_of a)
+pub mark-state : (a b : List SegmentView) (s : SegmentView) (m : State) → AreReplayFrom nothing_held (a ++ s ∷ b) → s.mark ≡ Some m → m ≡ end_from nothing_held (trace_of a)
 mark-state a b s m h e = IsMarkOf-some (end_from nothing_held (trace_of a)) m s.mark e ((AreReplayFrom-back nothing_held a (s ∷ b) h).0.mark)
 
-pub stretch-piece : (a b c : List Stretch) (s : Stretch) (end heap after : State) (ops : List Operation) (len : ℕ)
+pub stretch-piece : (a b c : List SegmentView) (s : SegmentView) (end heap after : State) (ops : List Operation) (len : ℕ)
     → IsRun (a ++ ((s ∷ b) ++ c)) end → s.mark ≡ Some heap → ((at : ℕ) → marks_from at b ≡ []) → trace_of (s ∷ b) ≡ take len ops → len ≤ length ops
     → after ≡ end_from nothing_held (trace_of (a ++ s ∷ b)) → IsPiece heap ops (s ∷ b) after len
 stretch-piece a b c s end heap after ops len run mark bare same fits is =
@@ -75,18 +75,18 @@ IfSome-mark m None h = tt
 IfSome-mark m (Some n) h = h
 
 -- a segment of a run and the state where it begins
-pub segment-at : (m : State) (segments : List Stretch) (i : ℕ) (s : Stretch) → AreReplayFrom m segments → i < length segments → s ≡ get_or segments i s
+pub segment-at : (m : State) (segments : List SegmentView) (i : ℕ) (s : SegmentView) → AreReplayFrom m segments → i < length segments → s ≡ get_or segments i s
     → IsSegmentFrom (end_from m (trace_of (take i segments))) s
 segment-at m segments i s h lt is =
     let e : take i segments ++ (s ∷ drop (i + 1) segments) ≡ segments = ap (λ ss. take i segments ++ ss) (sym (around segments i s lt is)) ∙ take-append-drop i segments in
     (AreReplayFrom-back m (take i segments) (s ∷ drop (i + 1) segments) (subst (AreReplayFrom m) (sym e) h)).0
 
-pub mark-at : (m : State) (segments : List Stretch) (i : ℕ) (s : Stretch) → AreReplayFrom m segments → i < length segments → s ≡ get_or segments i s
+pub mark-at : (m : State) (segments : List SegmentView) (i : ℕ) (s : SegmentView) → AreReplayFrom m segments → i < length segments → s ≡ get_or segments i s
     → IfSome s.mark (λ h. h ≡ end_from m (trace_of (take i segments)))
 mark-at m segments i s h lt is = IfSome-mark _ s.mark ((segment-at m segments i s h lt is).mark)
 
 -- one more segment without a checkpoint
-pub marks-bare-next : (segments : List Stretch) (i : ℕ) (s : Stretch) → i < length segments → s ≡ get_or segments i s → is_some s.mark ≡ false
+pub marks-bare-next : (segments : List SegmentView) (i : ℕ) (s : SegmentView) → i < length segments → s ≡ get_or segments i s → is_some s.mark ≡ false
     → ((at : ℕ) → marks_from at (take i segments) ≡ []) → (at : ℕ) → marks_from at (take (i + 1) segments) ≡ []
 marks-bare-next segments i s lt is none h at =
     let o : s.mark ≡ None = is_some-none s.mark none in
@@ -97,7 +97,7 @@ marks-bare-next segments i s lt is none h at =
     ∙ ap (λ m. mark_here p m ++ []) o
 
 -- the segments in front and one more are the first of the operations
-pub begins-next : (ops : List Operation) (segments : List Stretch) (i at : ℕ) (s : Stretch) → i < length segments → s ≡ get_or segments i s
+pub begins-next : (ops : List Operation) (segments : List SegmentView) (i at : ℕ) (s : SegmentView) → i < length segments → s ≡ get_or segments i s
     → trace_of (take i segments) ≡ take at ops → s.ops ≡ take (length s.ops) (drop at ops) → trace_of (take (i + 1) segments) ≡ take (at + length s.ops) ops
 begins-next ops segments i at s lt is h e =
     ap trace_of (take_more segments i s lt ∙ ap (λ t. take i segments ++ t ∷ []) (sym is))
@@ -107,13 +107,13 @@ begins-next ops segments i at s lt is h e =
     ∙ sym (take-add at (length s.ops) ops)
 
 -- a stretch of a run, from i on, with k further segments that have no checkpoint
-pub old-piece : (old : List Stretch) (end : State) (i k : ℕ) (s : Stretch) (heap after : State) (ops : List Operation) (len : ℕ)
+pub old-piece : (old : List SegmentView) (end : State) (i k : ℕ) (s : SegmentView) (heap after : State) (ops : List Operation) (len : ℕ)
     → IsRun old end → i < length old → s ≡ get_or old i s → s.mark ≡ Some heap → ((at : ℕ) → marks_from at (take k (drop (i + 1) old)) ≡ [])
     → len ≤ length ops → trace_of (take (suc k) (drop i old)) ≡ take len ops → after ≡ end_from nothing_held (trace_of (take (i + suc k) old))
     → IsPiece heap ops (take (suc k) (drop i old)) after len
 old-piece old end i k s heap after ops len run lt is mark bare fits same state =
-    let b : List Stretch = take k (drop (i + 1) old) in
-    let c : List Stretch = drop k (drop (i + 1) old) in
+    let b : List SegmentView = take k (drop (i + 1) old) in
+    let c : List SegmentView = drop k (drop (i + 1) old) in
     let here : drop i old ≡ s ∷ drop (i + 1) old = around old i s lt is in
     let stretch : take (suc k) (drop i old) ≡ s ∷ b = ap (take (suc k)) here in
     let parts : take i old ++ ((s ∷ b) ++ c) ≡ old = ap (λ xs. take i old ++ (s ∷ xs)) (take-append-drop k (drop (i + 1) old)) ∙ ap (λ xs. take i old ++ xs) (sym here) ∙ take-append-drop i old in
@@ -128,7 +128,7 @@ part-inside ops at to len n le =
     ap (λ k. take n (drop len (take k (drop at ops)))) e ∙ ap (take n) (drop-take len (to - at - len) (drop at ops)) ∙ take-shorter n (to - at - len) (drop len (drop at ops)) (omega arith) ∙ ap (take n) (drop-drop len at ops)
 
 -- a replay goes on by a piece
-pub IsReached-next : (ops : List Operation) (at to len : ℕ) (segments more : List Stretch) (heap end : State)
+pub IsReached-next : (ops : List Operation) (at to len : ℕ) (segments more : List SegmentView) (heap end : State)
     → IsReached ops at segments heap → at ≤ to → to ≤ length ops → IsPiece heap (take (to - at) (drop at ops)) more end len
     → IsReached ops (at + len) (segments ++ more) end
 IsReached-next ops at to len segments more heap end h le within piece =
@@ -144,11 +144,11 @@ IsReached-next ops at to len segments more heap end h le within piece =
       state = piece.state ∙ ap (end_from heap) cut ∙ ap (λ m. end_from m (take len (drop at ops))) h.state ∙ sym (end_from-append (take at ops) (take len (drop at ops)) nothing_held) ∙ ap (end_from nothing_held) (sym (take-add at len ops));
     }
 
-pub mark-is : (old : List Stretch) (i : ℕ) (s : Stretch) (n : State) → AreReplayFrom nothing_held old → i < length old → s ≡ get_or old i s → Some n ≡ s.mark → n ≡ end_from nothing_held (trace_of (take i old))
+pub mark-is : (old : List SegmentView) (i : ℕ) (s : SegmentView) (n : State) → AreReplayFrom nothing_held old → i < length old → s ≡ get_or old i s → Some n ≡ s.mark → n ≡ end_from nothing_held (trace_of (take i old))
 mark-is old i s n h lt is e = subst (λ o. IfSome o (λ h. h ≡ end_from nothing_held (trace_of (take i old)))) (sym e) (mark-at nothing_held old i s h lt is)
 
 -- a piece of the first n operations is one of more of them
-pub IsPiece-of-more : (start end : State) (ops : List Operation) (n m len : ℕ) (segments : List Stretch) → n ≤ m → IsPiece start (take n ops) segments end len → IsPiece start (take m ops) segments end len
+pub IsPiece-of-more : (start end : State) (ops : List Operation) (n m len : ℕ) (segments : List SegmentView) → n ≤ m → IsPiece start (take n ops) segments end len → IsPiece start (take m ops) segments end len
 IsPiece-of-more start end ops n m len segments le h =
     let long : len ≤ n = omega (arith, h.fits, length-take n ops) in
     let cut : take len (take n ops) ≡ take len (take m ops) = take-shorter len n ops long ∙ sym (take-shorter len m ops (omega arith)) in

@@ -6,7 +6,7 @@ use Rattle.std.proofs.lemmas.List.Elements.{Contains-append_cases}
 use Rattle.std.proofs.Math.Seq.{take-length}
 use Rattle.ownership_model.specs.State.{State, nothing_held}
 use Rattle.trace_types.specs.Operation.{Operation}
-use Rattle.run_engine.specs.Stretch.{Stretch}
+use Rattle.run_engine.specs.SegmentView.{SegmentView}
 use Rattle.ownership_model.specs.Step.{end_from}
 use Rattle.run_engine.specs.Segments.{trace_of, mark_here, marks_from, AreReplayFrom, AreFull, BeginsMarked, IsRun, IsReached, all_marks, IsRestart}
 use Rattle.run_engine.proofs.SegmentLemmas.{AreReplayFrom-front, length-trace_of-next}
@@ -15,7 +15,7 @@ use Rattle.run_engine.proofs.PieceLemmas.{AreFull-front, BeginsMarked-front}
 use Rattle.run_engine.proofs.PlaceLemmas.{Contains-one, mark_here-place, mark_here-some, marks_from-least, trace_of-front, place-within, mark-there, end-mark, first-mark-there, all-within}
 
 -- a loop that looks for the restart: it stands at segment j, which begins at `here`
-pub record IsSought (segments : List Stretch) (head j here i at : ℕ) (heap : State) : Type 0 where
+pub record IsSought (segments : List SegmentView) (head j here i at : ℕ) (heap : State) : Type 0 where
   pub stands : length (trace_of (take j segments)) ≡ here
   pub within : i ≤ length segments
   pub place : length (trace_of (take i segments)) ≡ at
@@ -24,11 +24,11 @@ pub record IsSought (segments : List Stretch) (head j here i at : ℕ) (heap : S
   pub heap_is : heap ≡ end_from nothing_held (trace_of (take i segments))
   pub later : (p : ℕ) → Contains (all_marks segments) p → p ≤ head → (p ≤ at) ⊎ Contains (marks_from here (drop j segments) ++ length (trace_of segments) ∷ []) p
 
-pub IsSought-none : (segments : List Stretch) (head : ℕ) → BeginsMarked segments → IsSought segments head 0 0 0 0 nothing_held
+pub IsSought-none : (segments : List SegmentView) (head : ℕ) → BeginsMarked segments → IsSought segments head 0 0 0 0 nothing_held
 IsSought-none segments head begins = record { stands = refl; within = omega arith; place = refl; early = omega arith; mark = first-mark-there segments begins; heap_is = refl; later = λ p h k. inr h }
 
 -- at a segment that begins after the head, the search is over
-pub IsRestart-early : (segments : List Stretch) (head j here i at : ℕ) (heap : State) → IsSought segments head j here i at heap → head < here → IsRestart segments head i at heap
+pub IsRestart-early : (segments : List SegmentView) (head j here i at : ℕ) (heap : State) → IsSought segments head j here i at heap → head < here → IsRestart segments head i at heap
 IsRestart-early segments head j here i at heap h past =
     let fits : here ≤ length (trace_of segments) = place-within segments j here h.stands in
     record {
@@ -45,7 +45,7 @@ IsRestart-early segments head j here i at heap h past =
       heap_is = h.heap_is;
     }
 
-later-passed : (segments : List Stretch) (head j here i at at_next : ℕ) (heap : State) (s : Stretch) → IsSought segments head j here i at heap → j < length segments → s ≡ get_or segments j s
+later-passed : (segments : List SegmentView) (head j here i at at_next : ℕ) (heap : State) (s : SegmentView) → IsSought segments head j here i at heap → j < length segments → s ≡ get_or segments j s
     → at ≤ at_next → (is_some s.mark ≡ true → here ≤ at_next)
     → (p : ℕ) → Contains (all_marks segments) p → p ≤ head → (p ≤ at_next) ⊎ Contains (marks_from (here + length s.ops) (drop (j + 1) segments) ++ length (trace_of segments) ∷ []) p
 later-passed segments head j here i at at_next heap s h lt is grows marked p mark le =
@@ -61,7 +61,7 @@ later-passed segments head j here i at at_next heap s h lt is grows marked p mar
     (h.later p mark le)
 
 -- a segment without a checkpoint
-pub IsSought-bare : (segments : List Stretch) (head j here i at : ℕ) (heap : State) (s : Stretch) → IsSought segments head j here i at heap → j < length segments → s ≡ get_or segments j s → is_some s.mark ≡ false
+pub IsSought-bare : (segments : List SegmentView) (head j here i at : ℕ) (heap : State) (s : SegmentView) → IsSought segments head j here i at heap → j < length segments → s ≡ get_or segments j s → is_some s.mark ≡ false
     → IsSought segments head (j + 1) (here + length s.ops) i at heap
 IsSought-bare segments head j here i at heap s h lt is bare = record {
   stands = length-trace_of-next segments j s lt is ∙ ap (λ m. m + length s.ops) h.stands;
@@ -74,7 +74,7 @@ IsSought-bare segments head j here i at heap s h lt is bare = record {
 }
 
 -- a segment with a checkpoint at or before the head
-pub IsSought-marked : (segments : List Stretch) (head j here i at : ℕ) (heap next m : State) (s : Stretch) → IsSought segments head j here i at heap → j < length segments → s ≡ get_or segments j s → s.mark ≡ Some m
+pub IsSought-marked : (segments : List SegmentView) (head j here i at : ℕ) (heap next m : State) (s : SegmentView) → IsSought segments head j here i at heap → j < length segments → s ≡ get_or segments j s → s.mark ≡ Some m
     → at ≤ here → here ≤ head → next ≡ end_from nothing_held (trace_of (take j segments))
     → IsSought segments head (j + 1) (here + length s.ops) j here next
 IsSought-marked segments head j here i at heap next m s h lt is marked grows le same = record {
@@ -88,7 +88,7 @@ IsSought-marked segments head j here i at heap next m s h lt is marked grows le 
 }
 
 -- the whole trace is the head
-pub IsRestart-end : (segments : List Stretch) (end : State) (head here i at : ℕ) (heap : State) → IsRun segments end → IsSought segments head (length segments) here i at heap → here ≤ head
+pub IsRestart-end : (segments : List SegmentView) (end : State) (head here i at : ℕ) (heap : State) → IsRun segments end → IsSought segments head (length segments) here i at heap → here ≤ head
     → IsRestart segments head (length segments) here end
 IsRestart-end segments end head here i at heap run h le =
     let whole : take (length segments) segments ≡ segments = take-length segments in
@@ -101,7 +101,7 @@ IsRestart-end segments end head here i at heap run h le =
     }
 
 -- the front of the replay
-pub IsReached-restart : (segments kept : List Stretch) (end heap : State) (ops : List Operation) (head i at : ℕ) → IsRun segments end → IsRestart segments head i at heap → kept ≡ take i segments
+pub IsReached-restart : (segments kept : List SegmentView) (end heap : State) (ops : List Operation) (head i at : ℕ) → IsRun segments end → IsRestart segments head i at heap → kept ≡ take i segments
     → take head (trace_of segments) ≡ take head ops → head ≤ length ops → IsReached ops at kept heap
 IsReached-restart segments kept end heap ops head i at run h is same within =
     let parts : take i segments ++ drop i segments ≡ segments = take-append-drop i segments in

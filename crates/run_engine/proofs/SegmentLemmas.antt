@@ -4,36 +4,36 @@ use Rattle.std.specs.Prelude.{None, slice_get}
 use Rattle.std.proofs.Math.Nat.{sub-zero}
 use Rattle.std.proofs.lemmas.List.{append-nil, take_more}
 use Rattle.ownership_model.specs.State.{State}
-use Rattle.run_engine.specs.Stretch.{Stretch}
+use Rattle.run_engine.specs.SegmentView.{SegmentView}
 use Rattle.ownership_model.specs.Step.{end_from, outcomes_from}
 use Rattle.run_engine.specs.Segments.{ops_of, trace_of, mark_here, marks_from, AreReplayFrom, outcomes_in, outcomes_of_segment, without_mark}
 use Rattle.ownership_model.proofs.ReplayLemmas.{end_from-append, outcomes_from-append}
 
-pub trace_of-append : (a b : List Stretch) → trace_of (a ++ b) ≡ trace_of a ++ trace_of b
+pub trace_of-append : (a b : List SegmentView) → trace_of (a ++ b) ≡ trace_of a ++ trace_of b
 trace_of-append [] b = refl
 trace_of-append (s ∷ a) b = ap (λ ops. ops_of s ++ ops) (trace_of-append a b) ∙ sym (append_assoc (ops_of s) (trace_of a) (trace_of b))
 
-pub marks_from-append : (at : ℕ) (a b : List Stretch) → marks_from at (a ++ b) ≡ marks_from at a ++ marks_from (at + length (trace_of a)) b
+pub marks_from-append : (at : ℕ) (a b : List SegmentView) → marks_from at (a ++ b) ≡ marks_from at a ++ marks_from (at + length (trace_of a)) b
 marks_from-append at [] b = ap (λ p. marks_from p b) (sym (add-zero at))
 marks_from-append at (s ∷ a) b =
     let place : at + length (ops_of s) + length (trace_of a) ≡ at + length (ops_of s ++ trace_of a) = omega (arith, length-append (ops_of s) (trace_of a)) in
     ap (λ ps. mark_here at s.mark ++ ps) (marks_from-append (at + length (ops_of s)) a b ∙ ap (λ p. marks_from (at + length (ops_of s)) a ++ marks_from p b) place)
     ∙ sym (append_assoc (mark_here at s.mark) (marks_from (at + length (ops_of s)) a) (marks_from (at + length (ops_of s ++ trace_of a)) b))
 
-pub AreReplayFrom-append : (m : State) (a b : List Stretch) → AreReplayFrom m a → AreReplayFrom (end_from m (trace_of a)) b → AreReplayFrom m (a ++ b)
+pub AreReplayFrom-append : (m : State) (a b : List SegmentView) → AreReplayFrom m a → AreReplayFrom (end_from m (trace_of a)) b → AreReplayFrom m (a ++ b)
 AreReplayFrom-append m [] b h k = k
 AreReplayFrom-append m (s ∷ a) b h k =
     (h.0, AreReplayFrom-append (end_from m (ops_of s)) a b h.1 (subst (λ n. AreReplayFrom n b) (end_from-append (ops_of s) (trace_of a) m) k))
 
-pub AreReplayFrom-front : (m : State) (a b : List Stretch) → AreReplayFrom m (a ++ b) → AreReplayFrom m a
+pub AreReplayFrom-front : (m : State) (a b : List SegmentView) → AreReplayFrom m (a ++ b) → AreReplayFrom m a
 AreReplayFrom-front m [] b h = tt
 AreReplayFrom-front m (s ∷ a) b h = (h.0, AreReplayFrom-front (end_from m (ops_of s)) a b h.1)
 
-pub AreReplayFrom-back : (m : State) (a b : List Stretch) → AreReplayFrom m (a ++ b) → AreReplayFrom (end_from m (trace_of a)) b
+pub AreReplayFrom-back : (m : State) (a b : List SegmentView) → AreReplayFrom m (a ++ b) → AreReplayFrom (end_from m (trace_of a)) b
 AreReplayFrom-back m [] b h = h
 AreReplayFrom-back m (s ∷ a) b h = subst (λ n. AreReplayFrom n b) (sym (end_from-append (ops_of s) (trace_of a) m)) (AreReplayFrom-back (end_from m (ops_of s)) a b h.1)
 
-pub outcomes_in-replay : (m : State) (segments : List Stretch) → AreReplayFrom m segments → outcomes_in segments ≡ outcomes_from m (trace_of segments)
+pub outcomes_in-replay : (m : State) (segments : List SegmentView) → AreReplayFrom m segments → outcomes_in segments ≡ outcomes_from m (trace_of segments)
 outcomes_in-replay m [] h = refl
 outcomes_in-replay m (s ∷ segments) h =
     ap (λ os. os ++ outcomes_in segments) h.0.outcomes
@@ -51,62 +51,62 @@ slice_get-append_right (x ∷ xs) ys zero h = absurd (omega arith)
 slice_get-append_right (x ∷ xs) ys (suc i) h = slice_get-append_right xs ys i (omega arith) ∙ ap (slice_get ys) (omega arith)
 
 -- the outcome at i, where the loop stands at segment j
-pub outcome-here : (segments : List Stretch) (j rest : ℕ) (s : Stretch) → j < length segments → s ≡ get_or segments j s → rest < length (outcomes_of_segment s) → slice_get (outcomes_in (drop j segments)) rest ≡ slice_get (outcomes_of_segment s) rest
+pub outcome-here : (segments : List SegmentView) (j rest : ℕ) (s : SegmentView) → j < length segments → s ≡ get_or segments j s → rest < length (outcomes_of_segment s) → slice_get (outcomes_in (drop j segments)) rest ≡ slice_get (outcomes_of_segment s) rest
 outcome-here segments j rest s h is lt =
     ap (λ ss. slice_get (outcomes_in ss) rest) (drop-cons segments j s h ∙ ap (λ t. t ∷ drop (suc j) segments) (sym is))
     ∙ slice_get-append_left (outcomes_of_segment s) (outcomes_in (drop (suc j) segments)) rest lt
 
-pub outcome-next : (segments : List Stretch) (j rest : ℕ) (s : Stretch) → j < length segments → s ≡ get_or segments j s → length (outcomes_of_segment s) ≤ rest → slice_get (outcomes_in (drop j segments)) rest ≡ slice_get (outcomes_in (drop (j + 1) segments)) (rest - length (outcomes_of_segment s))
+pub outcome-next : (segments : List SegmentView) (j rest : ℕ) (s : SegmentView) → j < length segments → s ≡ get_or segments j s → length (outcomes_of_segment s) ≤ rest → slice_get (outcomes_in (drop j segments)) rest ≡ slice_get (outcomes_in (drop (j + 1) segments)) (rest - length (outcomes_of_segment s))
 outcome-next segments j rest s h is le =
     ap (λ ss. slice_get (outcomes_in ss) rest) (drop-cons segments j s h ∙ ap (λ t. t ∷ drop (suc j) segments) (sym is))
     ∙ slice_get-append_right (outcomes_of_segment s) (outcomes_in (drop (suc j) segments)) rest le
     ∙ ap (λ n. slice_get (outcomes_in (drop n segments)) (rest - length (outcomes_of_segment s))) (sym (add-one j))
 
-pub trace_of-without_mark : (segments : List Stretch) (i : ℕ) → trace_of (without_mark segments i) ≡ trace_of segments
+pub trace_of-without_mark : (segments : List SegmentView) (i : ℕ) → trace_of (without_mark segments i) ≡ trace_of segments
 trace_of-without_mark [] i = refl
 trace_of-without_mark (s ∷ segments) zero = refl
 trace_of-without_mark (s ∷ segments) (suc i) = ap (λ ops. ops_of s ++ ops) (trace_of-without_mark segments i)
 
-pub AreReplayFrom-without_mark : (m : State) (segments : List Stretch) (i : ℕ) → AreReplayFrom m segments → AreReplayFrom m (without_mark segments i)
+pub AreReplayFrom-without_mark : (m : State) (segments : List SegmentView) (i : ℕ) → AreReplayFrom m segments → AreReplayFrom m (without_mark segments i)
 AreReplayFrom-without_mark m [] i h = tt
 AreReplayFrom-without_mark m (s ∷ segments) zero h = (record { mark = tt; outcomes = h.0.outcomes }, h.1)
 AreReplayFrom-without_mark m (s ∷ segments) (suc i) h = (h.0, AreReplayFrom-without_mark (end_from m (ops_of s)) segments i h.1)
 
-pub without_mark-set : (segments : List Stretch) (i : ℕ) (s : Stretch) → i < length segments → s ≡ get_or segments i s → set segments i (record s { mark = None }) ≡ without_mark segments i
+pub without_mark-set : (segments : List SegmentView) (i : ℕ) (s : SegmentView) → i < length segments → s ≡ get_or segments i s → set segments i (record s { mark = None }) ≡ without_mark segments i
 without_mark-set [] i s h is = absurd (omega arith)
-without_mark-set (t ∷ segments) zero s h is = ap (λ (u : Stretch). record u { mark = None } ∷ segments) is
+without_mark-set (t ∷ segments) zero s h is = ap (λ (u : SegmentView). record u { mark = None } ∷ segments) is
 without_mark-set (t ∷ segments) (suc i) s h is = ap (λ ss. t ∷ ss) (without_mark-set segments i s (omega arith) is)
 
 -- where the segment after j begins
-pub length-trace_of-next : (segments : List Stretch) (j : ℕ) (s : Stretch) → j < length segments → s ≡ get_or segments j s → length (trace_of (take (j + 1) segments)) ≡ length (trace_of (take j segments)) + length (ops_of s)
+pub length-trace_of-next : (segments : List SegmentView) (j : ℕ) (s : SegmentView) → j < length segments → s ≡ get_or segments j s → length (trace_of (take (j + 1) segments)) ≡ length (trace_of (take j segments)) + length (ops_of s)
 length-trace_of-next segments j s h is =
     ap (λ ss. length (trace_of ss)) (take_more segments j s h ∙ ap (λ t. take j segments ++ t ∷ []) (sym is))
     ∙ ap length (trace_of-append (take j segments) (s ∷ []) ∙ ap (λ ops. trace_of (take j segments) ++ ops) (append-nil (ops_of s)))
     ∙ length-append (trace_of (take j segments)) (ops_of s)
 
-pub trace_of-next : (segments : List Stretch) (j : ℕ) (s : Stretch) → j < length segments → s ≡ get_or segments j s → trace_of (take (j + 1) segments) ≡ trace_of (take j segments) ++ ops_of s
+pub trace_of-next : (segments : List SegmentView) (j : ℕ) (s : SegmentView) → j < length segments → s ≡ get_or segments j s → trace_of (take (j + 1) segments) ≡ trace_of (take j segments) ++ ops_of s
 trace_of-next segments j s h is =
     ap trace_of (take_more segments j s h ∙ ap (λ t. take j segments ++ t ∷ []) (sym is))
     ∙ trace_of-append (take j segments) (s ∷ [])
     ∙ ap (λ ops. trace_of (take j segments) ++ ops) (append-nil (ops_of s))
 
-pub outcomes_in-append : (a b : List Stretch) → outcomes_in (a ++ b) ≡ outcomes_in a ++ outcomes_in b
+pub outcomes_in-append : (a b : List SegmentView) → outcomes_in (a ++ b) ≡ outcomes_in a ++ outcomes_in b
 outcomes_in-append [] b = refl
 outcomes_in-append (s ∷ a) b = ap (λ os. s.outcomes ++ os) (outcomes_in-append a b) ∙ sym (append_assoc s.outcomes (outcomes_in a) (outcomes_in b))
 
-pub outcomes_in-next : (segments : List Stretch) (j : ℕ) (s : Stretch) → j < length segments → s ≡ get_or segments j s → outcomes_in (take (j + 1) segments) ≡ outcomes_in (take j segments) ++ s.outcomes
+pub outcomes_in-next : (segments : List SegmentView) (j : ℕ) (s : SegmentView) → j < length segments → s ≡ get_or segments j s → outcomes_in (take (j + 1) segments) ≡ outcomes_in (take j segments) ++ s.outcomes
 outcomes_in-next segments j s h is =
     ap outcomes_in (take_more segments j s h ∙ ap (λ t. take j segments ++ t ∷ []) (sym is))
     ∙ outcomes_in-append (take j segments) (s ∷ [])
     ∙ ap (λ os. outcomes_in (take j segments) ++ os) (append-nil s.outcomes)
 
 -- the operation at a place, where the loop stands at segment j
-pub op-here : (segments : List Stretch) (j rest : ℕ) (s : Stretch) → j < length segments → s ≡ get_or segments j s → rest < length (ops_of s) → slice_get (trace_of (drop j segments)) rest ≡ slice_get (ops_of s) rest
+pub op-here : (segments : List SegmentView) (j rest : ℕ) (s : SegmentView) → j < length segments → s ≡ get_or segments j s → rest < length (ops_of s) → slice_get (trace_of (drop j segments)) rest ≡ slice_get (ops_of s) rest
 op-here segments j rest s h is lt =
     ap (λ ss. slice_get (trace_of ss) rest) (drop-cons segments j s h ∙ ap (λ t. t ∷ drop (suc j) segments) (sym is))
     ∙ slice_get-append_left (ops_of s) (trace_of (drop (suc j) segments)) rest lt
 
-pub op-next : (segments : List Stretch) (j rest : ℕ) (s : Stretch) → j < length segments → s ≡ get_or segments j s → length (ops_of s) ≤ rest → slice_get (trace_of (drop j segments)) rest ≡ slice_get (trace_of (drop (j + 1) segments)) (rest - length (ops_of s))
+pub op-next : (segments : List SegmentView) (j rest : ℕ) (s : SegmentView) → j < length segments → s ≡ get_or segments j s → length (ops_of s) ≤ rest → slice_get (trace_of (drop j segments)) rest ≡ slice_get (trace_of (drop (j + 1) segments)) (rest - length (ops_of s))
 op-next segments j rest s h is le =
     ap (λ ss. slice_get (trace_of ss) rest) (drop-cons segments j s h ∙ ap (λ t. t ∷ drop (suc j) segments) (sym is))
     ∙ slice_get-append_right (ops_of s) (trace_of (drop (suc j) segments)) rest le

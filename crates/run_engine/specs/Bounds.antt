@@ -11,11 +11,11 @@ abbrev pub AgreesAt : List Operation → List Operation → ℕ → ℕ → ℕ 
 AgreesAt old ops a b p = end_from nothing_held (take p old) ≡ end_from nothing_held (take (p - a + b) ops)
 
 -- from r on no more operations were stepped than up to the end, or up to any checkpoint at or behind a where the states agree
-pub record IsBounded (old ops : List Operation) (a b : ℕ) (marks : List ℕ) (r before after : ℕ) : Type 0 where
+pub record StepsAtMost (old ops : List Operation) (a b : ℕ) (marks : List ℕ) (r before after : ℕ) : Type 0 where
   pub whole : after + r ≤ before + length ops
   pub stop : (p : ℕ) → Contains marks p → a ≤ p → AgreesAt old ops a b p → after + r ≤ before + (p - a + b)
 
 -- the bound from the greatest checkpoint at or before the head
-abbrev pub IsBoundedFrom : List Operation → List Operation → List ℕ → ℕ → ℕ → Type 0
-IsBoundedFrom old ops marks before after =
-    (head tail r : ℕ) → AreShared old ops head tail → IsGreatest marks head r → IsBounded old ops (length old - tail) (length ops - tail) marks r before after
+abbrev pub StepsAtMostFrom : List Operation → List Operation → List ℕ → ℕ → ℕ → Type 0
+StepsAtMostFrom old ops marks before after =
+    (head tail r : ℕ) → AreShared old ops head tail → IsGreatest marks head r → StepsAtMost old ops (length old - tail) (length ops - tail) marks r before after

@@ -1,7 +1,7 @@
 pub mod Edited
 pub mod Shifts
 pub mod Part
-pub mod Stretch
+pub mod SegmentView
 pub mod Marks
 pub mod Segments
 pub mod RunView

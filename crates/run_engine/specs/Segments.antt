@@ -4,15 +4,15 @@ use Rattle.trace_types.specs.Trace.{IsTrace}
 use Rattle.ownership_model.specs.State.{State, nothing_held}
 use Rattle.trace_types.specs.Operation.{Operation}
 use Rattle.trace_types.specs.declared.outcomes.Outcome.{Outcome}
-use Rattle.run_engine.specs.Stretch.{Stretch}
+use Rattle.run_engine.specs.SegmentView.{SegmentView}
 use Rattle.run_engine.specs.Marks.{IsGreatest}
 use Rattle.ownership_model.specs.Step.{end_from, outcomes_from}
 
-abbrev pub ops_of : Stretch → List Operation
+abbrev pub ops_of : SegmentView → List Operation
 ops_of s = s.ops
 
 -- the operations of all segments
-abbrev pub trace_of : List Stretch → List Operation
+abbrev pub trace_of : List SegmentView → List Operation
 trace_of [] = []
 trace_of (s ∷ segments) = ops_of s ++ trace_of segments
 
@@ -22,7 +22,7 @@ mark_here at None = []
 mark_here at (Some m) = at ∷ []
 
 -- the positions of the checkpoints, where the first segment begins at `at`
-abbrev pub marks_from : ℕ → List Stretch → List ℕ
+abbrev pub marks_from : ℕ → List SegmentView → List ℕ
 marks_from at [] = []
 marks_from at (s ∷ segments) = mark_here at s.mark ++ marks_from (at + length (ops_of s)) segments
 
@@ -31,48 +31,48 @@ abbrev pub IsMarkOf : State → Option State → Type 0
 IsMarkOf m None = Unit {0}
 IsMarkOf m (Some n) = n ≡ m
 
-pub record IsSegmentFrom (m : State) (s : Stretch) : Type 0 where
+pub record IsSegmentFrom (m : State) (s : SegmentView) : Type 0 where
   pub mark : IsMarkOf m s.mark
   pub outcomes : s.outcomes ≡ outcomes_from m (ops_of s)
 
 -- the segments are a replay from m
-abbrev pub AreReplayFrom : State → List Stretch → Type 0
+abbrev pub AreReplayFrom : State → List SegmentView → Type 0
 AreReplayFrom m [] = Unit {0}
 AreReplayFrom m (s ∷ segments) = IsSegmentFrom m s × AreReplayFrom (end_from m (ops_of s)) segments
 
-abbrev pub outcomes_of_segment : Stretch → List Outcome
+abbrev pub outcomes_of_segment : SegmentView → List Outcome
 outcomes_of_segment s = s.outcomes
 
 -- the outcomes of all segments
-abbrev pub outcomes_in : List Stretch → List Outcome
+abbrev pub outcomes_in : List SegmentView → List Outcome
 outcomes_in [] = []
 outcomes_in (s ∷ segments) = s.outcomes ++ outcomes_in segments
 
 -- the segments, where the one at i has no checkpoint
-abbrev pub without_mark : List Stretch → ℕ → List Stretch
+abbrev pub without_mark : List SegmentView → ℕ → List SegmentView
 without_mark [] i = []
 without_mark (s ∷ segments) zero = record s { mark = None } ∷ segments
 without_mark (s ∷ segments) (suc i) = s ∷ without_mark segments i
 
 -- no segment is empty
-abbrev pub AreFull : List Stretch → Type 0
+abbrev pub AreFull : List SegmentView → Type 0
 AreFull [] = Unit {0}
 AreFull (s ∷ segments) = (0 < length s.ops) × AreFull segments
 
 -- the first segment, where there is one, has its checkpoint
-abbrev pub BeginsMarked : List Stretch → Type 0
+abbrev pub BeginsMarked : List SegmentView → Type 0
 BeginsMarked [] = Unit {0}
 BeginsMarked (s ∷ segments) = IsTrue (is_some s.mark)
 
 -- segments and the state after them
-pub record IsRun (segments : List Stretch) (end : State) : Type 0 where
+pub record IsRun (segments : List SegmentView) (end : State) : Type 0 where
   pub replay : AreReplayFrom nothing_held segments
   pub full : AreFull segments
   pub begins : BeginsMarked segments
   pub state : end ≡ end_from nothing_held (trace_of segments)
 
 -- the segments are the replay of the first `at` operations
-pub record IsReached (ops : List Operation) (at : ℕ) (segments : List Stretch) (end : State) : Type 0 where
+pub record IsReached (ops : List Operation) (at : ℕ) (segments : List SegmentView) (end : State) : Type 0 where
   pub within : at ≤ length ops
   pub trace : trace_of segments ≡ take at ops
   pub replay : AreReplayFrom nothing_held segments
@@ -81,7 +81,7 @@ pub record IsReached (ops : List Operation) (at : ℕ) (segments : List Stretch)
   pub state : end ≡ end_from nothing_held (take at ops)
 
 -- segments that go on from a state, with a checkpoint where they begin and no other
-pub record IsPiece (start : State) (ops : List Operation) (segments : List Stretch) (end : State) (len : ℕ) : Type 0 where
+pub record IsPiece (start : State) (ops : List Operation) (segments : List SegmentView) (end : State) (len : ℕ) : Type 0 where
   pub some : 0 < len
   pub fits : len ≤ length ops
   pub trace : trace_of segments ≡ take len ops
@@ -92,23 +92,23 @@ pub record IsPiece (start : State) (ops : List Operation) (segments : List Stret
   pub marks : (at : ℕ) → marks_from at segments ≡ at ∷ []
 
 -- the positions of all checkpoints: the end is one
-abbrev pub all_marks : List Stretch → List ℕ
+abbrev pub all_marks : List SegmentView → List ℕ
 all_marks segments = marks_from 0 segments ++ length (trace_of segments) ∷ []
 
 -- the greatest kept checkpoint at or before the head: the segment i begins at `at`, with the heap there
-pub record IsRestart (segments : List Stretch) (head i at : ℕ) (heap : State) : Type 0 where
+pub record IsRestart (segments : List SegmentView) (head i at : ℕ) (heap : State) : Type 0 where
   pub within : i ≤ length segments
   pub place : length (trace_of (take i segments)) ≡ at
   pub greatest : IsGreatest (all_marks segments) head at
   pub heap_is : heap ≡ end_from nothing_held (trace_of (take i segments))
 
 -- what is true of each run
-pub record IsKept (segments : List Stretch) (end : State) : Type 0 where
+pub record IsKept (segments : List SegmentView) (end : State) : Type 0 where
   pub run : IsRun segments end
   pub trace : IsTrace (trace_of segments)
 
 -- whether the segment at i has its checkpoint
-abbrev pub has_mark : List Stretch → ℕ → Bool
+abbrev pub has_mark : List SegmentView → ℕ → Bool
 has_mark [] i = false
 has_mark (s ∷ segments) zero = is_some s.mark
 has_mark (s ∷ segments) (suc i) = has_mark segments i
@@ -124,5 +124,5 @@ abbrev pub without : ℕ → List ℕ → List ℕ
 without p marks = filter (λ q. not (nat_eq q p)) marks
 
 -- no checkpoint of the segments stands at p
-abbrev pub IsNoMark : List Stretch → ℕ → Type 0
+abbrev pub IsNoMark : List SegmentView → ℕ → Type 0
 IsNoMark segments p = Contains (marks_from 0 segments) p → ⊥

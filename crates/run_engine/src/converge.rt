@@ -5,7 +5,7 @@ ghost use Rattle.ownership_model.specs.Step.{AreNew};
 ghost use Rattle.run_engine.specs.Segments.{trace_of, marks_from, all_marks, IsRun, IsReached, IsPiece};
 ghost use Rattle.run_engine.specs.Part.{part};
 ghost use Rattle.run_engine.specs.Common.{ShareEnd};
-ghost use Rattle.run_engine.specs.Bounds.{IsBounded};
+ghost use Rattle.run_engine.specs.Bounds.{StepsAtMost};
 ghost use Rattle.run_engine.specs.NewMarks.{AreLaid, AreMarksOf, IsGap};
 ghost use Rattle.run_engine.specs.Steps.{AreTaken, HaveStepped, AreStepped};
 
@@ -129,7 +129,7 @@ pub fn converge(
     ensures run { IfOk result (λ r. IsRun r.0.items r.1) }
     ensures trace { IfOk result (λ r. trace_of r.0.items ≡ ops.now) }
     ensures marks { IfOk result (λ r. AreMarksOf (trace_of old.now) ops.now (marks_from 0 front.segments.items) (all_marks old.now) (all_marks r.0.items) front.at a b) }
-    ensures bound { IsBounded (trace_of old.now) ops.now a b (all_marks old.now) front.at meter.old meter.new }
+    ensures bound { StepsAtMost (trace_of old.now) ops.now a b (all_marks old.now) front.at meter.old meter.new }
     ensures stepped { IfOk result (λ _. AreStepped (trace_of old.now) ops.now a b (all_marks old.now) front.at meter.old meter.new) }
 {
     let mut front = front;

@@ -2,7 +2,7 @@
 ghost use Rattle.std.specs.Prelude.{◌≡◌, ◌^◌, ◌<◌, ◌≤◌, IfOk, length, take};
 ghost use Rattle.trace_types.specs.Trace.{IsTrace};
 ghost use Rattle.run_engine.specs.Segments.{trace_of, all_marks, IsRun, IsRestart};
-ghost use Rattle.run_engine.specs.Bounds.{IsBoundedFrom};
+ghost use Rattle.run_engine.specs.Bounds.{StepsAtMostFrom};
 ghost use Rattle.run_engine.specs.NewMarks.{AreMarksAfter};
 ghost use Rattle.run_engine.specs.Steps.{AreSteppedFrom};
 
@@ -89,7 +89,7 @@ pub fn resumed(
     ensures run { IfOk result (λ r. IsRun r.0.items r.1) }
     ensures trace { IfOk result (λ r. trace_of r.0.items ≡ ops.now) }
     ensures marks { IfOk result (λ r. AreMarksAfter (record { trace = old.now; marks = all_marks segments.now }) (record { trace = ops.now; marks = all_marks r.0.items })) }
-    ensures bound { IsBoundedFrom old.now ops.now (all_marks segments.now) meter.old meter.new }
+    ensures bound { StepsAtMostFrom old.now ops.now (all_marks segments.now) meter.old meter.new }
     ensures stepped { IfOk result (λ _. AreSteppedFrom old.now ops.now (all_marks segments.now) meter.old meter.new) }
 {
     let first = head(old, ops);

@@ -10,7 +10,7 @@ ghost use Rattle.run_engine.specs.declared.faults.RunFault.TheVariants.{EmptyBat
 ghost use Rattle.run_engine.specs.Edited.{edited_by};
 ghost use Rattle.run_engine.specs.Segments.{without, IsInner};
 ghost use Rattle.run_engine.specs.Marks.{load_marks};
-ghost use Rattle.run_engine.specs.Bounds.{IsBoundedFrom};
+ghost use Rattle.run_engine.specs.Bounds.{StepsAtMostFrom};
 ghost use Rattle.run_engine.specs.NewMarks.{AreMarksAfter};
 ghost use Rattle.run_engine.specs.Steps.{AreRising, AreSteppedFrom};
 
@@ -98,7 +98,7 @@ impl Run {
         ensures fault { IfErr result (λ e. (e ≡ Memory) ⊎ (edited_by self.now.trace batch.now ≡ Err e)) }
         ensures empty { length batch.now ≡ 0 → result ≡ Err EmptyBatch }
         ensures too_many { 64 < length batch.now → result ≡ Err TooManyEdits }
-        ensures bound { (ops : List Operation) → edited_by self.now.trace batch.now ≡ Ok ops → IsBoundedFrom self.now.trace ops self.now.marks meter.old meter.new }
+        ensures bound { (ops : List Operation) → edited_by self.now.trace batch.now ≡ Ok ops → StepsAtMostFrom self.now.trace ops self.now.marks meter.old meter.new }
         ensures stepped { IfOk result (λ r. AreSteppedFrom self.now.trace r.trace self.now.marks meter.old meter.new) }
         ensures refused { IsErr (edited_by self.now.trace batch.now) → meter.new ≡ meter.old }
     {
@@ -128,7 +128,7 @@ impl Run {
         requires trace { IsTrace ops.now }
         ensures trace { IfOk result (λ r. r.trace ≡ ops.now) }
         ensures marks { IfOk result (λ r. AreMarksAfter self.now r) }
-        ensures bound { IsBoundedFrom self.now.trace ops.now self.now.marks meter.old meter.new }
+        ensures bound { StepsAtMostFrom self.now.trace ops.now self.now.marks meter.old meter.new }
         ensures stepped { IfOk result (λ _. AreSteppedFrom self.now.trace ops.now self.now.marks meter.old meter.new) }
     {
         let (segments, end) = resumed(alloc, &self.segments, &self.end, old, ops, meter)?;

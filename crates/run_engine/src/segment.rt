@@ -1,4 +1,4 @@
-//! A stretch of a run.
+//! A segment of a run.
 ghost use Rattle.std.specs.Prelude.{◌≡◌, ◌++◌, IfOk, OnOk, None, is_some};
 ghost use Rattle.std.specs.Option.{option_copied};
 
@@ -25,11 +25,11 @@ pub struct Segment {
 
 impl Model for Segment {
     ghost use Rattle.std.specs.Arc.{arc_value};
-    ghost use Rattle.run_engine.specs.Stretch.{Stretch, stretch_code};
+    ghost use Rattle.run_engine.specs.SegmentView.{SegmentView, segment_code};
 
-    ghost Value = { Stretch };
+    ghost Value = { SegmentView };
 
-    ghost coded = { stretch_code };
+    ghost coded = { segment_code };
 
     ghost view = { λ s. record { mark = s.mark; ops = (arc_value s.body).ops.items; outcomes = (arc_value s.body).outcomes } };
 }

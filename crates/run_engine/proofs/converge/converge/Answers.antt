@@ -4,7 +4,7 @@ use Rattle.std.specs.Prelude.{is_some}
 use Rattle.ownership_model.specs.State.{nothing_held}
 use Rattle.trace_types.specs.Operation.{Operation}
 use Rattle.ownership_model.specs.Step.{end_from}
-use Rattle.run_engine.specs.Stretch.{Stretch}
+use Rattle.run_engine.specs.SegmentView.{SegmentView}
 use Rattle.run_engine.specs.Segments.{trace_of, marks_from, IsReached}
 use Rattle.run_engine.specs.Common.{ShareEnd}
 use Rattle.std.proofs.Math.Seq.{take-length}
@@ -55,7 +55,7 @@ pub returns-then-same-clause-bound : goal.returns-then-same-clause-bound
 returns-then-same-clause-bound c =
     bounded _ _ _ _ _ _ _ _ _ _ _ _ _ c.loop-i.invariant.beside c.requires.shared c.if-at-a.true (omega (arith, c.loop-i.invariant.beside.rise, c.advance.ensures.rise))
 
-place-end : (old : List Stretch) (i at : ℕ) → length old ≤ i → i ≤ length old → length (trace_of (take i old)) ≡ at → at ≡ length (trace_of old)
+place-end : (old : List SegmentView) (i at : ℕ) → length old ≤ i → i ≤ length old → length (trace_of (take i old)) ≡ at → at ≡ length (trace_of old)
 place-end old i at ge le e = let n : i ≡ length old = omega arith in sym e ∙ ap (λ j. length (trace_of (take j old))) n ∙ ap (λ ss. length (trace_of ss)) (take-length old)
 
 spliced-raw : (c : goal.In_ok-share) → IsSpliced c.args.ops.now (c.in_ok-front.front.segments.items ++ drop c.loop-i.i c.args.old.now) c.args.end.now

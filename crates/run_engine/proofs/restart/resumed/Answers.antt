@@ -1,7 +1,7 @@
 use Rattle.std.proofs.Common.{◌≡◌, ◌-◌, length, take, sym, subst}
 use Rattle.ownership_model.proofs.ReplayLemmas.{distinct_new}
 use Rattle.run_engine.specs.Segments.{all_marks}
-use Rattle.run_engine.specs.Bounds.{IsBounded}
+use Rattle.run_engine.specs.Bounds.{StepsAtMost}
 use Rattle.run_engine.specs.Steps.{AreStepped}
 use Rattle.run_engine.specs.Common.{AreShared}
 use Rattle.run_engine.proofs.CommonLemmas.{ShareEnd-tail, from-greatest, bounded-none}
@@ -26,20 +26,20 @@ returns-in_err-front-clause-bound c = bounded-none c.args.old.now c.args.ops.now
 
 pub returns-in_err-segments-clause-bound : goal.returns-in_err-segments-clause-bound
 returns-in_err-segments-clause-bound c =
-    from-greatest (λ t r. IsBounded c.args.old.now c.args.ops.now (length c.args.old.now - t) (length c.args.ops.now - t) (all_marks c.args.segments.now) r c.args.meter.now c.converge.new.meter)
+    from-greatest (λ t r. StepsAtMost c.args.old.now c.args.ops.now (length c.args.old.now - t) (length c.args.ops.now - t) (all_marks c.args.segments.now) r c.args.meter.now c.converge.new.meter)
     c.args.old.now c.args.ops.now (all_marks c.args.segments.now) c.head-first.result c.tail-last.result c.in_ok-front.front.at
     (record { head_is = c.head-first.ensures; tail_is = c.tail-last.ensures })
     c.in_ok-front.ensures.kept.greatest
-    (subst (λ t. IsBounded t c.args.ops.now (length t - c.tail-last.result) (length c.args.ops.now - c.tail-last.result) (all_marks c.args.segments.now) c.in_ok-front.front.at c.args.meter.now c.converge.new.meter) (sym c.requires.old)
+    (subst (λ t. StepsAtMost t c.args.ops.now (length t - c.tail-last.result) (length c.args.ops.now - c.tail-last.result) (all_marks c.args.segments.now) c.in_ok-front.front.at c.args.meter.now c.converge.new.meter) (sym c.requires.old)
     (rw (c.len.ensures, c.len-2.ensures, c.requires.old) at c.converge.ensures.bound))
 
 pub returns-clause-bound : goal.returns-clause-bound
 returns-clause-bound c =
-    from-greatest (λ t r. IsBounded c.args.old.now c.args.ops.now (length c.args.old.now - t) (length c.args.ops.now - t) (all_marks c.args.segments.now) r c.args.meter.now c.converge.new.meter)
+    from-greatest (λ t r. StepsAtMost c.args.old.now c.args.ops.now (length c.args.old.now - t) (length c.args.ops.now - t) (all_marks c.args.segments.now) r c.args.meter.now c.converge.new.meter)
     c.args.old.now c.args.ops.now (all_marks c.args.segments.now) c.head-first.result c.tail-last.result c.in_ok-front.front.at
     (record { head_is = c.head-first.ensures; tail_is = c.tail-last.ensures })
     c.in_ok-front.ensures.kept.greatest
-    (subst (λ t. IsBounded t c.args.ops.now (length t - c.tail-last.result) (length c.args.ops.now - c.tail-last.result) (all_marks c.args.segments.now) c.in_ok-front.front.at c.args.meter.now c.converge.new.meter) (sym c.requires.old)
+    (subst (λ t. StepsAtMost t c.args.ops.now (length t - c.tail-last.result) (length c.args.ops.now - c.tail-last.result) (all_marks c.args.segments.now) c.in_ok-front.front.at c.args.meter.now c.converge.new.meter) (sym c.requires.old)
     (rw (c.len.ensures, c.len-2.ensures, c.requires.old) at c.converge.ensures.bound))
 
 pub returns-clause-stepped : goal.returns-clause-stepped
