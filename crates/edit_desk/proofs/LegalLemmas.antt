@@ -28,12 +28,6 @@ stored s e false true (Ok ops) is = refl
 stored s e false true (Err fault) is = refl
 stored s e false false x is = refl
 
-opening_stays : (s : Standing) (e : Entry) (reply : Reply) → (after_reply s e reply).opening ≡ s.opening
-opening_stays s e (Accepted v) = refl
-opening_stays s e (Stale v) = refl
-opening_stays s e (Refused fault) = refl
-opening_stays s e HistoryFull = refl
-
 one_more : (s : Standing) (e : Entry) (full same : Bool) (x : Result (List Operation) RunFault)
     → (after_reply s e (chosen full same s.version x)).version ≤ s.version + 1
 one_more s e true same x = omega arith
@@ -60,4 +54,4 @@ stands_after s e trace version history room reply trace_is version_is history_is
     let told : (after s e.session e.request).history ≡ s.history ++ due ∷ [] =
     stored s due (nat_le 1000000 (length s.history)) (e.request.base == s.version) (edited_by s.trace e.request.batch) (is_room (length s.history) room) in
     let all : history ≡ (after s e.session e.request).history = history_is ∙ ap (λ x. s.history ++ x ∷ []) same ∙ sym told in
-    λ i. record { opening = sym (opening_stays s due (reply_to s e.request)) i; trace = trace_is i; version = version_is i; history = all i }
+    λ i. record { opening = s.opening; trace = trace_is i; version = version_is i; history = all i }

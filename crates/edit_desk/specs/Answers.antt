@@ -29,23 +29,43 @@ abbrev pub settled : ℕ → Result (List Operation) RunFault → Reply
 settled version (Ok ops) = Accepted (version + 1)
 settled version (Err fault) = Refused fault
 
+-- the reply to a request that a history has room for, by the version and the trace that stand
+abbrev pub reply_with_room : ℕ → List Operation → Request → Reply
+reply_with_room version trace r = if r.base == version then settled version (edited_by trace r.batch) else Stale version
+
 -- the reply to a request
 abbrev pub reply_to : Standing → Request → Reply
-reply_to s r =
-    if nat_le max_entries (length s.history) then HistoryFull
-    else (if r.base == s.version then settled s.version (edited_by s.trace r.batch) else Stale s.version)
+reply_to s r = if nat_le max_entries (length s.history) then HistoryFull else reply_with_room s.version s.trace r
 
 -- the edited trace, or the one that stands where the edits are refused
 abbrev pub edited_or : List Operation → Result (List Operation) RunFault → List Operation
 edited_or trace (Ok ops) = ops
 edited_or trace (Err fault) = trace
 
--- an accepted request changes the trace and its version; each that is answered otherwise than by HistoryFull is stored
+-- the trace after a reply: an accepted request alone changes it
+abbrev pub next_trace : List Operation → Request → Reply → List Operation
+next_trace trace r (Accepted version) = edited_or trace (edited_by trace r.batch)
+next_trace trace r (Stale version) = trace
+next_trace trace r (Refused fault) = trace
+next_trace trace r HistoryFull = trace
+
+-- the version after a reply
+abbrev pub next_version : ℕ → Reply → ℕ
+next_version now (Accepted version) = version
+next_version now (Stale version) = now
+next_version now (Refused fault) = now
+next_version now HistoryFull = now
+
+-- the history after a reply: each request that is answered otherwise than by HistoryFull is stored
+abbrev pub next_history : List Entry → Entry → Reply → List Entry
+next_history history e (Accepted version) = history ++ e ∷ []
+next_history history e (Stale version) = history ++ e ∷ []
+next_history history e (Refused fault) = history ++ e ∷ []
+next_history history e HistoryFull = history
+
+-- what stands after a reply
 abbrev pub after_reply : Standing → Entry → Reply → Standing
-after_reply s e (Accepted version) = record { opening = s.opening; trace = edited_or s.trace (edited_by s.trace e.request.batch); version = version; history = s.history ++ e ∷ [] }
-after_reply s e (Stale version) = record s { history = s.history ++ e ∷ [] }
-after_reply s e (Refused fault) = record s { history = s.history ++ e ∷ [] }
-after_reply s e HistoryFull = s
+after_reply s e reply = record { opening = s.opening; trace = next_trace s.trace e.request reply; version = next_version s.version reply; history = next_history s.history e reply }
 
 -- what stands after a request
 abbrev pub after : Standing → ℕ → Request → Standing

@@ -1,5 +1,5 @@
 -- What a desk has, and what it prepares.
-use Rattle.std.specs.Prelude.{◌≡◌, ◌⊎◌, ℕ, ◌==◌, List, Ok, if◌then◌else◌}
+use Rattle.std.specs.Prelude.{◌≡◌, ◌⊎◌, ℕ, List, Ok}
 use Rattle.trace_types.specs.Operation.{Operation}
 use Rattle.trace_types.specs.declared.edits.Edit.{Edit}
 use Rattle.run_engine.specs.RunView.{RunView}
@@ -9,9 +9,8 @@ use Rattle.run_engine.specs.Steps.{AreSteppedFrom}
 use Rattle.edit_desk.specs.declared.entries.Entry.{Entry}
 use Rattle.edit_desk.specs.declared.entries.Request.{Request}
 use Rattle.edit_desk.specs.declared.replies.Reply.{Reply}
-use Rattle.edit_desk.specs.declared.replies.Reply.TheVariants.{Accepted, Stale, Refused, HistoryFull}
 use Rattle.run_engine.specs.Edited.{edited_by}
-use Rattle.edit_desk.specs.Answers.{Standing, settled, reply_to, edited_or, after}
+use Rattle.edit_desk.specs.Answers.{Standing, reply_with_room, reply_to, next_trace, next_version, after}
 
 -- a version of the trace, with its run
 pub record Version : Type 0 where
@@ -36,24 +35,10 @@ pub record IsDue (s : Standing) (p : PreparedView) : Type 0 where
   pub trace : p.next.run.trace ≡ (after s p.entry.session p.entry.request).trace
   pub version : p.next.version ≡ (after s p.entry.session p.entry.request).version
 
--- the version after an accepted reply
-abbrev pub next_version : ℕ → Reply → ℕ
-next_version now (Accepted version) = version
-next_version now (Stale version) = now
-next_version now (Refused fault) = now
-next_version now HistoryFull = now
-
--- the trace after a reply
-abbrev pub next_trace : Version → Request → Reply → List Operation
-next_trace v r (Accepted version) = edited_or v.run.trace (edited_by v.run.trace r.batch)
-next_trace v r (Stale version) = v.run.trace
-next_trace v r (Refused fault) = v.run.trace
-next_trace v r HistoryFull = v.run.trace
-
 -- the reply to a request that a history has room for, and what stands then
 pub record IsSettled (v : Version) (r : Request) (reply : Reply) (next : Version) : Type 0 where
-  pub reply_is : reply ≡ (if r.base == v.version then settled v.version (edited_by v.run.trace r.batch) else Stale v.version)
-  pub trace : next.run.trace ≡ next_trace v r reply
+  pub reply_is : reply ≡ reply_with_room v.version v.run.trace r
+  pub trace : next.run.trace ≡ next_trace v.run.trace r reply
   pub version : next.version ≡ next_version v.version reply
 
 -- where the edits are made, the meter rises from one count to the other by at most the bound of the edit
