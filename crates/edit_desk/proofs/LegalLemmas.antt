@@ -6,7 +6,7 @@ use Rattle.trace_types.specs.Operation.{Operation}
 use Rattle.run_engine.specs.declared.faults.RunFault.{RunFault}
 use Rattle.run_engine.specs.Edited.{edited_by}
 use Rattle.edit_desk.specs.declared.replies.Reply.{Reply}
-use Rattle.edit_desk.specs.declared.replies.Reply.TheVariants.{Accepted, Stale, Refused, HistoryFull}
+use Rattle.edit_desk.specs.declared.replies.Reply.TheVariants.{Stale, HistoryFull}
 use Rattle.edit_desk.specs.declared.entries.Request.{Request}
 use Rattle.edit_desk.specs.declared.entries.Entry.{Entry}
 use Rattle.edit_desk.specs.Answers.{Standing, settled, reply_to, after_reply, after, LeadsTo}

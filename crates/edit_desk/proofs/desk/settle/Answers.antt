@@ -1,4 +1,4 @@
-use Rattle.std.proofs.Common.{◌≡◌, List, Ok, subst, rules}
+use Rattle.std.proofs.Common.{◌≡◌, List, subst, rules}
 use mathlib.Core.Logic.{⊎_elim}
 use Rattle.trace_types.specs.Operation.{Operation}
 use Rattle.run_engine.specs.Steps.{AreSteppedFrom}

@@ -1,12 +1,12 @@
-use Rattle.std.proofs.Common.{◌≡◌, ℕ, ◌+◌, ◌-◌, ◌<◌, length, drop, Bool, true, false, refl, ap, sym, ◌∙◌, arith, cond, List, Option, get_or, subst}
-use Rattle.std.specs.Prelude.{◌==◌, Some, if◌then◌else◌, is_some}
+use Rattle.std.proofs.Common.{◌≡◌, ℕ, ◌+◌, ◌-◌, length, drop, Bool, false, refl, ap, sym, ◌∙◌, arith, cond, List, get_or}
+use Rattle.std.specs.Prelude.{◌==◌, Some, is_some}
 use Rattle.std.specs.List.{position_from}
 use Rattle.std.proofs.lemmas.Grind.{common_steps}
 use Rattle.std.proofs.lemmas.Bool.Decides.{nat_tests}
 use Rattle.trace_types.specs.Operation.{Operation}
 use Rattle.std.specs.BTreeMap.{get, is_at}
 use Rattle.std.specs.Ordering.{nat_cmp}
-use Rattle.run_engine.proofs.ListingLemmas.{position-here, position-none}
+use Rattle.run_engine.proofs.ListingLemmas.{position-none}
 use Rattle.run_engine.proofs.ShiftLemmas.{one_back, unlike}
 use Rattle.run_engine.proofs.editing.placed.Goals.{then-contains_key+in_ok-insert, else-contains_key}
 use Rattle.run_engine.proofs.editing.placed.Goals as goal

@@ -1,4 +1,4 @@
-use Rattle.std.proofs.Common.{◌≡◌, ℕ, ◌<◌, ◌∙◌, length, ap, sym, subst, List, false, Option, Some}
+use Rattle.std.proofs.Common.{◌≡◌, ℕ, ◌<◌, ◌∙◌, length, ap, sym, List, Some}
 use mathlib.Core.Logic.{⊎_elim}
 use Rattle.trace_types.specs.Operation.{Operation}
 use Rattle.trace_types.specs.Trace.{IsTrace, place_of, is_taken}

@@ -1,6 +1,6 @@
 use Rattle.std.proofs.Common.{◌≡◌, ◌<◌, ◌≤◌, ◌∙◌, length, ap, sym, subst, List, false, arith}
 use Rattle.trace_types.specs.Operation.{Operation}
-use Rattle.trace_types.specs.Trace.{IsTrace, is_taken}
+use Rattle.trace_types.specs.Trace.{is_taken}
 use Rattle.run_engine.specs.declared.shift.Shift.{Shift}
 use Rattle.run_engine.specs.declared.shift.Shift.TheVariants.{Inserted}
 use Rattle.run_engine.specs.Shifts.{shifted}

@@ -1,6 +1,5 @@
-use Rattle.std.proofs.Common.{◌≡◌, ◌<◌, ◌∙◌, length, ap, sym, subst, List}
+use Rattle.std.proofs.Common.{◌<◌, ◌∙◌, length, ap, sym, subst, List}
 use Rattle.trace_types.specs.Operation.{Operation}
-use Rattle.trace_types.specs.Trace.{IsTrace}
 use Rattle.run_engine.specs.declared.shift.Shift.{Shift}
 use Rattle.run_engine.specs.declared.shift.Shift.TheVariants.{Removed}
 use Rattle.run_engine.specs.Shifts.{shifted}
