@@ -5,12 +5,12 @@ use Rattle.std.specs.List.{position_from}
 use Rattle.std.proofs.lemmas.Grind.{common_steps}
 use Rattle.std.proofs.lemmas.Bool.Decides.{nat_tests}
 use Rattle.trace_types.specs.Operation.{Operation}
-use Rattle.trace_types.specs.Trace.{place_of, is_taken, has_distinct_numbers}
+use Rattle.trace_types.specs.Trace.{IsTrace, place_of, is_taken, has_distinct_numbers}
 use Rattle.run_engine.specs.declared.shift.Shift.{Shift}
 use Rattle.run_engine.specs.declared.shift.Shift.TheVariants.{Inserted, Removed, Exchanged}
 use Rattle.run_engine.proofs.ListingLemmas.{position-here}
 use Rattle.run_engine.proofs.EditLemmas.{left, right}
-use Rattle.run_engine.specs.Shifts.{moved_up, moved_down, vacated, shifted, shifted_by}
+use Rattle.run_engine.specs.Shifts.{moved_up, moved_down, vacated, shifted, shifted_by, PlaceFits, PlacesFit}
 
 or_left : (a b : Bool) → (a || b) ≡ false → a ≡ false
 or_left true b e = absurd cc
@@ -35,20 +35,20 @@ alone id n o ops d e =
     let same : o.id ≡ id = grind (arith, nat_tests, e) in
     nowhere id n ops (ap (λ k. is_taken k ops) (sym same) ∙ untrue (is_taken o.id ops) (left (not (is_taken o.id ops)) (has_distinct_numbers ops) d))
 
-up_here : (n m : ℕ) → m ≤ n → n < 65536 → Some (n + 1) ≡ moved_up m (Some n)
-up_here n m le few = grind (arith, common_steps, nat_tests, le, few)
+up_here : (n m : ℕ) → m ≤ n → Some (n + 1) ≡ moved_up m (Some n)
+up_here n m le = grind (arith, common_steps, nat_tests, le)
 
 up_before : (n m : ℕ) → n < m → Some n ≡ moved_up m (Some n)
 up_before n m lt = grind (arith, common_steps, nat_tests, lt)
 
 -- all from n on, one place later
-later : (id n m : ℕ) (ops : List Operation) → m ≤ n → n + length ops ≤ 65536 → position_from (λ o. o.id == id) (n + 1) ops ≡ moved_up m (position_from (λ o. o.id == id) n ops)
-later id n m [] le few = refl
-later id n m (o ∷ ops) le few = by_test (o.id == id) (later id (n + 1) m ops (omega arith) (omega (arith, few)))
+later : (id n m : ℕ) (ops : List Operation) → m ≤ n → position_from (λ o. o.id == id) (n + 1) ops ≡ moved_up m (position_from (λ o. o.id == id) n ops)
+later id n m [] le = refl
+later id n m (o ∷ ops) le = by_test (o.id == id) (later id (n + 1) m ops (omega arith))
   where
     by_test : (b : Bool) → position_from (λ x. x.id == id) (n + 1 + 1) ops ≡ moved_up m (position_from (λ x. x.id == id) (n + 1) ops)
         → (if b then Some (n + 1) else position_from (λ x. x.id == id) (n + 1 + 1) ops) ≡ moved_up m (if b then Some n else position_from (λ x. x.id == id) (n + 1) ops)
-    by_test true rest = up_here n m le (omega (arith, few))
+    by_test true rest = up_here n m le
     by_test false rest = rest
 
 -- a new operation stands where it came
@@ -61,13 +61,13 @@ inserted_own id n (suc q) (o ∷ ops) op le new own =
     grind (arith, common_steps, or_left (o.id == id) (is_taken id ops) new, inserted_own id (n + 1) q ops op (omega (arith, le)) (or_right (o.id == id) (is_taken id ops) new) own, next)
 
 -- the others follow it, or stay before it
-inserted_other : (id n q : ℕ) (ops : List Operation) (op : Operation) → n + length ops ≤ 65536 → (op.id == id) ≡ false
+inserted_other : (id n q : ℕ) (ops : List Operation) (op : Operation) → (op.id == id) ≡ false
     → position_from (λ o. o.id == id) n (insert ops q op) ≡ moved_up (n + q) (position_from (λ o. o.id == id) n ops)
-inserted_other id n zero ops op few other = grind (arith, common_steps, other, later id n (n + 0) ops (omega arith) few)
-inserted_other id n (suc q) [] op few other = grind (arith, common_steps, other)
-inserted_other id n (suc q) (o ∷ ops) op few other =
+inserted_other id n zero ops op other = grind (arith, common_steps, other, later id n (n + 0) ops (omega arith))
+inserted_other id n (suc q) [] op other = grind (arith, common_steps, other)
+inserted_other id n (suc q) (o ∷ ops) op other =
     let next : n + 1 + q ≡ n + suc q = omega arith in
-    by_test (o.id == id) (inserted_other id (n + 1) q ops op (omega (arith, few)) other ∙ ap (λ k. moved_up k (position_from (λ x. x.id == id) (n + 1) ops)) next)
+    by_test (o.id == id) (inserted_other id (n + 1) q ops op other ∙ ap (λ k. moved_up k (position_from (λ x. x.id == id) (n + 1) ops)) next)
   where
     by_test : (b : Bool) → position_from (λ x. x.id == id) (n + 1) (insert ops q op) ≡ moved_up (n + suc q) (position_from (λ x. x.id == id) (n + 1) ops)
         → (if b then Some n else position_from (λ x. x.id == id) (n + 1) (insert ops q op)) ≡ moved_up (n + suc q) (if b then Some n else position_from (λ x. x.id == id) (n + 1) ops)
@@ -174,19 +174,19 @@ exchanged_other id n (suc q) (o ∷ ops) op d other =
     by_test true rest = left_before n (n + suc q) (omega arith)
     by_test false rest = rest
 
-own_up : (b : Bool) (id q : ℕ) (ops : List Operation) (op : Operation) → (op.id == id) ≡ b → q ≤ length ops → is_taken op.id ops ≡ false → length ops ≤ 65536
+own_up : (b : Bool) (id q : ℕ) (ops : List Operation) (op : Operation) → (op.id == id) ≡ b → q ≤ length ops → is_taken op.id ops ≡ false
     → place_of id (insert ops q op) ≡ (if b then Some q else moved_up q (place_of id ops))
-own_up true id q ops op e le new few =
+own_up true id q ops op e le new =
     let same : op.id ≡ id = grind (arith, nat_tests, e) in
     let here : 0 + q ≡ q = omega arith in
     inserted_own id 0 q ops op le (ap (λ k. is_taken k ops) (sym same) ∙ new) e ∙ ap Some here
-own_up false id q ops op e le new few =
+own_up false id q ops op e le new =
     let here : 0 + q ≡ q = omega arith in
-    inserted_other id 0 q ops op (omega (arith, few)) e ∙ ap (λ k. moved_up k (place_of id ops)) here
+    inserted_other id 0 q ops op e ∙ ap (λ k. moved_up k (place_of id ops)) here
 
-pub place_inserted : (id q : ℕ) (ops : List Operation) (op : Operation) → q ≤ length ops → is_taken op.id ops ≡ false → length ops ≤ 65536
+pub place_inserted : (id q : ℕ) (ops : List Operation) (op : Operation) → q ≤ length ops → is_taken op.id ops ≡ false
     → place_of id (insert ops q op) ≡ shifted (Inserted q op.id) id (place_of id ops)
-place_inserted id q ops op le new few = own_up (op.id == id) id q ops op refl le new few
+place_inserted id q ops op le new = own_up (op.id == id) id q ops op refl le new
 
 pub place_removed : (id q : ℕ) (ops : List Operation) → IsTrue (has_distinct_numbers ops) → place_of id (remove ops q) ≡ shifted (Removed q) id (place_of id ops)
 place_removed id q ops d =
@@ -253,3 +253,23 @@ unlike f x id at none e = by_test (x == id) refl
         let some : is_some (f x) ≡ true = ap (λ k. is_some (f k)) same ∙ ap is_some e in
         absurd cc
     by_test false t = refl
+
+-- a place of a trace is within its limit
+pub place_of-within : (id : ℕ) (ops : List Operation) (place : Option ℕ) → IsTrace ops → place ≡ place_of id ops → PlaceFits place
+place_of-within id ops None h e = tt
+place_of-within id ops (Some p) h e = let lt : p < length ops = place_within id p ops (sym e) in omega (arith, lt, h.few)
+
+pub within-first : (shifts : List Shift) (id : ℕ) (place : Option ℕ) → PlacesFit shifts id place → PlaceFits place
+within-first [] id place h = h
+within-first (s ∷ shifts) id place h = h.0
+
+-- one edit more
+pub within-more : (shifts : List Shift) (s : Shift) (id : ℕ) (at : Option ℕ) → PlacesFit shifts id at → PlaceFits (shifted s id (shifted_by shifts id at)) → PlacesFit (shifts ++ s ∷ []) id at
+within-more [] s id at h last = (h, last)
+within-more (t ∷ shifts) s id at h last = (h.0, within-more shifts s id (shifted t id at) h.1 last)
+
+-- an edit of a trace moves each place to where the operation then stands
+pub stays-moved : (new : List Operation) (shifts : List Shift) (s : Shift) (id : ℕ) (at : Option ℕ) → IsTrace new → place_of id new ≡ shifted s id (shifted_by shifts id at) → PlacesFit shifts id at
+    → (place_of id new ≡ shifted_by (shifts ++ s ∷ []) id at) × PlacesFit (shifts ++ s ∷ []) id at
+stays-moved new shifts s id at h is stays =
+    (is ∙ sym (shifted_more shifts s id at), within-more shifts s id at stays (place_of-within id new (shifted s id (shifted_by shifts id at)) h (sym is)))

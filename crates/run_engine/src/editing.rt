@@ -27,14 +27,14 @@ impl<'a> Model for Editing<'a> {
     ghost use Rattle.std.specs.BTreeMap.{get};
     ghost use Rattle.trace_types.specs.Operation.{Operation};
     ghost use Rattle.trace_types.specs.Trace.{IsTrace, place_of};
-    ghost use Rattle.run_engine.specs.Shifts.{shifted_by};
+    ghost use Rattle.run_engine.specs.Shifts.{shifted_by, PlacesFit};
 
     ghost Value = { List Operation };
 
     ghost view = { λ e. e.ops };
 
     ghost invariant = { λ e. IsTrace e.ops
-        × ((id : ℕ) (at : Option ℕ) → get nat_cmp e.first id ≡ Some at → place_of id e.ops ≡ shifted_by e.shifts.items id at) };
+        × ((id : ℕ) (at : Option ℕ) → get nat_cmp e.first id ≡ Some at → (place_of id e.ops ≡ shifted_by e.shifts.items id at) × PlacesFit e.shifts.items id at) };
 }
 
 impl<'a> Editing<'a> {

@@ -1,8 +1,6 @@
 //! What an edit does to the places of operations.
 ghost use Rattle.std.specs.Prelude.{◌≡◌};
-ghost use Rattle.run_engine.specs.Shifts.{moved_up, moved_down, vacated, shifted, shifted_by};
-
-use trace_types::trace::MAX_OPS;
+ghost use Rattle.run_engine.specs.Shifts.{moved_up, moved_down, vacated, shifted, shifted_by, PlaceFits, PlacesFit};
 
 /// What an edit does to the places of operations. The second number is that of the operation which comes.
 #[derive(Clone, Copy, Debug, PartialEq, Eq)]
@@ -18,6 +16,7 @@ pub enum Shift {
 impl Shift {
     /// Where operation `id` stands afterwards.
     pub fn place(&self, id: u32, place: Option<usize>) -> Option<usize>
+        requires { PlaceFits place }
         ensures { result ≡ shifted self.now id place }
     {
         match self {
@@ -41,12 +40,13 @@ impl Shift {
 }
 
 fn after_insertion(at: usize, place: Option<usize>) -> Option<usize>
+    requires { PlaceFits place }
     ensures { result ≡ moved_up at place }
 {
     match place {
         None => None,
         Some(place) => {
-            if place < at || place >= MAX_OPS {
+            if place < at {
                 Some(place)
             } else {
                 Some(place + 1)
@@ -81,8 +81,9 @@ fn after_exchange(at: usize, place: Option<usize>) -> Option<usize>
     }
 }
 
-/// Where operation `id` stands after edits in order.
+/// Where operation `id` stands after edits in order, none of which takes it past the limit of a trace.
 pub fn place_after(shifts: &[Shift], id: u32, first: Option<usize>) -> Option<usize>
+    requires { PlacesFit shifts.now id first }
     ensures { result ≡ shifted_by shifts.now id first }
 {
     let mut place = first;

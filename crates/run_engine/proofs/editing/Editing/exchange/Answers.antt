@@ -7,7 +7,7 @@ use Rattle.run_engine.specs.declared.shift.Shift.{Shift}
 use Rattle.run_engine.specs.declared.shift.Shift.TheVariants.{Exchanged}
 use Rattle.run_engine.specs.Shifts.{shifted}
 use Rattle.run_engine.proofs.EditLemmas.{trace-set, trace-set_same}
-use Rattle.run_engine.proofs.ShiftLemmas.{place_exchanged, place_within, free_nowhere, shifted_more}
+use Rattle.run_engine.proofs.ShiftLemmas.{place_exchanged, place_within, free_nowhere, stays-moved}
 use Rattle.run_engine.proofs.editing.Editing.exchange.Goals as goal
 
 pub set-requires : goal.set-requires
@@ -33,5 +33,6 @@ invariant_of-self-2 c =
     rw (c.set.ensures, c.in_ok-push.ensures.items, c.id.ensures.value) (
       trace,
       λ id at e.
-          place_exchanged id q ops op within h.distinct only ∙ ap (shifted shift id) (c.self.invariant.1 id at e) ∙ sym (shifted_more c.self.inside.shifts.items shift id at),
+          let before = c.self.invariant.1 id at e in
+          stays-moved (slice_set ops q op) c.self.inside.shifts.items shift id at trace (place_exchanged id q ops op within h.distinct only ∙ ap (shifted shift id) before.0) before.1,
     )
