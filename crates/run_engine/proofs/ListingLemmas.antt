@@ -1,12 +1,11 @@
 -- Lists of references, and where an operation stands in a list.
 use Rattle.std.proofs.Common.{◌≡◌, ℕ, zero, suc, ◌+◌, ◌<◌, ◌≤◌, List, [], ◌∷◌, ◌++◌, length, take, drop, ◌-◌, get_or, map, Bool, cond, refl, ap, sym, ◌∙◌, arith, drop-cons, add-one, Bor}
-use Rattle.std.specs.Prelude.{◌==◌, Some, None, is_some, insert, remove}
+use Rattle.std.specs.Prelude.{◌==◌, Some, None, is_some, insert, remove, slice_range}
 use Rattle.std.specs.List.{list_any, position_from}
 use Rattle.std.proofs.lemmas.Grind.{common_steps}
 use Rattle.std.proofs.lemmas.List.{map-append, drop_all, take_more, length-drop, get_or-drop}
 use Rattle.trace_types.specs.Operation.{Operation}
 use Rattle.trace_types.specs.Trace.{place_of, is_taken}
-use Rattle.run_engine.specs.Part.{part}
 
 module _ {X Y : Type 0} (f : X → Y) where
   take-mapped : (n : ℕ) (xs : List X) → map f (take n xs) ≡ take n (map f xs)
@@ -65,8 +64,8 @@ take-shorter (suc n) (suc m) [] h = refl
 take-shorter (suc n) (suc m) (x ∷ xs) h = ap (λ ys. x ∷ ys) (take-shorter n m xs (omega arith))
 
 -- a part with one operation more
-pub part-more : (ops : List Operation) (from at : ℕ) (op : Operation) → from ≤ at → at < length ops → op ≡ get_or ops at op → part ops from (at + 1) ≡ part ops from at ++ op ∷ []
-part-more ops from at op le lt is =
+pub slice_range-more : (ops : List Operation) (from at : ℕ) (op : Operation) → from ≤ at → at < length ops → op ≡ get_or ops at op → slice_range ops from (at + 1) ≡ slice_range ops from at ++ op ∷ []
+slice_range-more ops from at op le lt is =
     let long = length-drop from ops in
     let next : at + 1 - from ≡ at - from + 1 = omega arith in
     let place : from + (at - from) ≡ at = omega arith in
@@ -74,5 +73,5 @@ part-more ops from at op le lt is =
     ∙ take_more (drop from ops) (at - from) op (omega arith)
     ∙ ap (λ x. take (at - from) (drop from ops) ++ x ∷ []) (get_or-drop from ops (at - from) op ∙ ap (λ k. get_or ops k op) place ∙ sym is)
 
-pub part-none : (ops : List Operation) (at : ℕ) → part ops at at ≡ []
-part-none ops at = let none : at - at ≡ zero = omega arith in ap (λ n. take n (drop at ops)) none
+pub slice_range-none : (ops : List Operation) (at : ℕ) → slice_range ops at at ≡ []
+slice_range-none ops at = let none : at - at ≡ zero = omega arith in ap (λ n. take n (drop at ops)) none

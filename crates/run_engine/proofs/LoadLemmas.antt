@@ -1,6 +1,6 @@
 -- A run that is loaded as far as a position.
 use Rattle.std.proofs.Common.{◌≡◌, ◌≢◌, ℕ, zero, suc, ◌+◌, ◌-◌, ◌%◌, min, ◌<◌, ◌≤◌, Bool, false, cond, nat_eq, eq-eqb, List, [], ◌∷◌, ◌++◌, length, drop, refl, ap, sym, ◌∙◌, arith, add-zero, zero-add}
-use Rattle.std.specs.Prelude.{filter}
+use Rattle.std.specs.Prelude.{filter, slice_range}
 use Rattle.std.specs.List.{range_with_len}
 use Rattle.std.proofs.lemmas.Bool.{ne_eqb}
 use Rattle.std.proofs.lemmas.List.Elements.{filter-append}
@@ -10,7 +10,6 @@ use Rattle.trace_types.specs.Operation.{Operation}
 use Rattle.op_step.specs.Meter.{raised}
 use Rattle.run_engine.specs.SegmentView.{SegmentView}
 use Rattle.run_engine.specs.Segments.{trace_of, marks_from, IsReached, IsPiece}
-use Rattle.run_engine.specs.Part.{part}
 use Rattle.run_engine.specs.Marks.{multiples_below, load_marks}
 use Rattle.run_engine.proofs.SegmentLemmas.{marks_from-append}
 use Rattle.run_engine.proofs.PieceLemmas.{IsReached-next}
@@ -50,7 +49,7 @@ pub record IsLoaded (ops : List Operation) (before at : ℕ) (segments : List Se
   pub count_is : count ≡ raised before at
 
 pub IsLoaded-next : (ops : List Operation) (before at to len count : ℕ) (segments more : List SegmentView) (heap end : State)
-    → IsLoaded ops before at segments heap count → at < length ops → to ≡ at + min (length ops - at) 64 → IsPiece heap (part ops at to) more end len → len ≡ length (part ops at to)
+    → IsLoaded ops before at segments heap count → at < length ops → to ≡ at + min (length ops - at) 64 → IsPiece heap (slice_range ops at to) more end len → len ≡ length (slice_range ops at to)
     → IsLoaded ops before (at + len) (segments ++ more) end (raised count len)
 IsLoaded-next ops before at to len count segments more heap end h lt there piece whole =
     let within = h.front.within in

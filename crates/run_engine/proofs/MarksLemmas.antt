@@ -7,12 +7,13 @@ use Rattle.std.proofs.lemmas.List.{append-nil, take_more, map-append, length-tak
 use mathlib.Core.Logic.{⊎_elim, inl, inr}
 use Rattle.std.proofs.lemmas.List.Elements.{Contains-append_cases}
 use Rattle.ownership_model.specs.State.{State}
+use Rattle.std.specs.List.{AllByRecursion}
 use Rattle.trace_types.specs.Operation.{Operation}
 use Rattle.run_engine.specs.SegmentView.{SegmentView}
 use Rattle.run_engine.specs.Segments.{ops_of, trace_of, mark_here, marks_from, all_marks, AreFull, BeginsMarked, IsRun, IsRestart, IsReached, IsPiece}
 use Rattle.run_engine.specs.Common.{ShareEnd, AreShared}
 use Rattle.run_engine.specs.Bounds.{AgreesAt}
-use Rattle.run_engine.specs.NewMarks.{places, past, Each, IsGap, AreNeighbours, AreLaid, AreMarksOf, AreMarksAfter}
+use Rattle.run_engine.specs.NewMarks.{places, past, IsGap, AreNeighbours, AreLaid, AreMarksOf, AreMarksAfter}
 use Rattle.run_engine.proofs.SegmentLemmas.{marks_from-append}
 use Rattle.run_engine.proofs.ListingLemmas.{around}
 use Rattle.run_engine.proofs.PieceLemmas.{AreFull-front, mark-is}
@@ -31,9 +32,9 @@ past-append : (r : ℕ) (gaps : List ℕ) (g : ℕ) → past r (gaps ++ g ∷ []
 past-append r [] g = refl
 past-append r (h ∷ gaps) g = past-append (r + h) gaps g
 
-Each-append : (P : ℕ → Type 0) (gaps : List ℕ) (g : ℕ) → Each P gaps → P g → Each P (gaps ++ g ∷ [])
-Each-append P [] g h k = (k, tt)
-Each-append P (x ∷ gaps) g h k = (h.0, Each-append P gaps g h.1 k)
+AllByRecursion-append : (P : ℕ → Type 0) (gaps : List ℕ) (g : ℕ) → AllByRecursion P gaps → P g → AllByRecursion P (gaps ++ g ∷ [])
+AllByRecursion-append P [] g h k = (k, tt)
+AllByRecursion-append P (x ∷ gaps) g h k = (h.0, AllByRecursion-append P gaps g h.1 k)
 
 pub AreLaid-none : (old kept : List ℕ) (r : ℕ) → AreLaid old kept r r kept
 AreLaid-none old kept r = record { gaps = []; laid = sym (append-nil kept); reach = refl; some = tt }
@@ -49,7 +50,7 @@ AreLaid-next ops rest old kept r at len segments more heap end h piece gap laid 
       laid = marks_from-append 0 segments more ∙ ap (λ ps. ps ++ marks_from (0 + length (trace_of segments)) more) laid.laid ∙ ap (λ ps. (kept ++ places r laid.gaps) ++ ps) (piece.marks (0 + length (trace_of segments)) ∙ ap (λ p. p ∷ []) place)
           ∙ append_assoc kept (places r laid.gaps) ((past r laid.gaps) ∷ []) ∙ ap (λ ps. kept ++ ps) (sym (places-append r laid.gaps len));
       reach = past-append r laid.gaps len ∙ ap (λ n. n + len) laid.reach;
-      some = Each-append (IsGap old) laid.gaps len laid.some gap;
+      some = AllByRecursion-append (IsGap old) laid.gaps len laid.some gap;
     }
 
 -- segments that begin elsewhere

@@ -1,6 +1,6 @@
 -- Stretches of a run as pieces of another.
 use Rattle.std.proofs.Common.{◌≡◌, ℕ, ◌+◌, ◌-◌, ◌<◌, ◌≤◌, suc, List, [], ◌∷◌, ◌++◌, length, take, drop, get_or, false, refl, ap, sym, subst, ◌∙◌, arith, length-append, length-drop}
-use Rattle.std.specs.Prelude.{Some, None, Option, is_some, IsTrue}
+use Rattle.std.specs.Prelude.{Some, None, Option, is_some, IsTrue, slice_range}
 use Rattle.std.proofs.lemmas.List.{append-nil, take_more, length-take, take-append-drop, drop-take, drop-drop}
 use Rattle.std.proofs.Math.Seq.{take-add, take-length}
 use Rattle.std.specs.Prelude.{IfSome}
@@ -9,8 +9,7 @@ use Rattle.trace_types.specs.Operation.{Operation}
 use Rattle.run_engine.specs.SegmentView.{SegmentView}
 use Rattle.trace_types.specs.declared.outcomes.Outcome.{Outcome}
 use Rattle.ownership_model.specs.Step.{end_from, outcomes_from, AreNew}
-use Rattle.run_engine.specs.Segments.{ops_of, trace_of, mark_here, marks_from, IsMarkOf, IsSegmentFrom, AreReplayFrom, AreFull, BeginsMarked, IsRun, IsReached, IsPiece}
-use Rattle.run_engine.specs.Part.{part}
+use Rattle.run_engine.specs.Segments.{ops_of, trace_of, mark_here, marks_from, IsSegmentFrom, AreReplayFrom, AreFull, BeginsMarked, IsRun, IsReached, IsPiece}
 use Rattle.ownership_model.proofs.ReplayLemmas.{end_from-append, new_front, new_rest}
 use Rattle.run_engine.proofs.ListingLemmas.{around, take-shorter}
 use Rattle.run_engine.proofs.SegmentLemmas.{trace_of-append, marks_from-append, AreReplayFrom-append, AreReplayFrom-front, AreReplayFrom-back}
@@ -36,12 +35,12 @@ BeginsMarked-front [] b h = tt
 BeginsMarked-front (s ∷ a) b h = h
 
 -- a kept checkpoint is the state
-pub IsMarkOf-some : (m n : State) (o : Option State) → o ≡ Some n → IsMarkOf m o → n ≡ m
-IsMarkOf-some m n o e h = subst (IsMarkOf m) e h
+pub mark-some : (m n : State) (o : Option State) → o ≡ Some n → IfSome o (λ h. h ≡ m) → n ≡ m
+mark-some m n o e h = subst (λ x. IfSome x (λ k. k ≡ m)) e h
 
 -- the state at a kept checkpoint
 pub mark-state : (a b : List SegmentView) (s : SegmentView) (m : State) → AreReplayFrom nothing_held (a ++ s ∷ b) → s.mark ≡ Some m → m ≡ end_from nothing_held (trace_of a)
-mark-state a b s m h e = IsMarkOf-some (end_from nothing_held (trace_of a)) m s.mark e ((AreReplayFrom-back nothing_held a (s ∷ b) h).0.mark)
+mark-state a b s m h e = mark-some (end_from nothing_held (trace_of a)) m s.mark e ((AreReplayFrom-back nothing_held a (s ∷ b) h).0.mark)
 
 pub stretch-piece : (a b c : List SegmentView) (s : SegmentView) (end heap after : State) (ops : List Operation) (len : ℕ)
     → IsRun (a ++ ((s ∷ b) ++ c)) end → s.mark ≡ Some heap → ((at : ℕ) → marks_from at b ≡ []) → trace_of (s ∷ b) ≡ take len ops → len ≤ length ops
@@ -70,10 +69,6 @@ pub is_some-none : {X : Type 0} (o : Option X) → is_some o ≡ false → o ≡
 is_some-none None h = refl
 is_some-none (Some x) h = cc
 
-IfSome-mark : (m : State) (o : Option State) → IsMarkOf m o → IfSome o (λ h. h ≡ m)
-IfSome-mark m None h = tt
-IfSome-mark m (Some n) h = h
-
 -- a segment of a run and the state where it begins
 pub segment-at : (m : State) (segments : List SegmentView) (i : ℕ) (s : SegmentView) → AreReplayFrom m segments → i < length segments → s ≡ get_or segments i s
     → IsSegmentFrom (end_from m (trace_of (take i segments))) s
@@ -83,7 +78,7 @@ segment-at m segments i s h lt is =
 
 pub mark-at : (m : State) (segments : List SegmentView) (i : ℕ) (s : SegmentView) → AreReplayFrom m segments → i < length segments → s ≡ get_or segments i s
     → IfSome s.mark (λ h. h ≡ end_from m (trace_of (take i segments)))
-mark-at m segments i s h lt is = IfSome-mark _ s.mark ((segment-at m segments i s h lt is).mark)
+mark-at m segments i s h lt is = (segment-at m segments i s h lt is).mark
 
 -- one more segment without a checkpoint
 pub marks-bare-next : (segments : List SegmentView) (i : ℕ) (s : SegmentView) → i < length segments → s ≡ get_or segments i s → is_some s.mark ≡ false
@@ -122,8 +117,8 @@ old-piece old end i k s heap after ops len run lt is mark bare fits same state =
     (stretch-piece (take i old) b c s end heap after ops len (subst (λ ss. IsRun ss end) (sym parts) run) mark bare (ap trace_of (sym stretch) ∙ same) fits (state ∙ ap (λ ss. end_from nothing_held (trace_of ss)) front))
 
 -- what stands inside a part
-pub part-inside : (ops : List Operation) (at to len n : ℕ) → len + n ≤ to - at → take n (drop len (part ops at to)) ≡ take n (drop (at + len) ops)
-part-inside ops at to len n le =
+pub slice_range-inside : (ops : List Operation) (at to len n : ℕ) → len + n ≤ to - at → take n (drop len (slice_range ops at to)) ≡ take n (drop (at + len) ops)
+slice_range-inside ops at to len n le =
     let e : to - at ≡ len + (to - at - len) = omega arith in
     ap (λ k. take n (drop len (take k (drop at ops)))) e ∙ ap (take n) (drop-take len (to - at - len) (drop at ops)) ∙ take-shorter n (to - at - len) (drop len (drop at ops)) (omega arith) ∙ ap (take n) (drop-drop len at ops)
 
@@ -164,12 +159,12 @@ IsPiece-of-more start end ops n m len segments le h =
     }
 
 -- operations of a part are new where the part begins
-pub new-part : (ops : List Operation) (heap : State) (at to : ℕ) → AreNew nothing_held ops → heap ≡ end_from nothing_held (take at ops) → AreNew heap (part ops at to)
-new-part ops heap at to new is =
+pub new-slice_range : (ops : List Operation) (heap : State) (at to : ℕ) → AreNew nothing_held ops → heap ≡ end_from nothing_held (take at ops) → AreNew heap (slice_range ops at to)
+new-slice_range ops heap at to new is =
     let m : State = end_from nothing_held (take at ops) in
     let rest : AreNew m (drop at ops) = new_rest (take at ops) (drop at ops) nothing_held (subst (AreNew nothing_held) (sym (take-append-drop at ops)) new) in
-    let first : AreNew m (part ops at to) = new_front (part ops at to) (drop (to - at) (drop at ops)) m (subst (AreNew m) (sym (take-append-drop (to - at) (drop at ops))) rest) in
-    subst (λ n. AreNew n (part ops at to)) (sym is) first
+    let first : AreNew m (slice_range ops at to) = new_front (slice_range ops at to) (drop (to - at) (drop at ops)) m (subst (AreNew m) (sym (take-append-drop (to - at) (drop at ops))) rest) in
+    subst (λ n. AreNew n (slice_range ops at to)) (sym is) first
 
 -- and so are the first of them
 pub new-first : (heap : State) (ops : List Operation) (n m : ℕ) → n ≤ m → AreNew heap (take m ops) → AreNew heap (take n ops)

@@ -6,7 +6,7 @@ use Rattle.std.proofs.lemmas.List.{append-nil, take_more}
 use Rattle.ownership_model.specs.State.{State}
 use Rattle.run_engine.specs.SegmentView.{SegmentView}
 use Rattle.ownership_model.specs.Step.{end_from, outcomes_from}
-use Rattle.run_engine.specs.Segments.{ops_of, trace_of, mark_here, marks_from, AreReplayFrom, outcomes_in, outcomes_of_segment, without_mark}
+use Rattle.run_engine.specs.Segments.{ops_of, trace_of, mark_here, marks_from, AreReplayFrom, outcomes_in, without_mark}
 use Rattle.ownership_model.proofs.ReplayLemmas.{end_from-append, outcomes_from-append}
 
 pub trace_of-append : (a b : List SegmentView) → trace_of (a ++ b) ≡ trace_of a ++ trace_of b
@@ -51,16 +51,16 @@ slice_get-append_right (x ∷ xs) ys zero h = absurd (omega arith)
 slice_get-append_right (x ∷ xs) ys (suc i) h = slice_get-append_right xs ys i (omega arith) ∙ ap (slice_get ys) (omega arith)
 
 -- the outcome at i, where the loop stands at segment j
-pub outcome-here : (segments : List SegmentView) (j rest : ℕ) (s : SegmentView) → j < length segments → s ≡ get_or segments j s → rest < length (outcomes_of_segment s) → slice_get (outcomes_in (drop j segments)) rest ≡ slice_get (outcomes_of_segment s) rest
+pub outcome-here : (segments : List SegmentView) (j rest : ℕ) (s : SegmentView) → j < length segments → s ≡ get_or segments j s → rest < length s.outcomes → slice_get (outcomes_in (drop j segments)) rest ≡ slice_get s.outcomes rest
 outcome-here segments j rest s h is lt =
     ap (λ ss. slice_get (outcomes_in ss) rest) (drop-cons segments j s h ∙ ap (λ t. t ∷ drop (suc j) segments) (sym is))
-    ∙ slice_get-append_left (outcomes_of_segment s) (outcomes_in (drop (suc j) segments)) rest lt
+    ∙ slice_get-append_left s.outcomes (outcomes_in (drop (suc j) segments)) rest lt
 
-pub outcome-next : (segments : List SegmentView) (j rest : ℕ) (s : SegmentView) → j < length segments → s ≡ get_or segments j s → length (outcomes_of_segment s) ≤ rest → slice_get (outcomes_in (drop j segments)) rest ≡ slice_get (outcomes_in (drop (j + 1) segments)) (rest - length (outcomes_of_segment s))
+pub outcome-next : (segments : List SegmentView) (j rest : ℕ) (s : SegmentView) → j < length segments → s ≡ get_or segments j s → length s.outcomes ≤ rest → slice_get (outcomes_in (drop j segments)) rest ≡ slice_get (outcomes_in (drop (j + 1) segments)) (rest - length s.outcomes)
 outcome-next segments j rest s h is le =
     ap (λ ss. slice_get (outcomes_in ss) rest) (drop-cons segments j s h ∙ ap (λ t. t ∷ drop (suc j) segments) (sym is))
-    ∙ slice_get-append_right (outcomes_of_segment s) (outcomes_in (drop (suc j) segments)) rest le
-    ∙ ap (λ n. slice_get (outcomes_in (drop n segments)) (rest - length (outcomes_of_segment s))) (sym (add-one j))
+    ∙ slice_get-append_right s.outcomes (outcomes_in (drop (suc j) segments)) rest le
+    ∙ ap (λ n. slice_get (outcomes_in (drop n segments)) (rest - length s.outcomes)) (sym (add-one j))
 
 pub trace_of-without_mark : (segments : List SegmentView) (i : ℕ) → trace_of (without_mark segments i) ≡ trace_of segments
 trace_of-without_mark [] i = refl

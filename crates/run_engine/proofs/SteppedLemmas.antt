@@ -1,29 +1,28 @@
 -- How many operations are stepped at least.
 use Rattle.std.proofs.Common.{◌≡◌, ℕ, ◌+◌, ◌-◌, ◌<◌, ◌≤◌, List, [], ◌∷◌, ◌++◌, length, take, drop, refl, ap, sym, subst, ◌∙◌, arith, length-append}
-use Rattle.std.specs.Prelude.{Contains}
+use Rattle.std.specs.Prelude.{Contains, slice_range}
 use mathlib.Core.Logic.{⊎_elim}
 use Rattle.std.proofs.lemmas.Bool.{cases_lt}
 use Rattle.trace_types.specs.Operation.{Operation}
 use Rattle.ownership_model.specs.State.{State, nothing_held}
 use Rattle.ownership_model.specs.Step.{end_from}
 use Rattle.op_step.specs.Meter.{raised}
-use Rattle.run_engine.specs.Part.{part}
 use Rattle.run_engine.specs.Bounds.{AgreesAt}
-use Rattle.run_engine.specs.NewMarks.{Each}
+use Rattle.std.specs.List.{AllByRecursion}
 use Rattle.run_engine.specs.Steps.{IsOldStretch, AreTaken, IsCovered, AreRising, HaveStepped, MustStep, AreStepped}
 use Rattle.run_engine.proofs.ListingLemmas.{take-shorter}
 
-Each-front : (P : ℕ → Type 0) (a b : List ℕ) → Each P (a ++ b) → Each P a
-Each-front P [] b h = tt
-Each-front P (x ∷ a) b h = (h.0, Each-front P a b h.1)
+AllByRecursion-front : (P : ℕ → Type 0) (a b : List ℕ) → AllByRecursion P (a ++ b) → AllByRecursion P a
+AllByRecursion-front P [] b h = tt
+AllByRecursion-front P (x ∷ a) b h = (h.0, AllByRecursion-front P a b h.1)
 
-Each-back : (P : ℕ → Type 0) (a b : List ℕ) → Each P (a ++ b) → Each P b
-Each-back P [] b h = h
-Each-back P (x ∷ a) b h = Each-back P a b h.1
+AllByRecursion-back : (P : ℕ → Type 0) (a b : List ℕ) → AllByRecursion P (a ++ b) → AllByRecursion P b
+AllByRecursion-back P [] b h = h
+AllByRecursion-back P (x ∷ a) b h = AllByRecursion-back P a b h.1
 
-Each-map : (P Q : ℕ → Type 0) → ((p : ℕ) → P p → Q p) → (ps : List ℕ) → Each P ps → Each Q ps
-Each-map P Q f [] h = tt
-Each-map P Q f (p ∷ ps) h = (f p h.0, Each-map P Q f ps h.1)
+AllByRecursion-map : (P Q : ℕ → Type 0) → ((p : ℕ) → P p → Q p) → (ps : List ℕ) → AllByRecursion P ps → AllByRecursion Q ps
+AllByRecursion-map P Q f [] h = tt
+AllByRecursion-map P Q f (p ∷ ps) h = (f p h.0, AllByRecursion-map P Q f ps h.1)
 
 -- rising numbers are no more than fit
 rising-few : (ps : List ℕ) (from to : ℕ) → from ≤ to → AreRising from to ps → from + length ps ≤ to
@@ -52,12 +51,12 @@ split (p ∷ ps) from at to h = ⊎_elim
     (cases_lt p at)
 
 -- each of the numbers is below another place
-narrowed : (ps : List ℕ) (from to x : ℕ) → AreRising from to ps → Each (λ p. p < x) ps → AreRising from x ps
+narrowed : (ps : List ℕ) (from to x : ℕ) → AreRising from to ps → AllByRecursion (λ p. p < x) ps → AreRising from x ps
 narrowed [] from to x h k = tt
 narrowed (p ∷ ps) from to x h k = (h.0, k.0, narrowed ps (p + 1) to x h.2 k.1)
 
 none-covered : (old ops : List Operation) (marks : List ℕ) (at len : ℕ) (ps : List ℕ) → IsOldStretch old marks (end_from nothing_held (take at ops)) (drop at ops) len
-    → AreRising at (at + len) ps → Each (λ p. IsCovered old ops marks p → ⊥) ps → length ps ≡ 0
+    → AreRising at (at + len) ps → AllByRecursion (λ p. IsCovered old ops marks p → ⊥) ps → length ps ≡ 0
 none-covered old ops marks at len [] stretch h bare = refl
 none-covered old ops marks at len (p ∷ ps) stretch h bare = absurd (bare.0 (record { at = at; len = len; from_there = h.0; before_end = h.1; stretch = stretch }))
 
@@ -66,20 +65,20 @@ HaveStepped-none old ops marks r before ps h bare = let few : r + length ps ≤ 
 
 -- what is said of a part of the operations holds of all from there on
 wider : (old : List Operation) (marks : List ℕ) (start heap : State) (ops : List Operation) (at to len : ℕ) → heap ≡ start → len ≤ to - at
-    → IsOldStretch old marks heap (part ops at to) len → IsOldStretch old marks start (drop at ops) len
+    → IsOldStretch old marks heap (slice_range ops at to) len → IsOldStretch old marks start (drop at ops) len
 wider old marks start heap ops at to len is le h = record { place = h.place; start_is = sym is ∙ h.start_is; ops_are = h.ops_are ∙ take-shorter len (to - at) (drop at ops) le }
 
 pub HaveStepped-next : (old ops : List Operation) (marks : List ℕ) (heap : State) (r at to len before count counted : ℕ) → heap ≡ end_from nothing_held (take at ops) → len ≤ to - at
-    → AreTaken old marks heap (part ops at to) len count counted → HaveStepped old ops marks r at before count → HaveStepped old ops marks r (at + len) before counted
+    → AreTaken old marks heap (slice_range ops at to) len count counted → HaveStepped old ops marks r at before count → HaveStepped old ops marks r (at + len) before counted
 HaveStepped-next old ops marks heap r at to len before count counted is le taken h ps rising bare =
     let parts : IsSplit r at (at + len) ps = split ps r at (at + len) rising in
-    let both : Each (λ p. IsCovered old ops marks p → ⊥) (parts.front ++ parts.back) = subst (Each (λ p. IsCovered old ops marks p → ⊥)) parts.whole bare in
-    let first : raised before (length parts.front) ≤ count = h parts.front parts.before (Each-front (λ p. IsCovered old ops marks p → ⊥) parts.front parts.back both) in
+    let both : AllByRecursion (λ p. IsCovered old ops marks p → ⊥) (parts.front ++ parts.back) = subst (AllByRecursion (λ p. IsCovered old ops marks p → ⊥)) parts.whole bare in
+    let first : raised before (length parts.front) ≤ count = h parts.front parts.before (AllByRecursion-front (λ p. IsCovered old ops marks p → ⊥) parts.front parts.back both) in
     let few : at + length parts.back ≤ at + len = rising-few parts.back at (at + len) (omega arith) parts.behind in
     let long : length ps ≡ length parts.front + length parts.back = ap length parts.whole ∙ length-append parts.front parts.back in
     ⊎_elim
-    (λ (t : IsOldStretch old marks heap (part ops at to) len × (counted ≡ count)).
-    let none : length parts.back ≡ 0 = none-covered old ops marks at len parts.back (wider old marks (end_from nothing_held (take at ops)) heap ops at to len is le t.0) parts.behind (Each-back (λ p. IsCovered old ops marks p → ⊥) parts.front parts.back both) in
+    (λ (t : IsOldStretch old marks heap (slice_range ops at to) len × (counted ≡ count)).
+    let none : length parts.back ≡ 0 = none-covered old ops marks at len parts.back (wider old marks (end_from nothing_held (take at ops)) heap ops at to len is le t.0) parts.behind (AllByRecursion-back (λ p. IsCovered old ops marks p → ⊥) parts.front parts.back both) in
     let same : counted ≡ count = t.1 in
     omega arith)
     (λ (e : counted ≡ raised count len). omega arith)
@@ -88,9 +87,9 @@ HaveStepped-next old ops marks heap r at to len before count counted is le taken
 pub AreStepped-stop : (old ops : List Operation) (marks : List ℕ) (a b r x q before after : ℕ) → x ≡ q - a + b → Contains marks q → a ≤ q → AgreesAt old ops a b q
     → HaveStepped old ops marks r x before after → AreStepped old ops a b marks r before after
 AreStepped-stop old ops marks a b r x q before after there mark behind agrees h ps rising must =
-    h ps (narrowed ps r (length ops) x rising (Each-map (MustStep old ops a b marks) (λ p. p < x) (λ p m. let lt : p < q - a + b = m.early q mark behind agrees in omega arith) ps must))
-    (Each-map (MustStep old ops a b marks) (λ p. IsCovered old ops marks p → ⊥) (λ p m. m.bare) ps must)
+    h ps (narrowed ps r (length ops) x rising (AllByRecursion-map (MustStep old ops a b marks) (λ p. p < x) (λ p m. let lt : p < q - a + b = m.early q mark behind agrees in omega arith) ps must))
+    (AllByRecursion-map (MustStep old ops a b marks) (λ p. IsCovered old ops marks p → ⊥) (λ p m. m.bare) ps must)
 
 pub AreStepped-end : (old ops : List Operation) (marks : List ℕ) (a b r x before after : ℕ) → x ≡ length ops → HaveStepped old ops marks r x before after → AreStepped old ops a b marks r before after
 AreStepped-end old ops marks a b r x before after there h ps rising must =
-    h ps (subst (λ n. AreRising r n ps) (sym there) rising) (Each-map (MustStep old ops a b marks) (λ p. IsCovered old ops marks p → ⊥) (λ p m. m.bare) ps must)
+    h ps (subst (λ n. AreRising r n ps) (sym there) rising) (AllByRecursion-map (MustStep old ops a b marks) (λ p. IsCovered old ops marks p → ⊥) (λ p m. m.bare) ps must)

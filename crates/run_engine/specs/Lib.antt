@@ -1,6 +1,5 @@
 pub mod Edited
 pub mod Shifts
-pub mod Part
 pub mod SegmentView
 pub mod Marks
 pub mod Segments

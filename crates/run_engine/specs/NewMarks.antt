@@ -1,5 +1,6 @@
 -- The checkpoints of an edited trace.
 use Rattle.std.specs.Prelude.{◌≡◌, ℕ, ◌+◌, ◌-◌, ◌<◌, ◌≤◌, List, [], ◌∷◌, ◌++◌, map, length, Contains, ◌⊎◌}
+use Rattle.std.specs.List.{AllByRecursion}
 use Rattle.trace_types.specs.Operation.{Operation}
 use Rattle.run_engine.specs.Common.{AreShared}
 use Rattle.run_engine.specs.Marks.{IsGreatest}
@@ -15,11 +16,6 @@ places r (g ∷ gaps) = r ∷ places (r + g) gaps
 abbrev pub past : ℕ → List ℕ → ℕ
 past r [] = r
 past r (g ∷ gaps) = past (r + g) gaps
-
--- what holds of each number
-abbrev pub Each : (ℕ → Type 0) → List ℕ → Type 0
-Each P [] = Unit {0}
-Each P (n ∷ ns) = P n × Each P ns
 
 -- g is how far two neighbouring checkpoints are apart
 pub record AreNeighbours (marks : List ℕ) (g : ℕ) : Type 0 where
@@ -38,7 +34,7 @@ pub record AreLaid (old kept : List ℕ) (r at : ℕ) (marks : List ℕ) : Type 
   pub gaps : List ℕ
   pub laid : marks ≡ kept ++ places r gaps
   pub reach : past r gaps ≡ at
-  pub some : Each (IsGap old) gaps
+  pub some : AllByRecursion (IsGap old) gaps
 
 -- the kept checkpoints, new ones from r on, and the old ones from the stop on, moved. The stop is the first old one at or behind a
 -- where the states agree, or the end
@@ -53,7 +49,7 @@ pub record AreMarksOf (trace ops : List Operation) (kept old new : List ℕ) (r 
   pub first : (p : ℕ) → Contains old p → a ≤ p → AgreesAt trace ops a b p → stop ≤ p
   pub new_is : new ≡ kept ++ (places r gaps ++ map (λ p. p - a + b) (stop ∷ after))
   pub reach : past r gaps ≡ stop - a + b
-  pub some : Each (IsGap old) gaps
+  pub some : AllByRecursion (IsGap old) gaps
 
 -- the checkpoints of the run of an edited trace: from the restart on, the greatest old one at or before the head, those
 -- before it are kept

@@ -1,5 +1,5 @@
 -- The segments of a run.
-use Rattle.std.specs.Prelude.{◌≡◌, ℕ, zero, suc, ◌+◌, ◌<◌, ◌≤◌, List, [], ◌∷◌, ◌++◌, length, take, Option, Some, None, is_some, IsTrue, Contains, Bool, false, filter, not, nat_eq}
+use Rattle.std.specs.Prelude.{◌≡◌, ℕ, zero, suc, ◌+◌, ◌<◌, ◌≤◌, List, [], ◌∷◌, ◌++◌, length, take, Option, Some, None, is_some, IfSome, IsTrue, Contains, Bool, false, filter, not, nat_eq}
 use Rattle.trace_types.specs.Trace.{IsTrace}
 use Rattle.ownership_model.specs.State.{State, nothing_held}
 use Rattle.trace_types.specs.Operation.{Operation}
@@ -26,22 +26,15 @@ abbrev pub marks_from : ℕ → List SegmentView → List ℕ
 marks_from at [] = []
 marks_from at (s ∷ segments) = mark_here at s.mark ++ marks_from (at + length (ops_of s)) segments
 
--- a checkpoint, if there is one, is the state m
-abbrev pub IsMarkOf : State → Option State → Type 0
-IsMarkOf m None = Unit {0}
-IsMarkOf m (Some n) = n ≡ m
-
+-- the segment's checkpoint, if it is kept, is the state m, and its outcomes are those from there
 pub record IsSegmentFrom (m : State) (s : SegmentView) : Type 0 where
-  pub mark : IsMarkOf m s.mark
+  pub mark : IfSome s.mark (λ n. n ≡ m)
   pub outcomes : s.outcomes ≡ outcomes_from m (ops_of s)
 
 -- the segments are a replay from m
 abbrev pub AreReplayFrom : State → List SegmentView → Type 0
 AreReplayFrom m [] = Unit {0}
 AreReplayFrom m (s ∷ segments) = IsSegmentFrom m s × AreReplayFrom (end_from m (ops_of s)) segments
-
-abbrev pub outcomes_of_segment : SegmentView → List Outcome
-outcomes_of_segment s = s.outcomes
 
 -- the outcomes of all segments
 abbrev pub outcomes_in : List SegmentView → List Outcome

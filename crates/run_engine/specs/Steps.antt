@@ -1,5 +1,6 @@
 -- Which operations of an edited trace are stepped.
 use Rattle.std.specs.Prelude.{◌≡◌, ℕ, ◌+◌, ◌-◌, ◌<◌, ◌≤◌, List, [], ◌∷◌, length, take, drop, Contains, ◌⊎◌}
+use Rattle.std.specs.List.{AllByRecursion}
 use Rattle.trace_types.specs.Operation.{Operation}
 use Rattle.ownership_model.specs.State.{State, nothing_held}
 use Rattle.ownership_model.specs.Step.{end_from}
@@ -7,7 +8,7 @@ use Rattle.op_step.specs.Meter.{raised}
 use Rattle.run_engine.specs.Common.{AreShared}
 use Rattle.run_engine.specs.Marks.{IsGreatest}
 use Rattle.run_engine.specs.Bounds.{AgreesAt}
-use Rattle.run_engine.specs.NewMarks.{Each, AreNeighbours}
+use Rattle.run_engine.specs.NewMarks.{AreNeighbours}
 
 -- an old stretch between neighbouring checkpoints begins with the state, and has the first `len` of the operations
 pub record IsOldStretch (old : List Operation) (marks : List ℕ) (start : State) (ops : List Operation) (len : ℕ) : Type 0 where
@@ -35,7 +36,7 @@ AreRising from to (p ∷ ps) = (from ≤ p) × (p < to) × AreRising (p + 1) to 
 -- as many operations were stepped as there are from r to `at` that no old stretch covers
 abbrev pub HaveStepped : List Operation → List Operation → List ℕ → ℕ → ℕ → ℕ → ℕ → Type 0
 HaveStepped old ops marks r at before after =
-    (ps : List ℕ) → AreRising r at ps → Each (λ p. IsCovered old ops marks p → ⊥) ps → raised before (length ps) ≤ after
+    (ps : List ℕ) → AreRising r at ps → AllByRecursion (λ p. IsCovered old ops marks p → ⊥) ps → raised before (length ps) ≤ after
 
 -- the operation at p of the edited trace is before each place where the replay may stop, and no old stretch covers it
 pub record MustStep (old ops : List Operation) (a b : ℕ) (marks : List ℕ) (p : ℕ) : Type 0 where
@@ -45,7 +46,7 @@ pub record MustStep (old ops : List Operation) (a b : ℕ) (marks : List ℕ) (p
 -- each such operation from r on was stepped
 abbrev pub AreStepped : List Operation → List Operation → ℕ → ℕ → List ℕ → ℕ → ℕ → ℕ → Type 0
 AreStepped old ops a b marks r before after =
-    (ps : List ℕ) → AreRising r (length ops) ps → Each (MustStep old ops a b marks) ps → raised before (length ps) ≤ after
+    (ps : List ℕ) → AreRising r (length ops) ps → AllByRecursion (MustStep old ops a b marks) ps → raised before (length ps) ≤ after
 
 -- the same from the greatest checkpoint at or before the head
 abbrev pub AreSteppedFrom : List Operation → List Operation → List ℕ → ℕ → ℕ → Type 0

@@ -1,9 +1,8 @@
 //! A replay beside an old one, as far as the two come together.
-ghost use Rattle.std.specs.Prelude.{◌≡◌, ℕ, List, ◌++◌, ◌+◌, ◌-◌, ◌^◌, ◌<◌, ◌≤◌, IfOk, length};
+ghost use Rattle.std.specs.Prelude.{◌≡◌, ℕ, List, ◌++◌, ◌+◌, ◌-◌, ◌^◌, ◌<◌, ◌≤◌, IfOk, length, slice_range};
 ghost use Rattle.ownership_model.specs.State.{nothing_held};
 ghost use Rattle.ownership_model.specs.Step.{AreNew};
 ghost use Rattle.run_engine.specs.Segments.{trace_of, marks_from, all_marks, IsRun, IsReached, IsPiece};
-ghost use Rattle.run_engine.specs.Part.{part};
 ghost use Rattle.run_engine.specs.Common.{ShareEnd};
 ghost use Rattle.run_engine.specs.Bounds.{StepsAtMost};
 ghost use Rattle.run_engine.specs.NewMarks.{AreLaid, AreMarksOf, IsGap};
@@ -39,11 +38,11 @@ fn next_piece(
     requires some { at < to }
     requires within { to ≤ length ops.now }
     requires run { IsRun old.now end.now }
-    requires new { AreNew heap.now (part ops.now at to) }
-    ensures piece { IfOk result (λ p. IsPiece heap.now (part ops.now at to) p.segments.items p.end p.len) }
+    requires new { AreNew heap.now (slice_range ops.now at to) }
+    ensures piece { IfOk result (λ p. IsPiece heap.now (slice_range ops.now at to) p.segments.items p.end p.len) }
     ensures gap { IfOk result (λ p. IsGap (all_marks old.now) p.len) }
     ensures steps { IfOk result (λ p. meter.new ≤ meter.old + p.len) }
-    ensures taken { IfOk result (λ p. AreTaken (trace_of old.now) (all_marks old.now) heap.now (part ops.now at to) p.len meter.old meter.new) }
+    ensures taken { IfOk result (λ p. AreTaken (trace_of old.now) (all_marks old.now) heap.now (slice_range ops.now at to) p.len meter.old meter.new) }
     ensures rise { meter.new + at ≤ meter.old + to }
 {
     let found = old_stretch(alloc, old, end, heap, ops, at, to)?;

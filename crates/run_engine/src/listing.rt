@@ -1,7 +1,6 @@
 //! Operations that stand elsewhere, in an order of their own.
-ghost use Rattle.std.specs.Prelude.{◌≡◌, ◌<◌, ◌≤◌, ◌++◌, ◌∷◌, [], length, IfOk, OnOk, OnErr, IfSome, slice_index_or, insert, remove, slice_set};
+ghost use Rattle.std.specs.Prelude.{◌≡◌, ◌<◌, ◌≤◌, ◌++◌, ◌∷◌, [], length, IfOk, OnOk, OnErr, IfSome, slice_index_or, insert, remove, slice_set, slice_range};
 ghost use Rattle.trace_types.specs.Trace.{place_of};
-ghost use Rattle.run_engine.specs.Part.{part};
 
 use std::alloc::{AllocError, Global};
 use std::marker::Model;
@@ -52,7 +51,7 @@ impl<'a> Listing<'a> {
     pub fn copies(&self, alloc: Global, from: usize, to: usize) -> Result<Vec<Op>, AllocError>
         requires order { from ≤ to }
         requires within { to ≤ length self.now }
-        ensures { IfOk result (λ v. v.items ≡ part self.now from to) }
+        ensures { IfOk result (λ v. v.items ≡ slice_range self.now from to) }
     {
         let mut copies = Vec::with_capacity(alloc, to - from)?;
         for place in from..to {

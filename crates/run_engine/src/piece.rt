@@ -1,9 +1,8 @@
 //! What a replay goes on with.
-ghost use Rattle.std.specs.Prelude.{◌≡◌, ◌+◌, ◌-◌, ◌<◌, ◌≤◌, IfOk, length};
+ghost use Rattle.std.specs.Prelude.{◌≡◌, ◌+◌, ◌-◌, ◌<◌, ◌≤◌, IfOk, length, slice_range};
 ghost use Rattle.ownership_model.specs.Step.{AreNew};
 ghost use Rattle.op_step.specs.Meter.{raised};
 ghost use Rattle.run_engine.specs.Segments.{IsPiece};
-ghost use Rattle.run_engine.specs.Part.{part};
 
 use crate::listing::Listing;
 use crate::segment::Segment;
@@ -57,8 +56,8 @@ pub fn stepped_up_to(
 ) -> Result<Piece, AllocError>
     requires some { at < to }
     requires within { to ≤ length ops.now }
-    requires new { AreNew heap.now (part ops.now at to) }
-    ensures piece { IfOk result (λ p. IsPiece heap.now (part ops.now at to) p.segments.items p.end p.len) }
+    requires new { AreNew heap.now (slice_range ops.now at to) }
+    ensures piece { IfOk result (λ p. IsPiece heap.now (slice_range ops.now at to) p.segments.items p.end p.len) }
     ensures short { IfOk result (λ p. p.len ≤ 64) }
     ensures count { IfOk result (λ p. meter.new ≡ raised meter.old p.len) }
     ensures rise { meter.new + at ≤ meter.old + to }

@@ -1,10 +1,9 @@
 //! Stretches of an old run that serve again.
-ghost use Rattle.std.specs.Prelude.{◌≡◌, ℕ, [], ◌+◌, ◌-◌, ◌<◌, ◌≤◌, IfOk, IfSome, IsTrue, ◌↔◌, length, take, drop};
+ghost use Rattle.std.specs.Prelude.{◌≡◌, ℕ, [], ◌+◌, ◌-◌, ◌<◌, ◌≤◌, IfOk, IfSome, IsTrue, ◌↔◌, length, take, drop, slice_range};
 ghost use Rattle.std.specs.Option.{option_copied};
 ghost use Rattle.ownership_model.specs.State.{nothing_held};
 ghost use Rattle.ownership_model.specs.Step.{end_from};
 ghost use Rattle.run_engine.specs.Segments.{trace_of, marks_from, all_marks, BeginsMarked, IsRun, IsPiece};
-ghost use Rattle.run_engine.specs.Part.{part};
 ghost use Rattle.run_engine.specs.NewMarks.{AreNeighbours};
 ghost use Rattle.run_engine.specs.Steps.{IsOldStretch};
 
@@ -30,8 +29,8 @@ pub fn old_stretch(
     requires within { to ≤ length ops.now }
     requires run { IsRun old.now end.now }
     ensures gap { IfOk result (λ o. IfSome o (λ p. AreNeighbours (all_marks old.now) p.len)) }
-    ensures stretch { IfOk result (λ o. IfSome o (λ p. IsOldStretch (trace_of old.now) (all_marks old.now) heap.now (part ops.now at to) p.len)) }
-    ensures piece { IfOk result (λ o. IfSome o (λ p. IsPiece heap.now (part ops.now at to) p.segments.items p.end p.len)) }
+    ensures stretch { IfOk result (λ o. IfSome o (λ p. IsOldStretch (trace_of old.now) (all_marks old.now) heap.now (slice_range ops.now at to) p.len)) }
+    ensures piece { IfOk result (λ o. IfSome o (λ p. IsPiece heap.now (slice_range ops.now at to) p.segments.items p.end p.len)) }
 {
     let Some(i) = segment_of(old, ops.at(at).id()) else {
         return Ok(None);
@@ -89,7 +88,7 @@ fn unmarked(segments: &[Segment]) -> usize
 fn begins_with(ops: &Listing, at: usize, to: usize, segments: &[Segment]) -> Option<usize>
     requires order { at ≤ to }
     requires within { to ≤ length ops.now }
-    ensures { IfSome result (λ n. (n ≤ length (part ops.now at to)) × (trace_of segments.now ≡ take n (part ops.now at to))) }
+    ensures { IfSome result (λ n. (n ≤ length (slice_range ops.now at to)) × (trace_of segments.now ≡ take n (slice_range ops.now at to))) }
 {
     let mut len = 0;
     for segment in segments {

@@ -1,6 +1,6 @@
 use Rattle.std.proofs.Common.{◌-◌, ◌≤◌, drop, arith}
 use Rattle.std.proofs.lemmas.List.{length-take}
-use Rattle.run_engine.proofs.PieceLemmas.{IsReached-next, new-part}
+use Rattle.run_engine.proofs.PieceLemmas.{IsReached-next, new-slice_range}
 use Rattle.run_engine.specs.Segments.{trace_of, all_marks}
 use Rattle.run_engine.proofs.MarksLemmas.{AreLaid-next}
 use Rattle.run_engine.proofs.SteppedLemmas.{HaveStepped-next}
@@ -24,7 +24,7 @@ loop-front-preserved c =
     })
 
 pub next_piece-requires-clause-new : goal.next_piece-requires-clause-new
-next_piece-requires-clause-new c = new-part c.args.ops.now c.loop-front.front.heap c.loop-front.front.at c.args.to c.requires.new c.loop-front.invariant.front.state
+next_piece-requires-clause-new c = new-slice_range c.args.ops.now c.loop-front.front.heap c.loop-front.front.at c.args.to c.requires.new c.loop-front.invariant.front.state
 
 pub loop-front-init : goal.loop-front-init
 loop-front-init c = record { front = c.requires.front; order = c.requires.order; stepped = λ r before k. k; rise = omega arith; laid = λ kept r k. k }

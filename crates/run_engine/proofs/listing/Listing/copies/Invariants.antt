@@ -1,6 +1,6 @@
 use Rattle.std.proofs.Common.{◌≡◌}
-use Rattle.run_engine.specs.Part.{part}
+use Rattle.std.specs.Prelude.{slice_range}
 use Rattle.run_engine.proofs.listing.Listing.copies.Given as goal
 
 abbrev pub invariant-loop-place : goal.invariant-loop-place
-invariant-loop-place l = l.copies.items ≡ part l.self l.from l.place
+invariant-loop-place l = l.copies.items ≡ slice_range l.self l.from l.place
