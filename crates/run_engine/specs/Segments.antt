@@ -1,5 +1,6 @@
 -- The segments of a run.
 use Rattle.std.specs.Prelude.{◌≡◌, ℕ, zero, suc, ◌+◌, ◌<◌, ◌≤◌, List, [], ◌∷◌, ◌++◌, length, take, Option, Some, None, is_some, IfSome, IsTrue, Contains, Bool, false, filter, not, nat_eq}
+use Rattle.std.specs.List.{AllByRecursion}
 use Rattle.trace_types.specs.Trace.{IsTrace}
 use Rattle.ownership_model.specs.State.{State, nothing_held}
 use Rattle.trace_types.specs.Operation.{Operation}
@@ -49,8 +50,7 @@ without_mark (s ∷ segments) (suc i) = s ∷ without_mark segments i
 
 -- no segment is empty
 abbrev pub AreFull : List SegmentView → Type 0
-AreFull [] = Unit {0}
-AreFull (s ∷ segments) = (0 < length s.ops) × AreFull segments
+AreFull segments = AllByRecursion (λ s. 0 < length s.ops) segments
 
 -- the first segment, where there is one, has its checkpoint
 abbrev pub BeginsMarked : List SegmentView → Type 0
