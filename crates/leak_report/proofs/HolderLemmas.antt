@@ -1,5 +1,5 @@
 -- One pass over the fields gives each leaked object its holders.
-use Rattle.std.proofs.Common.{◌≡◌, ◌≢◌, ℕ, zero, suc, ◌+◌, ◌<◌, ◌≤◌, List, [], ◌∷◌, ◌++◌, map, length, get_or, set, refl, ap, ◌∙◌, sym, subst, arith, Bool, true, false, cond, append_assoc, append-nil}
+use Rattle.std.proofs.Common.{◌≡◌, ◌≢◌, ℕ, zero, suc, ◌+◌, ◌<◌, ◌≤◌, List, [], ◌∷◌, ◌++◌, map, length, get_or, set, drop, drop-cons, drop_of_length-le, add-one, refl, ap, ◌∙◌, sym, subst, arith, Bool, true, false, cond, append_assoc, append-nil}
 use Rattle.std.specs.Prelude.{◌==◌, ◌||◌, ◌&&◌, not, if◌then◌else◌, Option, Some, None, filter}
 use Rattle.std.specs.List.{AllByRecursion, list_any}
 use Rattle.std.specs.List.Sorted.{IsStrictlySortedBy, IsBinarySearchResult}
@@ -26,11 +26,15 @@ use Rattle.ownership_model.specs.declared.link.Link.TheVariants.{StrongOnly}
 use Rattle.ownership_model.specs.Reach.{IsReach, is_reached}
 use Rattle.ownership_model.proofs.ReachedLemmas.{is_reach}
 use Rattle.ownership_model.specs.Leaks.{holds, fields_holding, entry_holding, holders_in, leaks_in, leaked_in, holders_of}
-use Rattle.leak_report.specs.HolderPass.{with_slot, with_slots, with_entry, with_entries, unheld, leak_names}
+use Rattle.leak_report.specs.HolderPass.{with_holders, unheld, leak_names}
 
-pub names-with_slot : (p i : ℕ) (s : Slot) (ls : List Leak) → leak_names (with_slot p i s ls) ≡ leak_names ls
-names-with_slot p i s [] = refl
-names-with_slot p i s (l ∷ ls) = ap (λ os. l.object ∷ os) (names-with_slot p i s ls)
+-- the holder, where its slot holds the object
+abbrev pub slot_holding : Holder → Slot → ℕ → List Holder
+slot_holding h s o = if holds o s then h ∷ [] else []
+
+pub names-with_holders : (more : ℕ → List Holder) (ls : List Leak) → leak_names (with_holders more ls) ≡ leak_names ls
+names-with_holders more [] = refl
+names-with_holders more (l ∷ ls) = ap (λ os. l.object ∷ os) (names-with_holders more ls)
 
 same_leak : (l : Leak) → record { object = l.object; holders = l.holders ++ [] } ≡ l
 same_leak l = ap (λ hs. record { object = l.object; holders = hs }) (append-nil l.holders)
@@ -44,13 +48,13 @@ or_false_right true b h = absurd cc
 or_false_right false b h = h
 
 -- a slot that holds none of them
-pub with_slot_apart : (p i : ℕ) (s : Slot) (ls : List Leak) → list_any (λ o. holds o s) (leak_names ls) ≡ false → with_slot p i s ls ≡ ls
-with_slot_apart p i s [] apart = refl
-with_slot_apart p i s (l ∷ ls) apart =
+pub slot_apart : (h : Holder) (s : Slot) (ls : List Leak) → list_any (λ o. holds o s) (leak_names ls) ≡ false → with_holders (slot_holding h s) ls ≡ ls
+slot_apart h s [] apart = refl
+slot_apart h s (l ∷ ls) apart =
     let here : holds l.object s ≡ false = or_false_left (holds l.object s) (list_any (λ o. holds o s) (leak_names ls)) apart in
-    let rest : with_slot p i s ls ≡ ls = with_slot_apart p i s ls (or_false_right (holds l.object s) (list_any (λ o. holds o s) (leak_names ls)) apart) in
-    ap (λ b. record { object = l.object; holders = l.holders ++ (if b then record { object = p; field = i } ∷ [] else []) } ∷ with_slot p i s ls) here
-    ∙ ap (λ x. x ∷ with_slot p i s ls) (same_leak l) ∙ ap (λ xs. l ∷ xs) rest
+    let rest : with_holders (slot_holding h s) ls ≡ ls = slot_apart h s ls (or_false_right (holds l.object s) (list_any (λ o. holds o s) (leak_names ls)) apart) in
+    ap (λ b. record { object = l.object; holders = l.holders ++ (if b then h ∷ [] else []) } ∷ with_holders (slot_holding h s) ls) here
+    ∙ ap (λ x. x ∷ with_holders (slot_holding h s) ls) (same_leak l) ∙ ap (λ xs. l ∷ xs) rest
 
 apart_above : (o : ℕ) (os : List ℕ) → AllByRecursion (λ y. nat_cmp o y ≡ Less) os → list_any (λ x. o == x) os ≡ false
 apart_above o [] h = refl
@@ -62,43 +66,30 @@ above_at x zero (l ∷ ls) d h in' = grind (arith, nat_tests, h.0)
 above_at x (suc n) (l ∷ ls) d h in' = above_at x n ls d h.1 (omega arith)
 
 -- a slot that holds the one at n
-pub with_slot_at : (p i o n : ℕ) (ls : List Leak) (d : Leak) → IsStrictlySortedBy nat_cmp (leak_names ls) → n < length ls → (get_or ls n d).object ≡ o
-    → with_slot p i (Strong o) ls ≡ set ls n (record { object = (get_or ls n d).object; holders = (get_or ls n d).holders ++ record { object = p; field = i } ∷ [] })
-with_slot_at p i o n [] d sorted in' is = absurd (omega arith)
-with_slot_at p i o zero (l ∷ ls) d sorted in' is =
+pub slot_at : (h : Holder) (o n : ℕ) (ls : List Leak) (d : Leak) → IsStrictlySortedBy nat_cmp (leak_names ls) → n < length ls → (get_or ls n d).object ≡ o
+    → with_holders (slot_holding h (Strong o)) ls ≡ set ls n (record { object = (get_or ls n d).object; holders = (get_or ls n d).holders ++ h ∷ [] })
+slot_at h o n [] d sorted in' is = absurd (omega arith)
+slot_at h o zero (l ∷ ls) d sorted in' is =
     let here : (o == l.object) ≡ true = grind (arith, nat_tests, is) in
     let apart : list_any (λ q. o == q) (leak_names ls) ≡ false = subst (λ x. list_any (λ q. x == q) (leak_names ls) ≡ false) is (apart_above l.object (leak_names ls) (sorted_head nat_cmp l.object (leak_names ls) sorted)) in
-    let rest : with_slot p i (Strong o) ls ≡ ls = with_slot_apart p i (Strong o) ls apart in
-    ap (λ b. record { object = l.object; holders = l.holders ++ (if b then record { object = p; field = i } ∷ [] else []) } ∷ with_slot p i (Strong o) ls) here
-    ∙ ap (λ xs. record { object = l.object; holders = l.holders ++ record { object = p; field = i } ∷ [] } ∷ xs) rest
-with_slot_at p i o (suc n) (l ∷ ls) d sorted in' is =
+    let rest : with_holders (slot_holding h (Strong o)) ls ≡ ls = slot_apart h (Strong o) ls apart in
+    ap (λ b. record { object = l.object; holders = l.holders ++ (if b then h ∷ [] else []) } ∷ with_holders (slot_holding h (Strong o)) ls) here
+    ∙ ap (λ xs. record { object = l.object; holders = l.holders ++ h ∷ [] } ∷ xs) rest
+slot_at h o (suc n) (l ∷ ls) d sorted in' is =
     let below : l.object < (get_or ls n d).object = above_at l.object n ls d (sorted_head nat_cmp l.object (leak_names ls) sorted) (omega arith) in
     let here : (o == l.object) ≡ false = grind (arith, nat_tests, is, below) in
-    let rest : with_slot p i (Strong o) ls ≡ set ls n (record { object = (get_or ls n d).object; holders = (get_or ls n d).holders ++ record { object = p; field = i } ∷ [] }) = with_slot_at p i o n ls d (sorted_tail nat_cmp l.object (leak_names ls) sorted) (omega arith) is in
-    ap (λ b. record { object = l.object; holders = l.holders ++ (if b then record { object = p; field = i } ∷ [] else []) } ∷ with_slot p i (Strong o) ls) here
-    ∙ ap (λ x. x ∷ with_slot p i (Strong o) ls) (same_leak l) ∙ ap (λ xs. l ∷ xs) rest
+    let rest : with_holders (slot_holding h (Strong o)) ls ≡ set ls n (record { object = (get_or ls n d).object; holders = (get_or ls n d).holders ++ h ∷ [] }) = slot_at h o n ls d (sorted_tail nat_cmp l.object (leak_names ls) sorted) (omega arith) is in
+    ap (λ b. record { object = l.object; holders = l.holders ++ (if b then h ∷ [] else []) } ∷ with_holders (slot_holding h (Strong o)) ls) here
+    ∙ ap (λ x. x ∷ with_holders (slot_holding h (Strong o)) ls) (same_leak l) ∙ ap (λ xs. l ∷ xs) rest
 
-pub names-with_slots : (p i : ℕ) (ss : List Slot) (ls : List Leak) → leak_names (with_slots p i ss ls) ≡ leak_names ls
-names-with_slots p i [] ls = refl
-names-with_slots p i (s ∷ ss) ls = names-with_slots p (i + 1) ss (with_slot p i s ls) ∙ names-with_slot p i s ls
+nothing_more : (ls : List Leak) → with_holders (λ o. []) ls ≡ ls
+nothing_more [] = refl
+nothing_more (l ∷ ls) = ap (λ x. x ∷ with_holders (λ o. []) ls) (same_leak l) ∙ ap (λ xs. l ∷ xs) (nothing_more ls)
 
-pub names-with_entry : (p : ℕ) (e : Option Entry) (ls : List Leak) → leak_names (with_entry p e ls) ≡ leak_names ls
-names-with_entry p None ls = refl
-names-with_entry p (Some Husk) ls = refl
-names-with_entry p (Some (Alive fields)) ls = names-with_slots p 0 fields ls
-
--- more holders of each
-abbrev pub held_more : (ℕ → List Holder) → List Leak → List Leak
-held_more h ls = map (λ l. record { object = l.object; holders = l.holders ++ h l.object }) ls
-
-no_more : (ls : List Leak) → ls ≡ held_more (λ o. []) ls
-no_more [] = refl
-no_more (l ∷ ls) = ap (λ x. x ∷ ls) (sym (same_leak l)) ∙ ap (λ xs. record { object = l.object; holders = l.holders ++ [] } ∷ xs) (no_more ls)
-
-twice_more : (h g f : ℕ → List Holder) (ls : List Leak) → ((o : ℕ) → f o ≡ h o ++ g o) → held_more g (held_more h ls) ≡ held_more f ls
+twice_more : (h g f : ℕ → List Holder) (ls : List Leak) → ((o : ℕ) → f o ≡ h o ++ g o) → with_holders g (with_holders h ls) ≡ with_holders f ls
 twice_more h g f [] is = refl
 twice_more h g f (l ∷ ls) is =
-    ap (λ xs. record { object = l.object; holders = xs } ∷ held_more g (held_more h ls)) (append_assoc l.holders (h l.object) (g l.object) ∙ ap (λ xs. l.holders ++ xs) (sym (is l.object)))
+    ap (λ xs. record { object = l.object; holders = xs } ∷ with_holders g (with_holders h ls)) (append_assoc l.holders (h l.object) (g l.object) ∙ ap (λ xs. l.holders ++ xs) (sym (is l.object)))
     ∙ ap (λ xs. record { object = l.object; holders = l.holders ++ f l.object } ∷ xs) (twice_more h g f ls is)
 
 one_field : (o p i : ℕ) (s : Slot) (ss : List Slot) → fields_holding o p i (s ∷ ss) ≡ (if holds o s then record { object = p; field = i } ∷ [] else []) ++ fields_holding o p (i + 1) ss
@@ -108,25 +99,43 @@ one_field o p i s ss =
       | false ↦ refl
     ]
 
-pub slots_as_holders : (p i : ℕ) (ss : List Slot) (ls : List Leak) → with_slots p i ss ls ≡ held_more (λ o. fields_holding o p i ss) ls
-slots_as_holders p i [] ls = no_more ls
-slots_as_holders p i (s ∷ ss) ls =
-    slots_as_holders p (i + 1) ss (with_slot p i s ls)
-    ∙ twice_more (λ o. if holds o s then record { object = p; field = i } ∷ [] else []) (λ o. fields_holding o p (i + 1) ss) (λ o. fields_holding o p i (s ∷ ss)) ls (λ o. one_field o p i s ss)
+-- one field more
+pub field_more : (p i : ℕ) (ss : List Slot) (s d : Slot) (old new end : List Leak) → i < length ss → s ≡ get_or ss i d
+    → new ≡ with_holders (slot_holding (record { object = p; field = i }) s) old → with_holders (λ o. fields_holding o p i (drop i ss)) old ≡ end
+    → with_holders (λ o. fields_holding o p (i + 1) (drop (i + 1) ss)) new ≡ end
+field_more p i ss s d old new end h is more was =
+    let rest : drop i ss ≡ get_or ss i d ∷ drop (suc i) ss = drop-cons ss i d h in
+    ap (λ n. with_holders (λ o. fields_holding o p (i + 1) (drop n ss)) new) (add-one i)
+    ∙ ap (with_holders (λ o. fields_holding o p (i + 1) (drop (suc i) ss))) more
+    ∙ twice_more (slot_holding (record { object = p; field = i }) s) (λ o. fields_holding o p (i + 1) (drop (suc i) ss)) (λ o. fields_holding o p i (s ∷ drop (suc i) ss)) old (λ o. one_field o p i s (drop (suc i) ss))
+    ∙ ap (λ xs. with_holders (λ o. fields_holding o p i xs) old) (ap (λ x. x ∷ drop (suc i) ss) is ∙ sym rest)
+    ∙ was
 
-pub entry_as_holders : (p : ℕ) (e : Option Entry) (ls : List Leak) → with_entry p e ls ≡ held_more (λ o. entry_holding o p e) ls
-entry_as_holders p None ls = no_more ls
-entry_as_holders p (Some Husk) ls = no_more ls
-entry_as_holders p (Some (Alive fields)) ls = slots_as_holders p 0 fields ls
+-- one object more
+pub object_more : (m : State) (i : ℕ) (ps : List ℕ) (p d : ℕ) (e : Option Entry) (old new end : List Leak) → i < length ps → p ≡ get_or ps i d → e ≡ get m.objects p
+    → new ≡ with_holders (λ o. entry_holding o p e) old → with_holders (λ o. holders_in m (drop i ps) o) old ≡ end
+    → with_holders (λ o. holders_in m (drop (i + 1) ps) o) new ≡ end
+object_more m i ps p d e old new end h is there more was =
+    let rest : drop i ps ≡ get_or ps i d ∷ drop (suc i) ps = drop-cons ps i d h in
+    ap (λ n. with_holders (λ o. holders_in m (drop n ps) o) new) (add-one i)
+    ∙ ap (with_holders (λ o. holders_in m (drop (suc i) ps) o)) (more ∙ ap (λ x. with_holders (λ o. entry_holding o p x) old) there)
+    ∙ twice_more (λ o. entry_holding o p (get m.objects p)) (λ o. holders_in m (drop (suc i) ps) o) (λ o. holders_in m (p ∷ drop (suc i) ps) o) old (λ o. refl)
+    ∙ ap (λ xs. with_holders (λ o. holders_in m xs o) old) (ap (λ x. x ∷ drop (suc i) ps) is ∙ sym rest)
+    ∙ was
 
-pub entries_as_holders : (m : State) (ps : List ℕ) (ls : List Leak) → with_entries m ps ls ≡ held_more (λ o. holders_in m ps o) ls
-entries_as_holders m [] ls = no_more ls
-entries_as_holders m (p ∷ ps) ls =
-    entries_as_holders m ps (with_entry p (get m.objects p) ls)
-    ∙ ap (held_more (λ o. holders_in m ps o)) (entry_as_holders p (get m.objects p) ls)
-    ∙ twice_more (λ o. entry_holding o p (get m.objects p)) (λ o. holders_in m ps o) (λ o. holders_in m (p ∷ ps) o) ls (λ o. refl)
+pub fields_end : (p i : ℕ) (ss : List Slot) (ls end : List Leak) → length ss ≤ i → with_holders (λ o. fields_holding o p i (drop i ss)) ls ≡ end → ls ≡ end
+fields_end p i ss ls end h was = sym (nothing_more ls) ∙ ap (λ xs. with_holders (λ o. fields_holding o p i xs) ls) (sym (drop_of_length-le ss h)) ∙ was
 
-held_unheld : (h : ℕ → List Holder) (os : List ℕ) → held_more h (unheld os) ≡ map (λ o. record { object = o; holders = h o }) os
+pub objects_end : (m : State) (i : ℕ) (ps : List ℕ) (ls end : List Leak) → length ps ≤ i → with_holders (λ o. holders_in m (drop i ps) o) ls ≡ end → ls ≡ end
+objects_end m i ps ls end h was = sym (nothing_more ls) ∙ ap (λ xs. with_holders (λ o. holders_in m xs o) ls) (sym (drop_of_length-le ps h)) ∙ was
+
+-- an object without a value
+pub no_value_more : (p : ℕ) (e : Option Entry) (ls : List Leak) → is_alive e ≡ false → ls ≡ with_holders (λ o. entry_holding o p e) ls
+no_value_more p None ls gone = sym (nothing_more ls)
+no_value_more p (Some Husk) ls gone = sym (nothing_more ls)
+no_value_more p (Some (Alive fields)) ls gone = absurd cc
+
+held_unheld : (h : ℕ → List Holder) (os : List ℕ) → with_holders h (unheld os) ≡ map (λ o. record { object = o; holders = h o }) os
 held_unheld h [] = refl
 held_unheld h (o ∷ os) = ap (λ xs. record { object = o; holders = h o } ∷ xs) (held_unheld h os)
 
@@ -135,10 +144,9 @@ same_leaked k j m [] same = refl
 same_leaked k j m (o ∷ os) same = grind (arith, same o, same_leaked k j m os same)
 
 -- what one pass gives
-pub all_holders : (k j : ℕ → Bool) (m : State) → ((o : ℕ) → k o ≡ j o) → with_entries m (keys m.objects) (unheld (leaked_in k m (keys m.objects))) ≡ leaks_in j m (keys m.objects)
+pub all_holders : (k j : ℕ → Bool) (m : State) → ((o : ℕ) → k o ≡ j o) → with_holders (λ o. holders_in m (keys m.objects) o) (unheld (leaked_in k m (keys m.objects))) ≡ leaks_in j m (keys m.objects)
 all_holders k j m same =
-    entries_as_holders m (keys m.objects) (unheld (leaked_in k m (keys m.objects)))
-    ∙ held_unheld (holders_of m) (leaked_in k m (keys m.objects))
+    held_unheld (holders_of m) (leaked_in k m (keys m.objects))
     ∙ ap (λ os. map (λ o. record { object = o; holders = holders_of m o }) os) (same_leaked k j m (keys m.objects) same)
 
 pub names-unheld : (os : List ℕ) → leak_names (unheld os) ≡ os
@@ -170,11 +178,11 @@ none_held : (os : List ℕ) → list_any (λ o. false) os ≡ false
 none_held [] = refl
 none_held (o ∷ os) = none_held os
 
-pub other_slot : (p i : ℕ) (s : Slot) (ls : List Leak) → ((o : ℕ) → s ≡ Strong o → ⊥) → ls ≡ with_slot p i s ls
-other_slot p i (Strong o) ls other = absurd (other o refl)
-other_slot p i Nothing ls other = sym (with_slot_apart p i Nothing ls (none_held (leak_names ls)))
-other_slot p i (Weak o) ls other = sym (with_slot_apart p i (Weak o) ls (none_held (leak_names ls)))
-other_slot p i Dangling ls other = sym (with_slot_apart p i Dangling ls (none_held (leak_names ls)))
+pub other_slot : (h : Holder) (s : Slot) (ls : List Leak) → ((o : ℕ) → s ≡ Strong o → ⊥) → ls ≡ with_holders (slot_holding h s) ls
+other_slot h (Strong o) ls other = absurd (other o refl)
+other_slot h Nothing ls other = sym (slot_apart h Nothing ls (none_held (leak_names ls)))
+other_slot h (Weak o) ls other = sym (slot_apart h (Weak o) ls (none_held (leak_names ls)))
+other_slot h Dangling ls other = sym (slot_apart h Dangling ls (none_held (leak_names ls)))
 
 rise : (os : List ℕ) → IsStrictlySortedBy nat_cmp os → (i j : ℕ) → i ≤ j → j < length os → get_or os i 0 ≤ get_or os j 0
 rise os sorted i j h in' = ⊎_elim
@@ -192,11 +200,11 @@ found_none o (x ∷ os) h =
 apart_at : (os : List ℕ) (o n k : ℕ) → ((j : ℕ) → j < n → get_or os j 0 < o) → ((j : ℕ) → n ≤ j → j < length os → o < get_or os j 0) → k < length os → get_or os k 0 ≢ o
 apart_at os o n k low high in' = ⊎_elim (λ l. let f : get_or os k 0 < o = low k l in omega (arith, f)) (λ g. let f : o < get_or os k 0 = high k g in' in omega (arith, f)) (cases_lt k n)
 
-pub not_found : (p i o n : ℕ) (s : Slot) (os : List ℕ) (ls : List Leak) → s ≡ Strong o → leak_names ls ≡ os → IsStrictlySortedBy nat_cmp os → IsBinarySearchResult (λ y. nat_cmp y o) os (Err n) → ls ≡ with_slot p i s ls
-not_found p i o n s os ls is same sorted search =
+pub not_found : (h : Holder) (o n : ℕ) (s : Slot) (os : List ℕ) (ls : List Leak) → s ≡ Strong o → leak_names ls ≡ os → IsStrictlySortedBy nat_cmp os → IsBinarySearchResult (λ y. nat_cmp y o) os (Err n) → ls ≡ with_holders (slot_holding h s) ls
+not_found h o n s os ls is same sorted search =
     let told : (n ≤ length os) × ((k : ℕ) → k < n → get_or os k 0 < o) × ((k : ℕ) → n ≤ k → k < length os → o < get_or os k 0) = searched os o (Err n) search (rise os sorted) in
     let apart : list_any (λ q. o == q) os ≡ false = found_none o os (λ k in'. apart_at os o n k told.1 told.2 in') in
-    subst (λ x. ls ≡ with_slot p i x ls) (sym is) (sym (with_slot_apart p i (Strong o) ls (subst (λ xs. list_any (λ q. o == q) xs ≡ false) (sym same) apart)))
+    subst (λ x. ls ≡ with_holders (slot_holding h x) ls) (sym is) (sym (slot_apart h (Strong o) ls (subst (λ xs. list_any (λ q. o == q) xs ≡ false) (sym same) apart)))
 
 name_at : (ls : List Leak) (n : ℕ) (d : Leak) → n < length ls → get_or (leak_names ls) n 0 ≡ (get_or ls n d).object
 name_at [] n d in' = absurd (omega arith)
@@ -207,17 +215,17 @@ length_names : (ls : List Leak) → length (leak_names ls) ≡ length ls
 length_names [] = refl
 length_names (l ∷ ls) = ap suc (length_names ls)
 
-pub found : (p i o n : ℕ) (s : Slot) (os : List ℕ) (ls : List Leak) (d : Leak) (hs : List Holder) → s ≡ Strong o → leak_names ls ≡ os → IsStrictlySortedBy nat_cmp os → IsBinarySearchResult (λ y. nat_cmp y o) os (Ok n)
-    → d ≡ get_or ls n d → hs ≡ d.holders ++ record { object = p; field = i } ∷ [] → set ls n (record { object = d.object; holders = hs }) ≡ with_slot p i s ls
-found p i o n s os ls d hs is same sorted search at more =
+pub found : (h : Holder) (o n : ℕ) (s : Slot) (os : List ℕ) (ls : List Leak) (d : Leak) (hs : List Holder) → s ≡ Strong o → leak_names ls ≡ os → IsStrictlySortedBy nat_cmp os → IsBinarySearchResult (λ y. nat_cmp y o) os (Ok n)
+    → d ≡ get_or ls n d → hs ≡ d.holders ++ h ∷ [] → set ls n (record { object = d.object; holders = hs }) ≡ with_holders (slot_holding h s) ls
+found h o n s os ls d hs is same sorted search at more =
     let told : (n < length os) × (get_or os n 0 ≡ o) = searched os o (Ok n) search (rise os sorted) in
     let in' : n < length ls = subst (λ k. n < k) (ap length (sym same) ∙ length_names ls) told.0 in
     let here : (get_or ls n d).object ≡ o = sym (name_at ls n d in') ∙ ap (λ xs. get_or xs n 0) same ∙ told.1 in
-    let step : with_slot p i (Strong o) ls ≡ set ls n (record { object = (get_or ls n d).object; holders = (get_or ls n d).holders ++ record { object = p; field = i } ∷ [] }) = with_slot_at p i o n ls d (subst (λ xs. IsStrictlySortedBy nat_cmp xs) (sym same) sorted) in' here in
+    let step : with_holders (slot_holding h (Strong o)) ls ≡ set ls n (record { object = (get_or ls n d).object; holders = (get_or ls n d).holders ++ h ∷ [] }) = slot_at h o n ls d (subst (λ xs. IsStrictlySortedBy nat_cmp xs) (sym same) sorted) in' here in
     ap (λ xs. set ls n (record { object = d.object; holders = xs })) more
-    ∙ ap (λ (x : Leak). set ls n (record { object = x.object; holders = x.holders ++ record { object = p; field = i } ∷ [] })) at
+    ∙ ap (λ (x : Leak). set ls n (record { object = x.object; holders = x.holders ++ h ∷ [] })) at
     ∙ sym step
-    ∙ ap (λ x. with_slot p i x ls) (sym is)
+    ∙ ap (λ x. with_holders (slot_holding h x) ls) (sym is)
 
 pub in_range : (o n : ℕ) (os : List ℕ) (ls : List Leak) → leak_names ls ≡ os → IsStrictlySortedBy nat_cmp os → IsBinarySearchResult (λ y. nat_cmp y o) os (Ok n) → n < length ls
 in_range o n os ls same sorted search =
@@ -226,7 +234,7 @@ in_range o n os ls same sorted search =
 
 -- all that is found, by what each part of the search gave
 pub found_leaks : (k : ℕ → Bool) (m : State) (os xs names : List ℕ) (start ls : List Leak) → IsReach StrongOnly m k → os ≡ keys m.objects → xs ≡ keys m.objects
-    → names ≡ leaked_in k m os → start ≡ unheld names → ls ≡ with_entries m xs start → ls ≡ leaks_in (λ o. is_reached StrongOnly m o) m (keys m.objects)
+    → names ≡ leaked_in k m os → start ≡ unheld names → ls ≡ with_holders (λ o. holders_in m xs o) start → ls ≡ leaks_in (λ o. is_reached StrongOnly m o) m (keys m.objects)
 found_leaks k m os xs names start ls reach all again is from then' =
-    then' ∙ ap (λ ys. with_entries m ys start) again ∙ ap (with_entries m (keys m.objects)) (from ∙ ap unheld (is ∙ ap (leaked_in k m) all))
+    then' ∙ ap (λ ys. with_holders (λ o. holders_in m ys o) start) again ∙ ap (with_holders (λ o. holders_in m (keys m.objects) o)) (from ∙ ap unheld (is ∙ ap (leaked_in k m) all))
     ∙ all_holders k (λ o. is_reached StrongOnly m o) m (is_reach StrongOnly m k reach)

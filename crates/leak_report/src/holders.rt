@@ -1,11 +1,12 @@
 //! What holds the objects that leaked, in one pass over the fields.
-ghost use Rattle.std.specs.Prelude.{◌≡◌, ◌≤◌, length, IfOk, OnOk};
+ghost use Rattle.std.specs.Prelude.{◌≡◌, ◌≤◌, [], ◌∷◌, length, if◌then◌else◌, IfOk, OnOk};
 ghost use Rattle.std.specs.Option.{option_copied};
 ghost use Rattle.std.specs.Ordering.{nat_cmp};
 ghost use Rattle.std.specs.List.Sorted.{IsStrictlySortedBy};
 ghost use Rattle.std.specs.FinMap.{get};
 ghost use Rattle.ownership_model.specs.Bounds.{ObjectFits};
-ghost use Rattle.leak_report.specs.HolderPass.{with_slot, with_slots, with_entry, with_entries, unheld, leak_names};
+ghost use Rattle.ownership_model.specs.Leaks.{holds, fields_holding, entry_holding, holders_in};
+ghost use Rattle.leak_report.specs.HolderPass.{with_holders, unheld, leak_names};
 
 use object_heap::heap::Heap;
 use ownership_model::leaks::{Holder, Leak};
@@ -37,7 +38,7 @@ pub fn push_holders(
 ) -> Result<(), AllocError>
     requires same { leak_names leaks.old.items ≡ names.now }
     requires rising { IsStrictlySortedBy nat_cmp names.now }
-    ensures { OnOk result (leaks.new.items ≡ with_entries heap.now objects.now leaks.old.items) }
+    ensures { OnOk result (leaks.new.items ≡ with_holders (λ o. holders_in heap.now objects.now o) leaks.old.items) }
 {
     for object in objects {
         push_entry_holders(*object, entry(heap, *object), names, leaks)?;
@@ -63,7 +64,7 @@ fn push_entry_holders(
     requires fits { ObjectFits object (option_copied entry) }
     requires same { leak_names leaks.old.items ≡ names.now }
     requires rising { IsStrictlySortedBy nat_cmp names.now }
-    ensures value { OnOk result (leaks.new.items ≡ with_entry object (option_copied entry.entry) leaks.old.items) }
+    ensures value { OnOk result (leaks.new.items ≡ with_holders (λ o. entry_holding o object (option_copied entry.entry)) leaks.old.items) }
     ensures same { OnOk result (leak_names leaks.new.items ≡ names.now) }
 {
     match entry {
@@ -81,7 +82,7 @@ fn push_field_holders(
     requires few { length fields.now ≤ 16 }
     requires same { leak_names leaks.old.items ≡ names.now }
     requires rising { IsStrictlySortedBy nat_cmp names.now }
-    ensures value { OnOk result (leaks.new.items ≡ with_slots object 0 fields.now leaks.old.items) }
+    ensures value { OnOk result (leaks.new.items ≡ with_holders (λ o. fields_holding o object 0 fields.now) leaks.old.items) }
     ensures same { OnOk result (leak_names leaks.new.items ≡ names.now) }
 {
     for (i, slot) in fields.iter().enumerate() {
@@ -100,7 +101,7 @@ fn push_holder(
 ) -> Result<(), AllocError>
     requires same { leak_names leaks.old.items ≡ names.now }
     requires rising { IsStrictlySortedBy nat_cmp names.now }
-    ensures value { OnOk result (leaks.new.items ≡ with_slot holder.object holder.field slot leaks.old.items) }
+    ensures value { OnOk result (leaks.new.items ≡ with_holders (λ o. if holds o slot then holder ∷ [] else []) leaks.old.items) }
     ensures same { OnOk result (leak_names leaks.new.items ≡ names.now) }
 {
     let Slot::Strong(object) = slot else {
