@@ -7,6 +7,7 @@ use Rattle.trace_types.specs.declared.outcomes.Verdict.TheVariants.{Did, Skipped
 use Rattle.trace_types.specs.Operation.{Operation}
 use Rattle.trace_types.specs.Names.{name_of_kind}
 
+-- an operation's name and what it did
 pub record Line : Type 0 where
   pub name : OpName
   pub outcome : Outcome

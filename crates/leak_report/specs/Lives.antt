@@ -3,6 +3,7 @@
 -- allocation is given up once no Weak is left (documentation of std::sync::Weak). That the first such event of an object
 -- counts is a profile of this project.
 use Rattle.std.specs.Prelude.{ℕ, ◌==◌, List, [], ◌∷◌, map, flat_map, Option, Some, None, Bool, true, false, if◌then◌else◌}
+use Rattle.std.specs.Option.{option_or}
 use Rattle.std.specs.Ordering.{nat_cmp}
 use Rattle.std.specs.BTreeSet.{insert_key}
 use Rattle.trace_types.specs.declared.outcomes.Event.{Event}
@@ -15,15 +16,10 @@ use Rattle.leak_report.specs.declared.lives.Ending.{Ending}
 use Rattle.leak_report.specs.declared.lives.Ending.TheVariants as ending
 use Rattle.leak_report.specs.declared.lives.Life.{Life}
 
--- the first answer, or else the second
-abbrev pub or_later : {B : Type 0} → Option B → Option B → Option B
-or_later None later = later
-or_later (Some x) later = Some x
-
 -- the first answer along a list
 abbrev pub first_some : {A B : Type 0} → (A → Option B) → List A → Option B
 first_some f [] = None
-first_some f (x ∷ xs) = or_later (f x) (first_some f xs)
+first_some f (x ∷ xs) = option_or (f x) (first_some f xs)
 
 -- how an operation's event ends the value of o, if it does
 abbrev pub ending_at : ℕ → ℕ × Event → Option Ending
@@ -69,8 +65,10 @@ abbrev pub made_after : List ℕ → List Outcome → List ℕ
 made_after os [] = os
 made_after os (out ∷ outs) = made_after (if is_making out.verdict then insert_key nat_cmp os out.id else os) outs
 
+-- what became of an object
 abbrev pub life_of : List Outcome → ℕ → Life
 life_of outs o = record { object = o; ending = first_ending o (events_of outs); freed = first_freed o (events_of outs) }
 
+-- of all that were made, rising
 abbrev pub lives_of : List Outcome → List Life
 lives_of outs = map (life_of outs) (made_after [] outs)

@@ -15,5 +15,6 @@ pub record Contents : Type 0 where
   pub lives : List Life
   pub leaks : Leaks
 
+-- what a report says of these
 abbrev pub report_of : List Operation → List Outcome → State → Contents
 report_of ops outcomes end = record { lines = lines_of ops outcomes; lives = lives_of outcomes; leaks = leaks_of end }

@@ -128,5 +128,6 @@ total_line r = total_text (length r.lines) (count_by is_skipped_line r.lines) (l
 
 -- the whole
 
+-- the text of a report
 abbrev pub report_text : Contents → List ℕ
 report_text r = lines_text r.lines ++ lives_text r.lives ++ leaks_text r.leaks.leaked ++ husks_text r.leaks.husks ++ total_line r

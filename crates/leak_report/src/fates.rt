@@ -1,9 +1,10 @@
 //! What the events of a replay tell of the objects that they name.
 ghost use Rattle.std.specs.Prelude.{◌≡◌, ◌==◌, ℕ, [], if◌then◌else◌, Some, None, IfOk, OnOk};
+ghost use Rattle.std.specs.Option.{option_or};
 ghost use Rattle.std.specs.Ordering.{nat_cmp};
 ghost use Rattle.std.specs.BTreeMap.{get};
 ghost use Rattle.std.specs.BTreeSet.{insert_key};
-ghost use Rattle.leak_report.specs.Lives.{or_later, ending_at, freed_at, numbered, events_of, first_ending, first_freed, made_after};
+ghost use Rattle.leak_report.specs.Lives.{ending_at, freed_at, numbered, events_of, first_ending, first_freed, made_after};
 ghost use Rattle.leak_report.specs.Lives as definition;
 
 use crate::lives::{Ending, Life};
@@ -82,8 +83,8 @@ fn note_events(
     id: u32,
     events: &[Event],
 ) -> Result<(), AllocError>
-    ensures endings { OnOk result ((o : ℕ) → get nat_cmp endings.new o ≡ or_later (get nat_cmp endings.old o) (first_ending o (numbered id events.now))) }
-    ensures freed { OnOk result ((o : ℕ) → get nat_cmp freed.new o ≡ or_later (get nat_cmp freed.old o) (first_freed o (numbered id events.now))) }
+    ensures endings { OnOk result ((o : ℕ) → get nat_cmp endings.new o ≡ option_or (get nat_cmp endings.old o) (first_ending o (numbered id events.now))) }
+    ensures freed { OnOk result ((o : ℕ) → get nat_cmp freed.new o ≡ option_or (get nat_cmp freed.old o) (first_freed o (numbered id events.now))) }
 {
     for event in events {
         note_event(endings, freed, id, *event)?;
@@ -97,8 +98,8 @@ fn note_event(
     id: u32,
     event: Event,
 ) -> Result<(), AllocError>
-    ensures endings { OnOk result ((o : ℕ) → get nat_cmp endings.new o ≡ or_later (get nat_cmp endings.old o) (ending_at o (id, event))) }
-    ensures freed { OnOk result ((o : ℕ) → get nat_cmp freed.new o ≡ or_later (get nat_cmp freed.old o) (freed_at o (id, event))) }
+    ensures endings { OnOk result ((o : ℕ) → get nat_cmp endings.new o ≡ option_or (get nat_cmp endings.old o) (ending_at o (id, event))) }
+    ensures freed { OnOk result ((o : ℕ) → get nat_cmp freed.new o ≡ option_or (get nat_cmp freed.old o) (freed_at o (id, event))) }
 {
     match event {
         Event::Destroyed(object) => keep_first(endings, object, Ending::Destroyed(id)),
@@ -110,7 +111,7 @@ fn note_event(
 
 // Adds a value where the key has none.
 fn keep_first<V: Drop>(map: &mut BTreeMap<u32, V>, key: u32, value: V) -> Result<(), AllocError>
-    ensures { OnOk result ((o : ℕ) → get nat_cmp map.new o ≡ or_later (get nat_cmp map.old o) (if key == o then Some value else None)) }
+    ensures { OnOk result ((o : ℕ) → get nat_cmp map.new o ≡ option_or (get nat_cmp map.old o) (if key == o then Some value else None)) }
 {
     if map.get(&key).is_none() {
         map.insert(key, value)?;
