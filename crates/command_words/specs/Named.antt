@@ -9,10 +9,11 @@ use Rattle.command_words.specs.declared.Command.TheVariants.{Replay, Script, Wha
 use Rattle.command_words.specs.declared.WordsFault.{WordsFault}
 use Rattle.command_words.specs.declared.WordsFault.TheVariants.{Usage, Memory}
 
--- what clap was told of the program
+-- the program's name alone
 abbrev pub bare_app : App
 bare_app = new_app (codes "arc_scope")
 
+-- what clap was told of the program
 abbrev pub scope_app : App
 scope_app = with_subcommand (with_subcommand (with_subcommand
     (record bare_app { top = record bare_app.top { subcommand_required = true } })
@@ -36,7 +37,7 @@ abbrev pub IsRefused : List Text → WordsFault → Type 0
 IsRefused words (Usage error) = are_taken words ≡ true → NamesNone (subcommand_of scope_app words)
 IsRefused words Memory = Unit {0}
 
--- an error of clap is told as it is, but for want of memory
-abbrev pub IsRefusal : WordsFault → ErrorKind → Type 0
-IsRefusal (Usage error) kind = kind ≢ OutOfMemory
-IsRefusal Memory kind = kind ≡ OutOfMemory
+-- which fault an error of this kind is: want of memory is Memory, all else Usage
+abbrev pub IsFaultOf : WordsFault → ErrorKind → Type 0
+IsFaultOf (Usage error) kind = kind ≢ OutOfMemory
+IsFaultOf Memory kind = kind ≡ OutOfMemory

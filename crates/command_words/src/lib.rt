@@ -3,7 +3,7 @@
 
 ghost use Rattle.std.specs.Prelude.{◌≡◌, map, string_bytes, IfOk, IfErr, IfSome, IfNone};
 ghost use Rattle.clap.specs.Words.{app_of, subcommand_of, subcommand_rows_of};
-ghost use Rattle.command_words.specs.Named.{Names, NamesNone, IsRefused, IsRefusal, scope_app};
+ghost use Rattle.command_words.specs.Named.{Names, NamesNone, IsRefused, IsFaultOf, scope_app};
 ghost use Rattle.clap.specs.Values.{kind_of};
 
 use clap::ArgMatches;
@@ -61,7 +61,7 @@ fn command_among<'a>(
 }
 
 fn refusal(error: clap::Error) -> WordsFault
-    ensures { IsRefusal result (kind_of error) }
+    ensures { IsFaultOf result (kind_of error) }
 {
     match error.kind() {
         ErrorKind::OutOfMemory => WordsFault::Memory,

@@ -1,4 +1,4 @@
--- The text of a fault.
+-- The text of a fault (profile of this project).
 use Rattle.std.specs.Prelude.{ℕ, List, ◌++◌, ◌∷◌, [], codes, decimal}
 use Rattle.trace_reader.specs.declared.fault.LineCause.{LineCause}
 use Rattle.trace_reader.specs.declared.fault.LineCause.TheVariants.{LineTooLong, NotJson, NotObject, Missing, WrongType, UnknownOp, OutOfRange, IdTaken, TooMany, Memory}
@@ -16,5 +16,6 @@ cause_text IdTaken = codes "IdTaken"
 cause_text TooMany = codes "TooMany"
 cause_text Memory = codes "Memory"
 
+-- the line that tells a fault, without its newline
 abbrev pub fault_text : LineFault → List ℕ
 fault_text f = codes "fault line " ++ decimal f.line ++ codes " " ++ cause_text f.cause

@@ -1,4 +1,5 @@
--- The members of each operation, in the order in which they are tried. Members that aren't named are ignored.
+-- The members of each operation, in the order in which they are tried (profile of this project). Members that aren't named
+-- are ignored.
 use Rattle.std.specs.Prelude.{ℕ, List, codes, Bool, true, false, Option, Result, Ok, Err}
 use Rattle.serde_json.specs.Data.{Data}
 use Rattle.trace_types.specs.declared.kinds.Kind.{Kind}

@@ -1,4 +1,5 @@
--- What a member of a JSON object is, or which fault it has: missing, of the wrong type or out of range, tried in this order.
+-- What a member of a JSON object is, or which fault it has: missing, of the wrong type or out of range, tried in this order
+-- (RFC 8259, as serde_json::Value reads it; limits and faults are a profile of this project).
 use Rattle.std.specs.Prelude.{◌≡◌, ℕ, List, [], ◌∷◌, ◌++◌, codes, Bool, true, false, ◌&&◌, nat_le, if◌then◌else◌, Option, Some, None, option_and_then, Result, Ok, Err}
 use Rattle.std.specs.Str.{bytes_eq}
 use Rattle.serde_json.specs.Data.{Data, null, boolean, number, string, array, object, Items, no_items, item}
@@ -31,6 +32,7 @@ Gives (Err cause) reading = FailsAs cause reading
 abbrev pub number_of : Data → Option ℕ
 number_of d = option_and_then as_u64 (as_number d)
 
+-- the number, where it is from low to high
 abbrev pub within : ℕ → ℕ → Option ℕ → Result ℕ LineCause
 within low high None = Err WrongType
 within low high (Some n) = if nat_le low n && nat_le n high then Ok n else Err OutOfRange

@@ -1,4 +1,5 @@
--- Which trace a text is, or which fault its first faulty line has.
+-- Which trace a text is, or which fault its first faulty line has (RFC 8259, as serde_json::Value reads it; limits and faults
+-- are a profile of this project).
 use Rattle.std.specs.Prelude.{◌≡◌, ◌≤◌, ◌==◌, ℕ, suc, List, [], ◌∷◌, length, codes, Bool, ◌||◌, nat_lt, if◌then◌else◌, Option, Some, None, Result, Ok, Err}
 use Rattle.std.specs.List.{list_all, slice_split}
 use Rattle.std.specs.Str.{is_utf8}

@@ -1,4 +1,4 @@
--- Which request a line is: the version it was made for, the session that made it, and its edits.
+-- Which request a line is: the version it was made for, the session that made it, and its edits (profile of this project).
 use Rattle.std.specs.Prelude.{ℕ, List, [], ◌∷◌, ◌++◌, codes, if◌then◌else◌, Option, Some, None, Result, Ok, Err}
 use Rattle.std.specs.Str.{bytes_eq}
 use Rattle.serde_json.specs.Data.{Data, Items, no_items, item}

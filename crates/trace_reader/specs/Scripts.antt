@@ -1,4 +1,4 @@
--- Which trace a text is with the requests that follow it, or which fault its first faulty line has.
+-- Which trace a text is with the requests that follow it, or which fault its first faulty line has (profile of this project).
 use Rattle.std.specs.Prelude.{ℕ, suc, List, [], ◌∷◌, ◌++◌, length, codes, Bool, ◌&&◌, nat_lt, if◌then◌else◌, Result, Ok, Err}
 use Rattle.std.specs.Str.{bytes_eq}
 use Rattle.trace_types.specs.Operation.{Operation}

@@ -1,5 +1,6 @@
 -- The canonical line of an operation: the compact text of its JSON object, whose members stand in the order of the bytes of
--- their names. The canonical lines of a trace are these, each with a newline.
+-- their names (serde_json's compact text; its Map is sorted by key). The canonical lines of a trace are these, each with a
+-- newline.
 use Rattle.std.specs.Prelude.{ℕ, List, [], ◌∷◌, ◌++◌, map, codes, Option, Some, None, Result}
 use Rattle.std.specs.List.{flat_map}
 use Rattle.serde_json.specs.Data.{Data, null, number, unsigned, string, array, object, Items, Members, no_members, member}

@@ -1,4 +1,4 @@
--- What a source gives and a sink takes.
+-- What a source gives and a sink takes (std::io::Read and Write; the flag is a profile of this project).
 use Rattle.std.specs.Prelude.{◌≡◌, ℕ, List, take, Bool, ◌||◌, Option, IfSome, Result, is_err}
 use Rattle.std.specs.Io.KnownBytes.{Appends}
 

@@ -1,4 +1,4 @@
--- The names of the operations.
+-- The names of the operations (profile of this project).
 use Rattle.std.specs.Prelude.{List, ℕ, codes, Option, Some, None, if◌then◌else◌}
 use Rattle.std.specs.Str.{bytes_eq}
 use Rattle.trace_types.specs.declared.kinds.Kind.{Kind}
@@ -6,6 +6,7 @@ use Rattle.trace_types.specs.declared.kinds.Kind.TheVariants as kind
 use Rattle.trace_types.specs.declared.names.OpName.{OpName}
 use Rattle.trace_types.specs.declared.names.OpName.TheVariants.{New, NewCyclic, NewFrom, WeakNew, Null, Clone, Drop, Downgrade, Upgrade, TryUnwrap, IntoInner, GetMut, MakeMut, Counts, PtrEq, Set, Take, Get, CellNew, CellLoad, CellSwap, CellCas, CellDrop}
 
+-- how a name is written
 abbrev pub name_text : OpName → List ℕ
 name_text New = codes "new"
 name_text NewCyclic = codes "new_cyclic"
