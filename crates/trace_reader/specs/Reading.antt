@@ -6,6 +6,7 @@ use Rattle.std.specs.Str.{is_utf8}
 use Rattle.serde_json.specs.Data.{Data, Members}
 use Rattle.serde_json.specs.Read.{read}
 use Rattle.serde_json.specs.Find.{as_object}
+use Rattle.trace_types.specs.Limits.{max_id, max_thread, max_line}
 use Rattle.trace_types.specs.Names.{name_of}
 use Rattle.trace_types.specs.Operation.{Operation}
 use Rattle.trace_types.specs.Trace.{pushed}
@@ -33,8 +34,8 @@ kind_at d = do
 -- the members `id`, `t`, `op` and then those of the operation
 unfoldable pub members_of_op : Data → Result Operation LineCause
 members_of_op d = do
-  id ← number_at (codes "id") 1 999999999 d
-  thread ← number_at (codes "t") 0 65535 d
+  id ← number_at (codes "id") 1 max_id d
+  thread ← number_at (codes "t") 0 max_thread d
   kind ← kind_at d
   Ok (record { id = id; thread = thread; kind = kind })
 
@@ -72,7 +73,7 @@ push_cause (Err fault) = Err (push_cause_of fault)
 
 -- the trace after a line
 unfoldable pub after_line : List Operation → List ℕ → Result (List Operation) LineCause
-after_line ops line = if nat_lt 4096 (length line) then Err LineTooLong else (if is_blank line then Ok ops else (json_of line >>= read_op >>= λ op. push_cause (pushed ops op)))
+after_line ops line = if nat_lt max_line (length line) then Err LineTooLong else (if is_blank line then Ok ops else (json_of line >>= read_op >>= λ op. push_cause (pushed ops op)))
 
 -- ---- a text
 

@@ -3,6 +3,7 @@ use Rattle.std.specs.Prelude.{ℕ, List, [], ◌∷◌, ◌++◌, codes, if◌th
 use Rattle.std.specs.Str.{bytes_eq}
 use Rattle.serde_json.specs.Data.{Data, Items, no_items, item}
 use Rattle.serde_json.specs.Find.{get, as_array, as_object}
+use Rattle.trace_types.specs.Limits.{max_id}
 use Rattle.trace_types.specs.Operation.{Operation}
 use Rattle.trace_types.specs.declared.edits.Edit.{Edit}
 use Rattle.trace_types.specs.declared.edits.Edit.TheVariants.{Insert, Remove, Change}
@@ -24,11 +25,11 @@ op_at d = op_in (get (codes "op") d)
 
 -- the number of an operation of the trace
 abbrev pub id_at : Data → Result ℕ LineCause
-id_at d = number_at (codes "id") 1 999999999 d
+id_at d = number_at (codes "id") 1 max_id d
 
 unfoldable pub insert_at : Data → Result Edit LineCause
 insert_at d = do
-  after ← number_at (codes "after") 0 999999999 d
+  after ← number_at (codes "after") 0 max_id d
   op ← op_at d
   Ok (Insert after op)
 

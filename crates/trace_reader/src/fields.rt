@@ -2,6 +2,7 @@
 ghost use Rattle.std.specs.Prelude.{◌≡◌, ◌≤◌, [], length, Some, IfOk, IsTrue, ◌&&◌, nat_le};
 ghost use Rattle.std.specs.List.{list_all};
 ghost use Rattle.serde_json.specs.View.{view, items_view};
+ghost use Rattle.trace_types.specs.Limits.{max_fields};
 ghost use Rattle.trace_reader.specs.Members.{Gives, field_named, field_of, field_test, fields_from, few_fields, fields_at};
 
 use crate::fault::LineCause;
@@ -16,7 +17,7 @@ use trace_types::sequence::Sequence;
 #[tactic(auto, unfolding(crate::specs::Members::fields_at))]
 pub fn fields(alloc: Global, value: &Value, cyclic: bool) -> Result<Sequence<Field>, LineCause>
     ensures value { Gives result (fields_at cyclic (view value.now)) }
-    ensures length { IfOk result (λ fields. length fields ≤ 16) }
+    ensures length { IfOk result (λ fields. length fields ≤ max_fields) }
     ensures within { IfOk result (λ fields. IsTrue (list_all (field_test cyclic) fields)) }
 {
     let Some(member) = value.get("fields") else {
@@ -31,7 +32,7 @@ pub fn fields(alloc: Global, value: &Value, cyclic: bool) -> Result<Sequence<Fie
 // The length is tried before the elements.
 fn few_elements(alloc: Global, items: &[Value], cyclic: bool) -> Result<Sequence<Field>, LineCause>
     ensures value { Gives result (few_fields cyclic (Some (items_view items.now))) }
-    ensures length { IfOk result (λ fields. length fields ≤ 16) }
+    ensures length { IfOk result (λ fields. length fields ≤ max_fields) }
     ensures within { IfOk result (λ fields. IsTrue (list_all (field_test cyclic) fields)) }
 {
     if items.len() > MAX_FIELDS {

@@ -1,7 +1,7 @@
 //! The members of a JSON object.
 ghost use Rattle.std.specs.Prelude.{◌≡◌, ◌≤◌, Ok, Err, IfOk, IsTrue, MatchResult, codes};
 ghost use Rattle.serde_json.specs.View.{view};
-ghost use Rattle.trace_types.specs.Limits.{is_perhaps_name};
+ghost use Rattle.trace_types.specs.Limits.{max_name, is_perhaps_name};
 ghost use Rattle.trace_reader.specs.Members.{within, number_at, handle_at, perhaps_handle_at, text_at};
 ghost use Rattle.trace_reader.specs.Members as Members;
 
@@ -38,7 +38,7 @@ pub fn number_of(value: &Value, low: u32, high: u32) -> Result<u32, LineCause>
 /// The number of a handle or a cell.
 pub fn handle(value: &Value, name: &str) -> Result<u32, LineCause>
     ensures value { result ≡ handle_at name.now (view value.now) }
-    ensures range { IfOk result (λ h. h ≤ 999999) }
+    ensures range { IfOk result (λ h. h ≤ max_name) }
 {
     number(value, name, 0, MAX_NAME)
 }

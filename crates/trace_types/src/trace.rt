@@ -1,6 +1,7 @@
 //! A trace: operations with distinct numbers, in the order of the traced program.
 ghost use Rattle.std.specs.Prelude.{◌≡◌, ◌<◌, ◌++◌, [], ◌∷◌, length, slice_get, Ok, OnOk, OnErr, IfErr};
 ghost use Rattle.std.specs.Option.{option_copied};
+ghost use Rattle.trace_types.specs.Limits.{max_ops};
 ghost use Rattle.trace_types.specs.Trace.{IsTrace, place_of, is_taken, IsNew, pushed, IsPushFault};
 
 use crate::ops::{Op, TraceFault};
@@ -98,7 +99,7 @@ impl Trace {
     // Adds an operation at the end.
     fn append(&mut self, op: Op) -> Result<(), AllocError>
         requires new { IsNew op.id self.old }
-        requires room { length self.old < 65536 }
+        requires room { length self.old < max_ops }
         ensures ok { OnOk result (self.new ≡ self.old ++ op ∷ []) }
         ensures unchanged { OnErr result (self.new ≡ self.old) }
     {
