@@ -1,6 +1,6 @@
 -- What a member of a JSON object is, or which fault it has: missing, of the wrong type or out of range, tried in this order
 -- (RFC 8259, as serde_json::Value reads it; limits and faults are a profile of this project).
-use Rattle.std.specs.Prelude.{◌≡◌, ℕ, List, [], ◌∷◌, ◌++◌, codes, Bool, true, false, ◌&&◌, nat_le, if◌then◌else◌, Option, Some, None, option_and_then, Result, Ok, Err}
+use Rattle.std.specs.Prelude.{◌≡◌, ℕ, List, [], ◌∷◌, ◌++◌, codes, Bool, true, false, ◌&&◌, nat_le, if◌then◌else◌, Option, Some, None, option_and_then, ok_or, Result, Ok, Err}
 use Rattle.std.specs.Str.{bytes_eq}
 use Rattle.serde_json.specs.Data.{Data, null, boolean, number, string, array, object, Items, no_items, item}
 use Rattle.serde_json.specs.Events.{items_len}
@@ -64,13 +64,9 @@ perhaps_handle_in (Some d) = handle_or_null d
 unfoldable pub perhaps_handle_at : List ℕ → Data → Result (Option ℕ) LineCause
 perhaps_handle_at name d = perhaps_handle_in (get name d)
 
-abbrev pub text_of : Option (List ℕ) → Result (List ℕ) LineCause
-text_of None = Err WrongType
-text_of (Some text) = Ok text
-
 abbrev pub text_in : Option Data → Result (List ℕ) LineCause
 text_in None = Err Missing
-text_in (Some d) = text_of (as_str d)
+text_in (Some d) = ok_or (as_str d) WrongType
 
 -- the member of that name, a text
 unfoldable pub text_at : List ℕ → Data → Result (List ℕ) LineCause

@@ -1,6 +1,6 @@
 -- Which trace a text is, or which fault its first faulty line has (RFC 8259, as serde_json::Value reads it; limits and faults
 -- are a profile of this project).
-use Rattle.std.specs.Prelude.{◌≡◌, ◌≤◌, ◌==◌, ℕ, suc, List, [], ◌∷◌, length, codes, Bool, ◌||◌, nat_lt, if◌then◌else◌, Option, Some, None, Result, Ok, Err}
+use Rattle.std.specs.Prelude.{◌≡◌, ◌≤◌, ◌==◌, ℕ, suc, List, [], ◌∷◌, length, codes, Bool, ◌||◌, nat_lt, if◌then◌else◌, Option, Some, None, ok_or, Result, Ok, Err}
 use Rattle.std.specs.List.{list_all, slice_split}
 use Rattle.std.specs.Str.{is_utf8}
 use Rattle.serde_json.specs.Data.{Data, Members}
@@ -49,13 +49,9 @@ read_op d = on_object NotObject (as_object d) (members_of_op d)
 
 -- ---- a line
 
-abbrev pub or_not_json : Option Data → Result Data LineCause
-or_not_json None = Err NotJson
-or_not_json (Some d) = Ok d
-
 -- the value of a line, as serde_json reads it
 unfoldable pub json_of : List ℕ → Result Data LineCause
-json_of line = if is_utf8 line then or_not_json (read line) else Err NotJson
+json_of line = if is_utf8 line then ok_or (read line) NotJson else Err NotJson
 
 -- spaces, tabs and carriage returns alone
 abbrev pub is_blank : List ℕ → Bool
