@@ -1,5 +1,5 @@
 -- The lines of a text are read one after the other, so a fault stands at a line that was reached.
-use Rattle.std.proofs.Common.{◌≡◌, ℕ, suc, ◌≤◌, List, [], ◌∷◌, Bool, true, false, Result, Ok, Err, arith}
+use Rattle.std.proofs.Common.{ℕ, suc, List, [], ◌∷◌, Bool, true, false, Result, Ok, Err, arith}
 use Rattle.std.specs.Bool.{if◌then◌else◌}
 use Rattle.trace_types.specs.Operation.{Operation}
 use Rattle.trace_reader.specs.Members.{◌>>=◌}
@@ -8,7 +8,6 @@ use Rattle.trace_reader.specs.Scripts.{after_request, after_requests, is_divider
 use Rattle.trace_reader.specs.declared.fault.LineCause.{LineCause}
 use Rattle.trace_reader.specs.declared.fault.LineFault.{LineFault}
 use Rattle.trace_reader.specs.declared.request.RequestLine.{RequestLine}
-use Rattle.trace_reader.specs.declared.script.Script.{Script}
 
 IsReadUpTo-earlier : {A : Type 0} (n : ℕ) (reading : Result A LineFault) → IsReadUpTo (suc n) reading → IsReadUpTo n reading
 IsReadUpTo-earlier n (Ok x) h = tt

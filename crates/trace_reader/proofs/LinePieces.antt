@@ -1,8 +1,7 @@
 -- The pieces of a canonical line make the line.
-use Rattle.std.proofs.Common.{◌≡◌, ℕ, List, [], ◌∷◌, ◌++◌, Bool, true, false, Option, Some, None, refl, sym, ap, ap₂, ◌∙◌, codes, decimal, append_assoc}
-use Rattle.std.specs.List.{flat_map}
+use Rattle.std.proofs.Common.{◌≡◌, ℕ, List, [], ◌∷◌, ◌++◌, Bool, true, false, Some, None, refl, sym, ap, ap₂, ◌∙◌, codes, decimal, append_assoc}
 use Rattle.json.specs.Print.{quoted}
-use Rattle.serde_json.specs.Data.{Data, Members, no_members, member, array, string}
+use Rattle.serde_json.specs.Data.{Data, Members, member, string}
 use Rattle.serde_json.specs.Written.{compact_text, items_text, members_text, comma_if}
 use Rattle.serde_json.proofs.OnLiterals.{serde_json_on_literals}
 use Rattle.trace_types.specs.Names.{name_text, name_of_kind}
@@ -13,8 +12,8 @@ use Rattle.trace_types.specs.declared.kinds.Field.{Field}
 use Rattle.trace_types.specs.declared.kinds.Field.TheVariants.{Held, Null, Me}
 use Rattle.trace_types.specs.declared.kinds.Kind.{Kind}
 use Rattle.trace_types.specs.declared.kinds.Kind.TheVariants as kind
-use Rattle.trace_reader.specs.Writing.{natural, number_member, field_data, fields_data, members_before, members_after, perhaps_to, members_of, line_of}
-use Rattle.trace_reader.specs.LineText.{number_text, field_text, elements_text, fields_text, to_text, perhaps_to_text, text_before, text_after, text_between, line_text}
+use Rattle.trace_reader.specs.Writing.{natural, number_member, field_data, fields_data, members_before, members_after, members_of, line_of}
+use Rattle.trace_reader.specs.LineText.{number_text, field_text, elements_text, fields_text, text_before, text_after, text_between, line_text}
 
 -- ---- the fields
 

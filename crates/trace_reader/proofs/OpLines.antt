@@ -1,10 +1,10 @@
 -- The canonical line of an operation reads as the operation.
-use Rattle.std.proofs.Common.{◌≡◌, ℕ, suc, ◌^◌, ◌≤◌, ◌<◌, List, [], ◌∷◌, ◌++◌, length, Bool, true, false, ◌&&◌, nat_le, Option, Some, None, Ok, Err, refl, sym, ap, ◌∙◌, arith, codes, decimal, append-nil, append_assoc, le-leb, leb-true}
+use Rattle.std.proofs.Common.{◌≡◌, ℕ, suc, ◌^◌, ◌≤◌, ◌<◌, List, [], ◌∷◌, ◌++◌, length, Bool, true, false, ◌&&◌, nat_le, Some, None, Ok, refl, sym, ap, ◌∙◌, arith, append-nil, append_assoc, le-leb, leb-true}
 use Rattle.std.specs.List.{list_all}
 use Rattle.std.specs.Option.{option_map}
 use Rattle.json.specs.Tree as tree
 use Rattle.json.proofs.Printed.Decimals.{IsNumber-decimal}
-use Rattle.serde_json.specs.Data.{Data, Items, object, number}
+use Rattle.serde_json.specs.Data.{Data, number}
 use Rattle.serde_json.specs.Events.{items_len}
 use Rattle.serde_json.specs.Read.{read, of_json, of_items, max_depth}
 use Rattle.serde_json.specs.Written.{outline, items_outline}
@@ -19,7 +19,7 @@ use Rattle.trace_types.specs.declared.kinds.Kind.TheVariants as kind
 use Rattle.trace_reader.specs.Members.{◌>>=◌, within, field_test, fields_from, number_at, perhaps_handle_at, text_at, fields_at}
 use Rattle.trace_reader.specs.Kinds.{new_at, new_cyclic_at, new_from_at, weak_new_at, null_at, clone_at, drop_at, downgrade_at, upgrade_at, try_unwrap_at, into_inner_at, get_mut_at, make_mut_at, counts_at, ptr_eq_at, set_at, take_at, get_at, cell_new_at, cell_load_at, cell_swap_at, cell_cas_at, cell_drop_at}
 use Rattle.trace_reader.specs.Reading.{read_op, members_of_op, kind_at}
-use Rattle.trace_reader.specs.Writing.{natural, field_data, fields_data, members_of, data_of, line_of}
+use Rattle.trace_reader.specs.Writing.{natural, fields_data, members_of, data_of, line_of}
 use Rattle.trace_reader.proofs.ReadBack.{read-compact_text}
 
 pub both : (a b : Bool) → (a && b) ≡ true → (a ≡ true) × (b ≡ true)

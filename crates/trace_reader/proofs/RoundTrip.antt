@@ -1,7 +1,7 @@
 -- The canonical lines of a trace read as the trace.
-use Rattle.std.proofs.Common.{◌≡◌, ℕ, suc, ◌≤◌, ◌<◌, List, [], ◌∷◌, ◌++◌, length, Bool, true, false, ◌&&◌, ◌==◌, nat_lt, nat_le, Ok, Err, refl, sym, subst, ap, ◌∙◌, arith, append-nil, append_assoc, leb-true, ltb-true, le-ltb, ne_eqb}
-use Rattle.std.specs.List.{list_all, slice_split, AllByRecursion, All}
-use Rattle.std.specs.Str.{IsUtf8, IsAscii}
+use Rattle.std.proofs.Common.{◌≡◌, ℕ, suc, ◌≤◌, List, [], ◌∷◌, ◌++◌, length, true, false, ◌==◌, nat_lt, nat_le, Ok, refl, sym, subst, ap, ◌∙◌, arith, append-nil, append_assoc, leb-true, ltb-true, le-ltb, ne_eqb}
+use Rattle.std.specs.List.{list_all, AllByRecursion}
+use Rattle.std.specs.Str.{IsAscii}
 use Rattle.std.proofs.lemmas.List.Elements.{All-from_recursion}
 use Rattle.std.proofs.lemmas.List.Splits.{slice_split_at}
 use Rattle.std.proofs.lemmas.Str.{IsUtf8-from_ascii}
@@ -15,7 +15,7 @@ use Rattle.trace_reader.specs.Members.{◌>>=◌}
 use Rattle.trace_reader.proofs.Json.{json_of-read}
 use Rattle.trace_reader.proofs.OpLines.{both, read-line_of, read_op-data_of}
 use Rattle.trace_reader.proofs.Traces.{GoesOn, GoesOn-from_trace}
-use Rattle.trace_reader.proofs.Visible.{is_visible, IsNeatLine, IsNeatLine-line_of}
+use Rattle.trace_reader.proofs.Visible.{is_visible, IsNeatLine-line_of}
 
 no_newlines : (xs : List ℕ) → list_all is_visible xs ≡ true → AllByRecursion (λ x. (x == 10) ≡ false) xs
 no_newlines [] h = tt

@@ -1,5 +1,5 @@
 -- The text of a fault (profile of this project).
-use Rattle.std.specs.Prelude.{ℕ, List, ◌++◌, ◌∷◌, [], codes, decimal}
+use Rattle.std.specs.Prelude.{ℕ, List, ◌++◌, codes, decimal}
 use Rattle.trace_reader.specs.declared.fault.LineCause.{LineCause}
 use Rattle.trace_reader.specs.declared.fault.LineCause.TheVariants.{LineTooLong, NotJson, NotObject, Missing, WrongType, UnknownOp, OutOfRange, IdTaken, TooMany, Memory}
 use Rattle.trace_reader.specs.declared.fault.LineFault.{LineFault}

@@ -1,6 +1,6 @@
 -- The members of each operation, in the order in which they are tried (profile of this project). Members that aren't named
 -- are ignored.
-use Rattle.std.specs.Prelude.{ℕ, List, codes, Bool, true, false, Option, Result, Ok, Err}
+use Rattle.std.specs.Prelude.{codes, true, false, Result, Ok}
 use Rattle.serde_json.specs.Data.{Data}
 use Rattle.trace_types.specs.declared.kinds.Kind.{Kind}
 use Rattle.trace_types.specs.declared.kinds.Kind.TheVariants as kind
