@@ -45,16 +45,102 @@ fn other_words_are_refused(rt: HostRuntime) -> Result<(), Fail> {
     Ok(())
 }
 
-#[test]
-fn the_text_of_clap_is_shown(rt: HostRuntime) -> Result<(), Fail> {
-    let alloc = rt.alloc();
-    let given = words(alloc, &["arc_scope", "run"])?;
-    match read_words(alloc, given.as_slice()) {
+const HELP: &str = "\
+Replays a trace of Arc, Weak and atomic shared_ptr operations and reports what each did
+
+Usage: arc_scope <COMMAND>
+
+Commands:
+  replay  Reads a trace, one operation a line in JSON, and writes its report
+  script  Reads a trace, a line --, and requests to edit it, and writes the replies and the last version's report
+  whatif  Reads a trace, a line --, and one request to edit it, and writes the edited trace and its report
+  help    Print this message or the help of the given subcommand(s)
+
+Options:
+  -h, --help  Print help
+";
+
+const REPLAY_HELP: &str = "\
+Reads a trace, one operation a line in JSON, and writes its report
+
+Usage: arc_scope replay
+
+Options:
+  -h, --help  Print help
+";
+
+const SCRIPT_HELP: &str = "\
+Reads a trace, a line --, and requests to edit it, and writes the replies and the last version's report
+
+Usage: arc_scope script
+
+Options:
+  -h, --help  Print help
+";
+
+const WHATIF_HELP: &str = "\
+Reads a trace, a line --, and one request to edit it, and writes the edited trace and its report
+
+Usage: arc_scope whatif
+
+Options:
+  -h, --help  Print help
+";
+
+const NO_COMMAND: &str = "\
+error: 'arc_scope' requires a subcommand but one was not provided
+  [subcommands: replay, script, whatif, help]
+
+Usage: arc_scope <COMMAND>
+
+For more information, try '--help'.
+";
+
+const UNKNOWN_COMMAND: &str = "\
+error: unrecognized subcommand 'run'
+
+Usage: arc_scope <COMMAND>
+
+For more information, try '--help'.
+";
+
+const WORD_TOO_MANY: &str = "\
+error: unexpected argument 'twice' found
+
+Usage: arc_scope replay
+
+For more information, try '--help'.
+";
+
+// Whether these words are refused with that text.
+fn is_shown(alloc: Global, texts: &[&str], shown: &str) -> Result<bool, AllocError> {
+    let words = words(alloc, texts)?;
+    match read_words(alloc, words.as_slice()) {
         Err(WordsFault::Usage(error)) => {
             let text = format!(in alloc; "{error}")?;
-            assert!(rt; text.as_str().contains("run"));
+            Ok(text.as_str() == shown)
         }
-        _ => assert!(rt; false),
+        _ => Ok(false),
     }
+}
+
+#[test]
+fn help_is_shown(rt: HostRuntime) -> Result<(), Fail> {
+    let alloc = rt.alloc();
+    assert!(rt; is_shown(alloc, &["arc_scope", "--help"], HELP)?);
+    assert!(rt; is_shown(alloc, &["arc_scope", "-h"], HELP)?);
+    assert!(rt; is_shown(alloc, &["arc_scope", "help"], HELP)?);
+    assert!(rt; is_shown(alloc, &["arc_scope", "replay", "--help"], REPLAY_HELP)?);
+    assert!(rt; is_shown(alloc, &["arc_scope", "help", "script"], SCRIPT_HELP)?);
+    assert!(rt; is_shown(alloc, &["arc_scope", "whatif", "-h"], WHATIF_HELP)?);
+    Ok(())
+}
+
+#[test]
+fn a_refusal_is_shown(rt: HostRuntime) -> Result<(), Fail> {
+    let alloc = rt.alloc();
+    assert!(rt; is_shown(alloc, &["arc_scope"], NO_COMMAND)?);
+    assert!(rt; is_shown(alloc, &["arc_scope", "run"], UNKNOWN_COMMAND)?);
+    assert!(rt; is_shown(alloc, &["arc_scope", "replay", "twice"], WORD_TOO_MANY)?);
     Ok(())
 }

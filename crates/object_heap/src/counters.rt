@@ -2,7 +2,8 @@
 ghost use Rattle.std.specs.Prelude.{◌≡◌, OnOk, length};
 ghost use Rattle.std.specs.FinMap as map;
 ghost use Rattle.ownership_model.specs.State.{slots_weight, holding_weight};
-ghost use Rattle.ownership_model.specs.Bounds.{HoldingFits, max_fields};
+ghost use Rattle.trace_types.specs.Limits.{max_fields};
+ghost use Rattle.ownership_model.specs.Bounds.{HoldingFits};
 ghost use Rattle.object_heap.specs.Counted.{counters_at};
 ghost use Rattle.object_heap.specs.Gains.{IsSetAt, CountsMore, CountsItem, HasSlots, HasRoom};
 

@@ -16,14 +16,14 @@ use Rattle.trace_types.specs.declared.kinds.Field.{Field}
 use Rattle.trace_types.specs.declared.kinds.Kind.{Kind}
 use Rattle.trace_types.specs.declared.kinds.Kind.TheVariants as kind
 use Rattle.trace_types.specs.Operation.{Operation}
-use Rattle.trace_types.specs.Limits.{is_name, is_perhaps_name, is_kind, IsWithinLimits}
+use Rattle.trace_types.specs.Limits.{is_name, is_perhaps_name, is_kind, IsWithinLimits, max_name, max_id, max_fields}
 use Rattle.ownership_model.specs.declared.plan.Plan.{Plan}
 use Rattle.ownership_model.specs.declared.plan.Plan.TheVariants.{Skip, Act}
 use Rattle.ownership_model.specs.State.{State, IsSound, is_alive}
 use Rattle.ownership_model.specs.Changes.{changed}
 use Rattle.ownership_model.specs.View.{Element, Read, Null, Me, Seen, View, members, held_by, seen, elements_of, view_of, repeated}
 use Rattle.ownership_model.specs.Table.{row, row_of, new_row, upgraded, made_unique, dropped, swapped, exchanged, write_field, set_field, take_field, copy_field, fields_of, made_fields, ending, first_unheld, first_bare, same_pointer, make}
-use Rattle.ownership_model.specs.Bounds.{max_name, max_id, max_fields, AreFew, HoldingFits, HandleFits, ObjectFits, IsBounded, ChangeFits, ChangesFit, PlanFits}
+use Rattle.ownership_model.specs.Bounds.{AreFew, HoldingFits, HandleFits, ObjectFits, IsBounded, ChangeFits, ChangesFit, PlanFits}
 use Rattle.ownership_model.specs.Carry.{IsCarriable}
 use Rattle.ownership_model.specs.Step.{step, carried_out, end_from, AreNew}
 use Rattle.ownership_model.specs.Laws.{BoundsHold}

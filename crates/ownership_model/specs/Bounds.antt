@@ -10,21 +10,10 @@ use Rattle.trace_types.specs.declared.slots.Entry.{Entry}
 use Rattle.trace_types.specs.declared.slots.Entry.TheVariants.{Alive, Husk}
 use Rattle.trace_types.specs.declared.slots.Change.{Change}
 use Rattle.trace_types.specs.declared.slots.Change.TheVariants.{SetHandle, EndHandle, SetCell, EndCell, SetField, Make, TurnHusk}
+use Rattle.trace_types.specs.Limits.{max_name, max_id, max_fields}
 use Rattle.ownership_model.specs.State.{State}
 use Rattle.ownership_model.specs.declared.plan.Plan.{Plan}
 use Rattle.ownership_model.specs.declared.plan.Plan.TheVariants.{Skip, Act}
-
--- the greatest number of a handle or of a cell
-abbrev pub max_name : ℕ
-max_name = 999999
-
--- the greatest number of an operation, and so of an object
-abbrev pub max_id : ℕ
-max_id = 999999999
-
--- how many fields a value may have
-abbrev pub max_fields : ℕ
-max_fields = 16
 
 -- how many slots can stand at once: the fields of each handle's value, each cell, the fields of each object
 abbrev pub max_slots : ℕ
