@@ -418,3 +418,16 @@ fn nothing_leaks_where_nothing_is_held(rt: HostRuntime) -> Result<(), Fail> {
     assert_eq!(rt; leaks.husks.len(), 0);
     Ok(())
 }
+
+#[test]
+fn faults_are_told(rt: HostRuntime) -> Result<(), Fail> {
+    let table = [
+        (WriteFault::Device, "a write failed"),
+        (WriteFault::Memory, "out of memory"),
+    ];
+    for (fault, text) in table {
+        let told = format!(in rt.alloc(); "{fault}")?;
+        assert_eq!(rt; told.as_str(), text);
+    }
+    Ok(())
+}

@@ -479,3 +479,26 @@ fn a_trace_is_edited(rt: HostRuntime) -> Result<(), Fail> {
     assert_eq!(rt; edited.place(1), None);
     Ok(())
 }
+
+#[test]
+fn faults_are_told(rt: HostRuntime) -> Result<(), Fail> {
+    let table = [
+        (
+            RunFault::NoSuchOp(0),
+            "edit 0: no operation has this number",
+        ),
+        (RunFault::IdTaken(7), "edit 7: an operation has this number"),
+        (RunFault::TooMany(63), "edit 63: the trace is full"),
+        (RunFault::EmptyBatch, "the batch has no edit"),
+        (
+            RunFault::TooManyEdits,
+            "the batch has more than 64 edits",
+        ),
+        (RunFault::Memory, "out of memory"),
+    ];
+    for (fault, text) in table {
+        let told = format!(in rt.alloc(); "{fault}")?;
+        assert_eq!(rt; told.as_str(), text);
+    }
+    Ok(())
+}
