@@ -10,7 +10,7 @@ use Rattle.trace_types.specs.Operation.{Operation}
 use Rattle.run_engine.specs.SegmentView.{SegmentView}
 use Rattle.ownership_model.specs.Step.{end_from}
 use Rattle.run_engine.specs.Segments.{trace_of, mark_here, marks_from, AreReplayFrom, AreFull, BeginsMarked, IsRun, IsReached, all_marks}
-use Rattle.run_engine.specs.Common.{ShareEnd}
+use Rattle.run_engine.specs.HeadAndTail.{ShareEnd}
 use Rattle.run_engine.specs.Bounds.{AgreesAt, StepsAtMost}
 use Rattle.ownership_model.proofs.ReplayLemmas.{end_from-append}
 use Rattle.run_engine.proofs.SegmentLemmas.{trace_of-append, AreReplayFrom-append, AreReplayFrom-back, length-trace_of-next}

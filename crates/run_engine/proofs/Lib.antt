@@ -1,6 +1,6 @@
 mod ListingLemmas
 mod EditLemmas
-mod CommonLemmas
+mod HeadAndTailLemmas
 mod SegmentLemmas
 mod ShiftLemmas
 mod PieceLemmas

@@ -11,7 +11,7 @@ use Rattle.std.specs.List.{AllByRecursion}
 use Rattle.trace_types.specs.Operation.{Operation}
 use Rattle.run_engine.specs.SegmentView.{SegmentView}
 use Rattle.run_engine.specs.Segments.{ops_of, trace_of, mark_here, marks_from, all_marks, AreFull, BeginsMarked, IsRun, IsRestart, IsReached, IsPiece}
-use Rattle.run_engine.specs.Common.{ShareEnd, AreShared}
+use Rattle.run_engine.specs.HeadAndTail.{ShareEnd, AreShared}
 use Rattle.run_engine.specs.Bounds.{AgreesAt}
 use Rattle.run_engine.specs.NewMarks.{places, past, IsGap, AreNeighbours, AreLaid, AreMarksOf, AreMarksAfter}
 use Rattle.run_engine.proofs.SegmentLemmas.{marks_from-append}

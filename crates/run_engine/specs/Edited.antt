@@ -1,5 +1,6 @@
 -- The trace after a batch of edits (profile of this project).
 use Rattle.std.specs.Prelude.{ℕ, ◌+◌, ◌==◌, List, [], ◌∷◌, length, Option, Some, None, option_map, if◌then◌else◌, Result, Ok, Err, nat_le, nat_lt, insert, remove, slice_set}
+use Rattle.trace_types.specs.Limits.{max_ops}
 use Rattle.trace_types.specs.Operation.{Operation}
 use Rattle.trace_types.specs.Trace.{place_of, is_taken}
 use Rattle.trace_types.specs.declared.edits.Edit.{Edit}
@@ -14,7 +15,7 @@ place_after after ops = if after == 0 then Some 0 else option_map (λ i. i + 1) 
 -- the operations with one more at a place, where there is one
 abbrev pub inserted : ℕ → List Operation → Operation → Option ℕ → Result (List Operation) RunFault
 inserted k ops op None = Err (NoSuchOp k)
-inserted k ops op (Some i) = if is_taken op.id ops then Err (IdTaken k) else (if nat_le 65536 (length ops) then Err (TooMany k) else Ok (insert ops i op))
+inserted k ops op (Some i) = if is_taken op.id ops then Err (IdTaken k) else (if nat_le max_ops (length ops) then Err (TooMany k) else Ok (insert ops i op))
 
 -- the operations without the one at a place
 abbrev pub removed : ℕ → List Operation → Option ℕ → Result (List Operation) RunFault

@@ -4,7 +4,7 @@ pub mod SegmentView
 pub mod Marks
 pub mod Segments
 pub mod RunView
-pub mod Common
+pub mod HeadAndTail
 pub mod Bounds
 pub mod NewMarks
 pub mod Steps

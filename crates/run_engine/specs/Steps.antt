@@ -5,7 +5,7 @@ use Rattle.trace_types.specs.Operation.{Operation}
 use Rattle.ownership_model.specs.State.{State, nothing_held}
 use Rattle.ownership_model.specs.Step.{end_from}
 use Rattle.op_step.specs.Meter.{raised}
-use Rattle.run_engine.specs.Common.{AreShared}
+use Rattle.run_engine.specs.HeadAndTail.{AreShared}
 use Rattle.run_engine.specs.Marks.{IsGreatest}
 use Rattle.run_engine.specs.Bounds.{AgreesAt}
 use Rattle.run_engine.specs.NewMarks.{AreNeighbours}

@@ -3,7 +3,7 @@ ghost use Rattle.std.specs.Prelude.{◌≡◌, ℕ, List, ◌++◌, ◌+◌, ◌
 ghost use Rattle.ownership_model.specs.State.{nothing_held};
 ghost use Rattle.ownership_model.specs.Step.{AreNew};
 ghost use Rattle.run_engine.specs.Segments.{trace_of, marks_from, all_marks, IsRun, IsReached, IsPiece};
-ghost use Rattle.run_engine.specs.Common.{ShareEnd};
+ghost use Rattle.run_engine.specs.HeadAndTail.{ShareEnd};
 ghost use Rattle.run_engine.specs.Bounds.{StepsAtMost};
 ghost use Rattle.run_engine.specs.NewMarks.{AreLaid, AreMarksOf, IsGap};
 ghost use Rattle.run_engine.specs.Steps.{AreTaken, HaveStepped, AreStepped};

@@ -1,12 +1,12 @@
 //! A run: a trace that was replayed, its outcomes and its checkpoints, and what stays of it when the trace is edited.
 #![tactic(auto)]
 
-mod common;
 mod contents;
 mod converge;
 mod editing;
 pub mod edits;
 pub mod faults;
+mod head_and_tail;
 mod listing;
 mod piece;
 mod restart;

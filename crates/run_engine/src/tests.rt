@@ -373,6 +373,32 @@ fn stretches_kept(rt: HostRuntime) -> Result<(), Fail> {
     Ok(())
 }
 
+// The last stretch ends with the trace, and serves also where another operation follows.
+#[test]
+fn last_stretch_is_kept(rt: HostRuntime) -> Result<(), Fail> {
+    let alloc = rt.alloc();
+    let mut meter = Meter::new();
+    let run = Run::load(alloc, &broken_cycle(alloc)?, &mut meter)?;
+    let labelled = op_of(3, 1, Kind::Clone { from: 0, to: 2 })?;
+    let null = op(3000, Kind::Null { to: 30 })?;
+    let edits = two(
+        alloc,
+        Edit::Change {
+            id: 3,
+            op: labelled,
+        },
+        Edit::Insert {
+            after: 1011,
+            op: null,
+        },
+    )?;
+    let mut meter = Meter::new();
+    let edited = run.edited(alloc, &edits, &mut meter)?;
+    assert_eq!(rt; meter.count(), 65);
+    assert_eq!(rt; edited.len(), 1012);
+    Ok(())
+}
+
 #[test]
 fn remove_and_reinsert(rt: HostRuntime) -> Result<(), Fail> {
     let alloc = rt.alloc();

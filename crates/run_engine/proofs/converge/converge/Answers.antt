@@ -6,7 +6,7 @@ use Rattle.trace_types.specs.Operation.{Operation}
 use Rattle.ownership_model.specs.Step.{end_from}
 use Rattle.run_engine.specs.SegmentView.{SegmentView}
 use Rattle.run_engine.specs.Segments.{trace_of, marks_from, IsReached}
-use Rattle.run_engine.specs.Common.{ShareEnd}
+use Rattle.run_engine.specs.HeadAndTail.{ShareEnd}
 use Rattle.std.proofs.Math.Seq.{take-length}
 use Rattle.run_engine.proofs.SegmentLemmas.{length-trace_of-next}
 use Rattle.run_engine.proofs.PieceLemmas.{mark-is, take-rest}

@@ -3,8 +3,8 @@ use Rattle.ownership_model.proofs.ReplayLemmas.{distinct_new}
 use Rattle.run_engine.specs.Segments.{all_marks}
 use Rattle.run_engine.specs.Bounds.{StepsAtMost}
 use Rattle.run_engine.specs.Steps.{AreStepped}
-use Rattle.run_engine.specs.Common.{AreShared}
-use Rattle.run_engine.proofs.CommonLemmas.{ShareEnd-tail, from-greatest, bounded-none}
+use Rattle.run_engine.specs.HeadAndTail.{AreShared}
+use Rattle.run_engine.proofs.HeadAndTailLemmas.{ShareEnd-tail, from-greatest, bounded-none}
 use Rattle.run_engine.proofs.RestartLemmas.{IsReached-restart}
 use Rattle.run_engine.proofs.MarksLemmas.{AreMarksAfter-restart}
 use Rattle.run_engine.proofs.restart.resumed.Goals as goal

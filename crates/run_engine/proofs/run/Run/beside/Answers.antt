@@ -1,7 +1,7 @@
 use Rattle.std.proofs.Common.{ap, ◌∙◌}
 use Rattle.run_engine.specs.RunView.{RunView}
 use Rattle.run_engine.specs.Segments.{all_marks}
-use Rattle.run_engine.proofs.CommonLemmas.{bound-as, stepped-as}
+use Rattle.run_engine.proofs.HeadAndTailLemmas.{bound-as, stepped-as}
 use Rattle.run_engine.proofs.run.Run.beside.Goals as goal
 
 pub returns-in_err-segments-clause-bound : goal.returns-in_err-segments-clause-bound

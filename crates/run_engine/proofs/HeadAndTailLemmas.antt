@@ -4,7 +4,7 @@ use Rattle.std.proofs.lemmas.Bool.{cases_lt}
 use Rattle.std.proofs.lemmas.List.{take_more, same_from_push, drop-drop, drop_all}
 use mathlib.Core.Logic.{⊎_elim}
 use Rattle.trace_types.specs.Operation.{Operation}
-use Rattle.run_engine.specs.Common.{ShareEnd, IsHead, IsTail, AreShared}
+use Rattle.run_engine.specs.HeadAndTail.{ShareEnd, IsHead, IsTail, AreShared}
 use Rattle.run_engine.specs.Marks.{IsGreatest}
 use Rattle.run_engine.specs.Bounds.{StepsAtMostFrom}
 use Rattle.run_engine.specs.Steps.{AreSteppedFrom}

@@ -1,6 +1,6 @@
 use Rattle.std.proofs.Common.{rules, subst, drop, ◌≡◌, ◌-◌, length, true, false, arith}
-use Rattle.run_engine.proofs.CommonLemmas.{tail-more, tail-ends, tail-none}
-use Rattle.run_engine.proofs.common.tail.Goals as goal
+use Rattle.run_engine.proofs.HeadAndTailLemmas.{tail-more, tail-ends, tail-none}
+use Rattle.run_engine.proofs.head_and_tail.tail.Goals as goal
 
 pub loop-n-preserved : goal.loop-n-preserved
 loop-n-preserved c =

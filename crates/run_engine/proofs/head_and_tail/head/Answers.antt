@@ -1,6 +1,6 @@
 use Rattle.std.proofs.Common.{rules, subst, take, ◌≡◌, true, false, arith}
-use Rattle.run_engine.proofs.CommonLemmas.{head-more, head-ends}
-use Rattle.run_engine.proofs.common.head.Goals as goal
+use Rattle.run_engine.proofs.HeadAndTailLemmas.{head-more, head-ends}
+use Rattle.run_engine.proofs.head_and_tail.head.Goals as goal
 
 pub loop-i-preserved : goal.loop-i-preserved
 loop-i-preserved c =

@@ -1,6 +1,6 @@
 //! What two traces have in common at their heads and tails.
 ghost use Rattle.std.specs.Prelude.{◌≡◌, ◌≤◌, length};
-ghost use Rattle.run_engine.specs.Common.{IsHead, IsTail};
+ghost use Rattle.run_engine.specs.HeadAndTail.{IsHead, IsTail};
 
 use crate::listing::Listing;
 
