@@ -62,10 +62,7 @@ pub fn report_on(alloc: Global, trace: &Trace) -> Result<Vec<u8>, AllocError>
 {
     let mut meter = Meter::new();
     let run = Run::load(alloc, trace, &mut meter)?;
-    let outcomes = run.outcomes(alloc)?;
-    let report = report(alloc, trace, outcomes.as_slice(), run.end())?;
-    let text = text_of(alloc, &report)?;
-    Ok(text.into_bytes())
+    text_on(alloc, trace, &run)
 }
 
 /// The text of the report of a run.
@@ -73,7 +70,15 @@ pub fn report_on_run(alloc: Global, run: &Run) -> Result<Vec<u8>, AllocError>
     ensures { IfOk result (λ text. text.items ≡ report_of_replay run.now.trace) }
 {
     let trace = run.trace(alloc)?;
+    text_on(alloc, &trace, run)
+}
+
+// The text of the report of a run of this trace.
+fn text_on(alloc: Global, trace: &Trace, run: &Run) -> Result<Vec<u8>, AllocError>
+    requires { run.now.trace ≡ trace.now }
+    ensures { IfOk result (λ text. text.items ≡ report_of_replay trace.now) }
+{
     let outcomes = run.outcomes(alloc)?;
-    let report = report(alloc, &trace, outcomes.as_slice(), run.end())?;
+    let report = report(alloc, trace, outcomes.as_slice(), run.end())?;
     Ok(text_of(alloc, &report)?.into_bytes())
 }

@@ -6,8 +6,8 @@ ghost use Rattle.run_engine.specs.Bounds.{StepsAtMostFrom};
 ghost use Rattle.run_engine.specs.NewMarks.{AreMarksAfter};
 ghost use Rattle.run_engine.specs.Steps.{AreSteppedFrom};
 
-use crate::head_and_tail::{head, tail};
 use crate::converge::{Front, converge};
+use crate::head_and_tail::{head, tail};
 use crate::listing::Listing;
 use crate::segment::{Segment, share_segments};
 use object_heap::heap::Heap;
