@@ -5,6 +5,7 @@ ghost use Rattle.trace_types.specs.Limits.{max_ops};
 ghost use Rattle.trace_types.specs.Trace.{IsTrace, place_of, is_taken, IsNew, pushed, IsPushFault};
 
 use crate::ops::{Op, TraceFault};
+use crate::places;
 use std::alloc::{AllocError, Global};
 use std::collections::BTreeMap;
 use std::marker::Model;
@@ -16,22 +17,22 @@ pub const MAX_OPS: usize = 65_536;
 #[derive(Drop)]
 pub struct Trace {
     ops: Vec<Op>,
-    places: BTreeMap<u32, usize>,
+    // Where each number stands. It isn't kept while numbers rise, as those of a recorded trace do.
+    places: Option<BTreeMap<u32, usize>>,
 }
 
 impl Model for Trace {
-    ghost use Rattle.std.specs.Prelude.{◌≡◌, ℕ, List};
-    ghost use Rattle.std.specs.Ordering.{nat_cmp};
-    ghost use Rattle.std.specs.BTreeMap.{get};
+    ghost use Rattle.std.specs.Prelude.{List};
     ghost use Rattle.trace_types.specs.Operation.{Operation};
 
     ghost Value = { List Operation };
 
-    ghost use Rattle.trace_types.specs.Trace.{IsTrace, place_of};
+    ghost use Rattle.trace_types.specs.Trace.{IsTrace};
+    ghost use Rattle.trace_types.specs.Places.{ArePlaces};
 
     ghost view = { λ t. t.ops.items };
 
-    ghost invariant = { λ t. IsTrace t.ops.items × ((id : ℕ) → get nat_cmp t.places id ≡ place_of id t.ops.items) };
+    ghost invariant = { λ t. IsTrace t.ops.items × ArePlaces t.places t.ops.items };
 }
 
 impl Trace {
@@ -41,7 +42,7 @@ impl Trace {
     {
         Trace {
             ops: Vec::new(alloc),
-            places: BTreeMap::new(alloc),
+            places: None,
         }
     }
 
@@ -72,7 +73,10 @@ impl Trace {
     pub fn place(&self, id: u32) -> Option<usize>
         ensures { result ≡ place_of id self.now }
     {
-        self.places.get(&id).copied()
+        match &self.places {
+            Some(places) => places.get(&id).copied(),
+            None => places::place_by_halves(&self.ops, id),
+        }
     }
 
     /// Adds an operation at the end, or leaves the trace as it is. The causes are tried in the order of `TraceFault`.
@@ -103,9 +107,8 @@ impl Trace {
         ensures ok { OnOk result (self.new ≡ self.old ++ op ∷ []) }
         ensures unchanged { OnErr result (self.new ≡ self.old) }
     {
-        let place = self.ops.len();
         self.ops.reserve(1)?;
-        self.places.insert(op.id(), place)?;
+        places::add(&mut self.places, &self.ops, op.id())?;
         self.ops.push_reserved(op);
         Ok(())
     }

@@ -1,6 +1,6 @@
 use Rattle.std.proofs.Common.{◌∙◌, ap}
 use Rattle.std.specs.Prelude.{is_some}
-use Rattle.trace_types.proofs.Places.{taken_where_placed}
+use Rattle.trace_types.proofs.PlaceLemmas.{taken_where_placed}
 use Rattle.trace_types.proofs.trace.Trace.is_taken.Goals as goal
 
 pub returns : goal.returns
