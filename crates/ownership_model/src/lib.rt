@@ -6,4 +6,9 @@ pub mod leaks;
 pub mod link;
 pub mod plain;
 pub mod plan;
+pub mod questions;
 pub mod reach_laws;
+
+pub use leaks::{Holder, HuskLeft, Leak, Leaks};
+pub use link::Link;
+pub use plan::{Plan, Stop};
