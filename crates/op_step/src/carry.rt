@@ -9,9 +9,9 @@ ghost use Rattle.ownership_model.specs.Step as Step;
 ghost use Rattle.op_step.specs.Meter.{raised};
 
 use crate::meter::Meter;
-use crate::plan::plan;
-use object_heap::heap::Heap;
-use ownership_model::plan::Plan;
+use crate::rows::plan;
+use object_heap::Heap;
+use ownership_model::Plan;
 use std::alloc::{AllocError, Global};
 use trace_types::ops::Op;
 use trace_types::outcomes::{Counts, Event, Outcome, Reason, Verdict};

@@ -4,10 +4,10 @@ ghost use Rattle.trace_types.specs.Trace.{has_distinct_numbers};
 ghost use Rattle.ownership_model.specs.Step.{outcomes_from, end_from, AreUnused};
 ghost use Rattle.op_step.specs.Meter.{raised};
 
+use crate::carry::see_kept;
 use crate::meter::Meter;
 use crate::replay::replay_from;
-use crate::step::see_kept;
-use object_heap::heap::Heap;
+use object_heap::Heap;
 use std::alloc::{AllocError, Global};
 use std::marker::Model;
 use std::sync::Arc;

@@ -4,9 +4,9 @@ ghost use Rattle.ownership_model.specs.State.{nothing_held};
 ghost use Rattle.ownership_model.specs.Step.{AreNew, outcomes_from, end_from};
 ghost use Rattle.op_step.specs.Meter.{raised};
 
+use crate::carry::stepped;
 use crate::meter::Meter;
-use crate::step::stepped;
-use object_heap::heap::Heap;
+use object_heap::Heap;
 use std::alloc::{AllocError, Global};
 use trace_types::ops::Op;
 use trace_types::outcomes::Outcome;

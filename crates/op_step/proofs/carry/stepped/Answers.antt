@@ -6,7 +6,7 @@ use Rattle.ownership_model.specs.declared.plan.Plan.{Plan}
 use Rattle.ownership_model.proofs.CarryLemmas.{row_carriable}
 use Rattle.ownership_model.proofs.FitLemmas.{row_fits}
 use Rattle.op_step.proofs.StepLemmas.{carried_out-step}
-use Rattle.op_step.proofs.step.stepped.Goals as goal
+use Rattle.op_step.proofs.carry.stepped.Goals as goal
 
 pub carry_out-requires-clause-carriable : goal.carry_out-requires-clause-carriable
 carry_out-requires-clause-carriable c =
