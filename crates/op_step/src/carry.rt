@@ -17,7 +17,7 @@ use trace_types::ops::Op;
 use trace_types::outcomes::{Counts, Event, Outcome, Reason, Verdict};
 use trace_types::sequence::Sequence;
 
-/// Carries out one operation, of whose number no object is: the heap afterwards, and what the operation did.
+/// Carries out one operation, whose number no object has: the heap afterwards, and what the operation did.
 ///
 /// An operation that can't be done is skipped, and its outcome tells why. The meter is raised by one.
 pub fn step(
@@ -35,7 +35,7 @@ pub fn step(
     stepped(alloc, heap.share()?, op, meter)
 }
 
-/// As `step`, of a heap that is used up: what it alone holds is changed in place.
+/// As `step`, but takes the heap itself: what it alone holds is changed in place.
 pub fn stepped(
     alloc: Global,
     heap: Heap,

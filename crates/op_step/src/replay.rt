@@ -30,8 +30,8 @@ pub fn replay(
     replay_from(alloc, Heap::empty(), trace.as_slice(), meter)
 }
 
-/// As `replay`, from a heap that is used up: what it alone holds is changed in place. No object has an operation's
-/// number when its turn comes.
+/// As `replay`, from a heap, which it takes: what it alone holds is changed in place. No object has an operation's number
+/// when its turn comes.
 pub fn replay_from(
     alloc: Global,
     start: Heap,

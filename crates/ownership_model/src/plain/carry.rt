@@ -18,8 +18,9 @@ use trace_types::sequence::Sequence;
 use trace_types::slots::Slot;
 
 impl PlainState {
-    /// Carries out one operation, of whose number no object is, and tells what it did. Where memory runs out the state is
-    /// only good to be let go.
+    /// Carries out one operation, whose number no object has, and tells what it did.
+    ///
+    /// Where memory runs out the state is unspecified: let it go.
     pub(crate) fn step(&mut self, alloc: Global, op: &Op) -> Result<Outcome, AllocError>
         requires sound { IsSound (state_of self.old) [] }
         requires bounded { IsBounded (state_of self.old) }

@@ -11,7 +11,7 @@ use std::alloc::{AllocError, Global};
 use trace_types::slots::{Change, Entry, Slot};
 
 impl PlainState {
-    /// Makes the changes in order. Where memory runs out some are made, and the state is only good to be let go.
+    /// Makes the changes in order. Where memory runs out the state is unspecified: let it go.
     pub(crate) fn apply(&mut self, alloc: Global, changes: &[Change]) -> Result<(), AllocError>
         ensures { OnOk result (state_of self.new ≡ changed (state_of self.old) changes.now) }
     {

@@ -13,8 +13,9 @@ use trace_types::outcomes::Event;
 use trace_types::slots::{Entry, Item, Slot};
 
 impl PlainState {
-    /// Drops the items in order, each with all that it sets off before the next: what became of objects, in order. Where
-    /// memory runs out some are dropped, and the state is only good to be let go.
+    /// Drops the items in order, each with all that it sets off before the next: what became of objects, in order.
+    ///
+    /// Where memory runs out the state is unspecified: let it go.
     pub(crate) fn release(
         &mut self,
         alloc: Global,
