@@ -1,18 +1,15 @@
 //! Fields: set, take, get.
 //!
 //! The fields of an object that a handle keeps, or of the value that it holds itself.
-ghost use Rattle.std.specs.Prelude.{◌≡◌, IfOk};
 ghost use Rattle.trace_types.specs.declared.kinds.Kind.TheVariants as kind;
-ghost use Rattle.ownership_model.specs.Table as Table;
 ghost use Rattle.ownership_model.specs.Rows.{row_in, Tells};
 
 use crate::wants::{fields_in, held, unheld};
 use object_heap::Heap;
 use ownership_model::questions::{field_at, slot_in};
 use ownership_model::{Plan, Stop};
-use std::alloc::{AllocError, Global};
+use std::alloc::Global;
 use trace_types::outcomes::Answer;
-use trace_types::sequence::Sequence;
 use trace_types::slots::{Change, Holding, Item, Slot};
 
 /// A field takes what a handle holds
@@ -21,56 +18,33 @@ pub fn set(alloc: Global, heap: &Heap, h: u32, i: u32, from: u32) -> Result<Plan
 {
     let owner_held = held(heap, h)?;
     let source = held(heap, from)?;
-    let (owner, fields) = fields_in(heap, h, owner_held)?;
+    let fields = fields_in(heap, h, owner_held)?;
     let slot = slot_in(from, source)?;
-    let old = field_at(i, fields)?;
-    let written = write_field(alloc, h, owner, fields, i, slot)?;
+    let old = field_at(i, fields.slots)?;
+    let written = fields.write(alloc, h, i, slot)?;
     let changes = vec![in alloc; Change::EndHandle(from), written]?;
     let pending = vec![in alloc; Item::Slot(old)]?;
-    Ok(Plan::act(Answer::Done, changes, pending, owner))
+    Ok(Plan::act(Answer::Done, changes, pending, fields.owner))
 }
 
 /// A field is moved out, and an empty pointer is left
 pub fn take(alloc: Global, heap: &Heap, h: u32, i: u32, to: u32) -> Result<Plan, Stop>
     ensures { Tells result (row_in heap.now 0 (kind.Take h i to)) }
 {
-    let (owner, fields) = fields_in(heap, h, held(heap, h)?)?;
-    let slot = field_at(i, fields)?;
+    let fields = fields_in(heap, h, held(heap, h)?)?;
+    let slot = field_at(i, fields.slots)?;
     unheld(heap, to)?;
-    let written = write_field(alloc, h, owner, fields, i, Slot::Nothing)?;
+    let written = fields.write(alloc, h, i, Slot::Nothing)?;
     let changes = vec![in alloc; Change::SetHandle(to, Holding::Slot(slot)), written]?;
-    Ok(Plan::act(Answer::Done, changes, Vec::new(alloc), owner))
+    Ok(Plan::act(Answer::Done, changes, Vec::new(alloc), fields.owner))
 }
 
 /// A field is cloned
 pub fn get(alloc: Global, heap: &Heap, h: u32, i: u32, to: u32) -> Result<Plan, Stop>
     ensures { Tells result (row_in heap.now 0 (kind.Get h i to)) }
 {
-    let (owner, fields) = fields_in(heap, h, held(heap, h)?)?;
-    let slot = field_at(i, fields)?;
+    let fields = fields_in(heap, h, held(heap, h)?)?;
+    let slot = field_at(i, fields.slots)?;
     unheld(heap, to)?;
-    Ok(Plan::hold(alloc, Answer::Done, to, slot, owner)?)
-}
-
-// The field of the owner, or else of the value that the handle holds, becomes the slot.
-fn write_field(
-    alloc: Global,
-    h: u32,
-    owner: Option<u32>,
-    fields: &[Slot],
-    i: u32,
-    slot: Slot,
-) -> Result<Change, AllocError>
-    ensures { IfOk result (λ c. c ≡ Table.write_field h owner fields.now i slot) }
-{
-    match owner {
-        Some(object) => Ok(Change::SetField(object, i, slot)),
-        None => {
-            let mut value = Vec::from_slice(alloc, fields)?;
-            if let Some(place) = value.get_mut(i as usize) {
-                *place = slot;
-            }
-            Ok(Change::SetHandle(h, Holding::Bare(Sequence::from_vec(value))))
-        }
-    }
+    Ok(Plan::hold(alloc, Answer::Done, to, slot, fields.owner)?)
 }

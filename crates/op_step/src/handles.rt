@@ -1,15 +1,14 @@
 //! Handles: clone, drop, downgrade, upgrade, counts, ptr_eq.
-ghost use Rattle.std.specs.Prelude.{◌≡◌, IfOk, []};
 ghost use Rattle.trace_types.specs.declared.kinds.Kind.TheVariants as kind;
-ghost use Rattle.ownership_model.specs.Release.{drops};
 ghost use Rattle.ownership_model.specs.Rows.{row_in, Tells};
 
 use crate::wants::{held, is_alive, unheld};
 use object_heap::Heap;
+use ownership_model::effects::drops;
 use ownership_model::plan::yes_if;
 use ownership_model::questions::{counted_in, slot_in, strong_in, weak_in};
 use ownership_model::{Plan, Stop};
-use std::alloc::{AllocError, Global};
+use std::alloc::Global;
 use trace_types::outcomes::Answer;
 use trace_types::slots::{Change, Holding, Item, Slot};
 
@@ -34,21 +33,10 @@ pub fn drop(alloc: Global, heap: &Heap, h: u32) -> Result<Plan, Stop>
             Ok(Plan::act(Answer::Done, changes, pending, slot.object()))
         }
         Holding::Bare(fields) => {
-            let pending = items_of(alloc, fields.as_slice())?;
+            let pending = drops(alloc, fields.as_slice(), &[])?;
             Ok(Plan::act(Answer::Done, changes, pending, None))
         }
     }
-}
-
-// The fields of a value, all to be dropped, in order.
-fn items_of(alloc: Global, fields: &[Slot]) -> Result<Vec<Item>, AllocError>
-    ensures { IfOk result (λ v. v.items ≡ drops fields.now []) }
-{
-    let mut items = Vec::new(alloc);
-    for slot in fields {
-        items.push(Item::Slot(*slot))?;
-    }
-    Ok(items)
 }
 
 /// `Arc::downgrade`

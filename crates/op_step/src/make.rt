@@ -3,18 +3,18 @@ ghost use Rattle.std.specs.Prelude.{◌≡◌, IfOk};
 ghost use Rattle.std.specs.FinMap.{get};
 ghost use Rattle.trace_types.specs.declared.kinds.Kind.TheVariants as kind;
 ghost use Rattle.ownership_model.specs.View.{elements_of};
-ghost use Rattle.ownership_model.specs.Table.{new_row, ending, make};
+ghost use Rattle.ownership_model.specs.Table.{new_row};
 ghost use Rattle.ownership_model.specs.Table as Table;
 ghost use Rattle.ownership_model.specs.Rows.{row_in, Tells};
 
 use crate::wants::{all_held, all_slots, held, unheld};
 use object_heap::Heap;
+use ownership_model::effects::{copy_fields, making};
 use ownership_model::questions::bare_in;
 use ownership_model::{Plan, Stop};
 use std::alloc::{AllocError, Global};
 use trace_types::kinds::Field;
 use trace_types::outcomes::Answer;
-use trace_types::sequence::Sequence;
 use trace_types::slots::{Change, Holding, Slot};
 
 /// `Arc::new`, `Arc::new_cyclic`
@@ -25,7 +25,7 @@ pub fn new(alloc: Global, heap: &Heap, id: u32, to: u32, fields: &[Field]) -> Re
     all_slots(heap, fields)?;
     unheld(heap, to)?;
     let made = made_fields(alloc, heap, id, fields)?;
-    let changes = making(alloc, heap, id, fields, made, to)?;
+    let changes = making(alloc, id, fields, made, to)?;
     Ok(Plan::act(Answer::Made, changes, Vec::new(alloc), Some(id)))
 }
 
@@ -35,10 +35,9 @@ pub fn new_from(alloc: Global, heap: &Heap, id: u32, from: u32, to: u32) -> Resu
 {
     let fields = bare_in(from, held(heap, from)?)?;
     unheld(heap, to)?;
-    let value = Sequence::from_vec(Vec::from_slice(alloc, fields)?);
     let changes = vec![in alloc;
         Change::EndHandle(from),
-        Change::Make(id, value),
+        Change::Make(id, copy_fields(alloc, fields)?),
         Change::SetHandle(to, Holding::Slot(Slot::Strong(id))),
     ]?;
     Ok(Plan::act(Answer::Made, changes, Vec::new(alloc), Some(id)))
@@ -87,26 +86,4 @@ fn slot_of(heap: &Heap, h: u32) -> Slot
         Some(Holding::Slot(slot)) => *slot,
         Some(Holding::Bare(_)) | None => Slot::Nothing,
     }
-}
-
-// The handles that are named end, and the object comes to be.
-fn making(
-    alloc: Global,
-    heap: &Heap,
-    id: u32,
-    fields: &[Field],
-    made: Vec<Slot>,
-    to: u32,
-) -> Result<Vec<Change>, AllocError>
-    ensures { IfOk result (λ v. v.items ≡ ending (elements_of heap.now fields.now) (make id made.items to)) }
-{
-    let mut changes = Vec::new(alloc);
-    for field in fields {
-        if let Field::Held(h) = field {
-            changes.push(Change::EndHandle(*h))?;
-        }
-    }
-    changes.push(Change::Make(id, Sequence::from_vec(made)))?;
-    changes.push(Change::SetHandle(to, Holding::Slot(Slot::Strong(id))))?;
-    Ok(changes)
 }

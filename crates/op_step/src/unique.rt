@@ -10,12 +10,12 @@ ghost use Rattle.ownership_model.specs.Rows.{row_in, Tells};
 
 use crate::wants::{fields_of, held};
 use object_heap::Heap;
+use ownership_model::effects::{copy_fields, unwrapped};
 use ownership_model::plan::yes_if;
 use ownership_model::questions::strong_in;
 use ownership_model::{Plan, Stop};
 use std::alloc::{AllocError, Global};
 use trace_types::outcomes::{Answer, Event};
-use trace_types::sequence::Sequence;
 use trace_types::slots::{Change, Holding, Item, Slot};
 
 /// `Arc::try_unwrap`
@@ -40,20 +40,6 @@ pub fn into_inner(alloc: Global, heap: &Heap, h: u32) -> Result<Plan, Stop>
         return Ok(Plan::act(Answer::No, changes, pending, Some(object)));
     }
     Ok(unwrapped(alloc, h, object, fields_of(heap, object))?)
-}
-
-// The value moves to the handle; the claim on its allocation goes.
-fn unwrapped(alloc: Global, h: u32, object: u32, fields: &[Slot]) -> Result<Plan, AllocError>
-    ensures { IfOk result (λ p. p ≡ Table.unwrapped h object fields.now) }
-{
-    let value = Sequence::from_vec(Vec::from_slice(alloc, fields)?);
-    let changes = vec![in alloc;
-        Change::TurnHusk(object),
-        Change::SetHandle(h, Holding::Bare(value)),
-    ]?;
-    let pending = vec![in alloc; Item::End(object)]?;
-    let event = Event::Unwrapped(object);
-    Ok(Plan::act_naming(Answer::Yes, changes, event, pending, object))
 }
 
 /// `Arc::get_mut`
@@ -83,10 +69,9 @@ pub fn make_mut(alloc: Global, heap: &Heap, id: u32, h: u32) -> Result<Plan, Sto
 fn moved(alloc: Global, id: u32, h: u32, object: u32, fields: &[Slot]) -> Result<Plan, AllocError>
     ensures { IfOk result (λ p. p ≡ Act Answer.Moved (TurnHusk object ∷ Table.make id fields.now h) (Some (Event.Moved object)) [] (Some id)) }
 {
-    let value = Sequence::from_vec(Vec::from_slice(alloc, fields)?);
     let changes = vec![in alloc;
         Change::TurnHusk(object),
-        Change::Make(id, value),
+        Change::Make(id, copy_fields(alloc, fields)?),
         Change::SetHandle(h, Holding::Slot(Slot::Strong(id))),
     ]?;
     let event = Event::Moved(object);
@@ -97,9 +82,8 @@ fn moved(alloc: Global, id: u32, h: u32, object: u32, fields: &[Slot]) -> Result
 fn cloned(alloc: Global, id: u32, h: u32, object: u32, fields: &[Slot]) -> Result<Plan, AllocError>
     ensures { IfOk result (λ p. p ≡ Table.act Answer.Cloned (Table.make id fields.now h) (item.Slot (Strong object) ∷ []) (Some id)) }
 {
-    let value = Sequence::from_vec(Vec::from_slice(alloc, fields)?);
     let changes = vec![in alloc;
-        Change::Make(id, value),
+        Change::Make(id, copy_fields(alloc, fields)?),
         Change::SetHandle(h, Holding::Slot(Slot::Strong(id))),
     ]?;
     let pending = vec![in alloc; Item::Slot(Slot::Strong(object))]?;

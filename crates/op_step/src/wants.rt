@@ -4,10 +4,11 @@ ghost use Rattle.std.specs.FinMap.{get};
 ghost use Rattle.ownership_model.specs.State as State;
 ghost use Rattle.ownership_model.specs.View.{seen, named_in, elements_of};
 ghost use Rattle.ownership_model.specs.Table as Table;
-ghost use Rattle.ownership_model.specs.Rows.{Asks, AsksBoth, Allows, found, found_second};
+ghost use Rattle.ownership_model.specs.Rows.{Asks, AsksBoth, Allows, found, found_fields};
 
 use object_heap::Heap;
 use ownership_model::Stop;
+use ownership_model::questions::Fields;
 use trace_types::kinds::Field;
 use trace_types::outcomes::Reason;
 use trace_types::slots::{Entry, Holding, Slot};
@@ -71,16 +72,18 @@ pub fn fields_of(heap: &Heap, object: u32) -> &[Slot]
 }
 
 /// The fields of the value that the handle's `Arc` keeps, with its object, or of the value that the handle holds itself.
-pub fn fields_in<'a>(
-    heap: &'a Heap,
-    h: u32,
-    held: &'a Holding,
-) -> Result<(Option<u32>, &'a [Slot]), Stop>
-    ensures { AsksBoth (found_second result) (Table.fields_in h held.now (seen heap.now (named_in (Some held.now))).entry) }
+pub fn fields_in<'a>(heap: &'a Heap, h: u32, held: &'a Holding) -> Result<Fields<'a>, Stop>
+    ensures { AsksBoth (found_fields result) (Table.fields_in h held.now (seen heap.now (named_in (Some held.now))).entry) }
 {
     match held {
-        Holding::Slot(Slot::Strong(object)) => Ok((Some(*object), fields_of(heap, *object))),
-        Holding::Bare(fields) => Ok((None, fields.as_slice())),
+        Holding::Slot(Slot::Strong(object)) => Ok(Fields {
+            owner: Some(*object),
+            slots: fields_of(heap, *object),
+        }),
+        Holding::Bare(fields) => Ok(Fields {
+            owner: None,
+            slots: fields.as_slice(),
+        }),
         Holding::Slot(Slot::Nothing | Slot::Weak(_) | Slot::Dangling) => {
             Err(Stop::Skip(Reason::WrongKind(h)))
         }

@@ -1,8 +1,9 @@
 -- How a program asks the questions of the table: a row ends with its plan, or early with a reason. Of want of memory nothing is
 -- said (profile of this project).
-use Rattle.std.specs.Prelude.{ℕ, ◌≡◌, Result, Ok, Err}
+use Rattle.std.specs.Prelude.{ℕ, ◌≡◌, List, Option, Result, Ok, Err}
 use Rattle.std.specs.Borrow.{Bor}
 use Rattle.trace_types.specs.declared.kinds.Kind.{Kind}
+use Rattle.trace_types.specs.declared.slots.Slot.{Slot}
 use Rattle.ownership_model.specs.State.{State}
 use Rattle.ownership_model.specs.View.{view_of}
 use Rattle.ownership_model.specs.Table.{row_of}
@@ -10,6 +11,7 @@ use Rattle.ownership_model.specs.declared.plan.Plan.{Plan}
 use Rattle.ownership_model.specs.declared.plan.Plan.TheVariants.{Skip}
 use Rattle.ownership_model.specs.declared.plan.Stop.{Stop}
 use Rattle.ownership_model.specs.declared.plan.Stop.TheVariants as stop
+use Rattle.ownership_model.specs.declared.questions.Fields.{Fields}
 
 -- what a question of the table finds, for whatever rest of the row, or its reason
 abbrev pub Asks : {X : Type 0} → Result X Stop → ((X → Plan) → Plan) → Type 0
@@ -34,10 +36,10 @@ abbrev pub found : {X : Type 0} → Result (Bor X) Stop → Result X Stop
 found (Ok x) = Ok x.now
 found (Err e) = Err e
 
--- the same, where it is the second of two things
-abbrev pub found_second : {X Y : Type 0} → Result (X × Bor Y) Stop → Result (X × Y) Stop
-found_second (Ok p) = Ok (p.0, p.1.now)
-found_second (Err e) = Err e
+-- the owner and the fields that were found
+abbrev pub found_fields : Result Fields Stop → Result (Option ℕ × List Slot) Stop
+found_fields (Ok f) = Ok (f.owner, f.slots.now)
+found_fields (Err e) = Err e
 
 -- the plan, or the reason
 abbrev pub Tells : Result Plan Stop → Plan → Type 0

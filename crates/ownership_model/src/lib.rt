@@ -1,6 +1,7 @@
 //! What the operations of a trace do to what its program holds: the definitions, their laws, and the plain program.
 #![tactic(auto)]
 
+pub mod effects;
 pub mod laws;
 pub mod leaks;
 pub mod link;

@@ -8,7 +8,6 @@ ghost use Rattle.ownership_model.specs.Plain.{state_of};
 mod carry;
 mod cells;
 mod changes;
-mod effects;
 mod fields;
 mod handles;
 mod making;

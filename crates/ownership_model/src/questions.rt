@@ -5,8 +5,10 @@ ghost use Rattle.ownership_model.specs.Table as Table;
 ghost use Rattle.ownership_model.specs.Rows.{Asks, found};
 
 use crate::plan::Stop;
+use std::alloc::{AllocError, Global};
 use trace_types::outcomes::Reason;
-use trace_types::slots::{Holding, Slot};
+use trace_types::sequence::Sequence;
+use trace_types::slots::{Change, Holding, Slot};
 
 /// A pointer of any kind, and no value.
 pub fn slot_in(h: u32, held: &Holding) -> Result<Slot, Stop>
@@ -75,6 +77,31 @@ pub fn pointer_in(h: u32, held: &Holding) -> Result<Slot, Stop>
         Holding::Slot(Slot::Strong(object)) => Ok(Slot::Strong(*object)),
         Holding::Slot(Slot::Weak(_) | Slot::Dangling) | Holding::Bare(_) => {
             Err(Stop::Skip(Reason::WrongKind(h)))
+        }
+    }
+}
+
+/// The fields that a handle leads to: those of an object, its owner, or those of the value that the handle holds itself.
+#[derive(Clone, Copy)]
+pub struct Fields<'a> {
+    pub owner: Option<u32>,
+    pub slots: &'a [Slot],
+}
+
+impl Fields<'_> {
+    /// The field with that index, from 0, becomes the slot.
+    pub fn write(&self, alloc: Global, h: u32, i: u32, slot: Slot) -> Result<Change, AllocError>
+        ensures { IfOk result (λ change. change ≡ Table.write_field h self.now.owner self.now.slots.now i slot) }
+    {
+        match self.owner {
+            Some(object) => Ok(Change::SetField(object, i, slot)),
+            None => {
+                let mut value = Vec::from_slice(alloc, self.slots)?;
+                if let Some(place) = value.get_mut(i as usize) {
+                    *place = slot;
+                }
+                Ok(Change::SetHandle(h, Holding::Bare(Sequence::from_vec(value))))
+            }
         }
     }
 }

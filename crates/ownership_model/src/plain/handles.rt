@@ -3,7 +3,7 @@ ghost use Rattle.trace_types.specs.declared.kinds.Kind.TheVariants as kind;
 ghost use Rattle.ownership_model.specs.Rows.{row_in, Tells};
 ghost use Rattle.ownership_model.specs.Plain.{state_of};
 
-use crate::plain::release::drops;
+use crate::effects::drops;
 use crate::plain::state::PlainState;
 use crate::plain::view::is_alive_named;
 use crate::plain::wants::{held, unheld};

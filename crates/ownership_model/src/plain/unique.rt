@@ -1,18 +1,16 @@
 //! Values that one handle alone keeps: try_unwrap, into_inner, get_mut, make_mut.
-ghost use Rattle.std.specs.Prelude.{◌≡◌, IfOk};
 ghost use Rattle.trace_types.specs.declared.kinds.Kind.TheVariants as kind;
 ghost use Rattle.ownership_model.specs.Bounds.{IsBounded};
-ghost use Rattle.ownership_model.specs.Table as Table;
 ghost use Rattle.ownership_model.specs.Rows.{row_in, Tells};
 ghost use Rattle.ownership_model.specs.Plain.{state_of};
 
-use crate::plain::effects::{copy_fields, push_make};
+use crate::effects::{copy_fields, push_make, unwrapped};
 use crate::plain::state::PlainState;
 use crate::plain::view::{fields_named, strong_named, weak_named};
 use crate::plain::wants::held;
 use crate::plan::{Plan, Stop, yes_if};
 use crate::questions::strong_in;
-use std::alloc::{AllocError, Global};
+use std::alloc::Global;
 use trace_types::outcomes::{Answer, Event};
 use trace_types::slots::{Change, Holding, Item, Slot};
 
@@ -40,24 +38,6 @@ pub fn into_inner(alloc: Global, state: &PlainState, h: u32) -> Result<Plan, Sto
         return Ok(Plan::act(Answer::No, changes, pending, Some(object)));
     }
     Ok(unwrapped(alloc, h, object, fields_named(state, h))?)
-}
-
-// The value moves to the handle.
-fn unwrapped(alloc: Global, h: u32, object: u32, fields: &[Slot]) -> Result<Plan, AllocError>
-    ensures { IfOk result (λ plan. plan ≡ Table.unwrapped h object fields.now) }
-{
-    let changes = vec![in alloc;
-        Change::TurnHusk(object),
-        Change::SetHandle(h, Holding::Bare(copy_fields(alloc, fields)?)),
-    ]?;
-    let pending = vec![in alloc; Item::End(object)]?;
-    Ok(Plan::act_naming(
-        Answer::Yes,
-        changes,
-        Event::Unwrapped(object),
-        pending,
-        object,
-    ))
 }
 
 /// `Arc::get_mut`

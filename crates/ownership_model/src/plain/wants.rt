@@ -3,12 +3,13 @@ ghost use Rattle.std.specs.FinMap as map;
 ghost use Rattle.ownership_model.specs.View.{seen, elements_of};
 ghost use Rattle.ownership_model.specs.View as View;
 ghost use Rattle.ownership_model.specs.Table as Table;
-ghost use Rattle.ownership_model.specs.Rows.{Asks, AsksBoth, Allows, found, found_second};
+ghost use Rattle.ownership_model.specs.Rows.{Asks, AsksBoth, Allows, found, found_fields};
 ghost use Rattle.ownership_model.specs.Plain.{state_of};
 
 use crate::plain::state::PlainState;
 use crate::plain::view::fields_named;
 use crate::plan::Stop;
+use crate::questions::Fields;
 use trace_types::kinds::Field;
 use trace_types::outcomes::Reason;
 use trace_types::slots::{Holding, Slot};
@@ -54,16 +55,18 @@ pub fn absent_cell(state: &PlainState, c: u32) -> Result<(), Stop>
 }
 
 /// The fields of the value that the handle's `Arc` keeps, with its object, or of the value that the handle holds itself.
-pub fn fields_in<'a>(
-    state: &'a PlainState,
-    h: u32,
-    held: &'a Holding,
-) -> Result<(Option<u32>, &'a [Slot]), Stop>
-    ensures { AsksBoth (found_second result) (Table.fields_in h held.now (seen (state_of state.now) (View.named_in (map.get state.now.handles h))).entry) }
+pub fn fields_in<'a>(state: &'a PlainState, h: u32, held: &'a Holding) -> Result<Fields<'a>, Stop>
+    ensures { AsksBoth (found_fields result) (Table.fields_in h held.now (seen (state_of state.now) (View.named_in (map.get state.now.handles h))).entry) }
 {
     match held {
-        Holding::Slot(Slot::Strong(object)) => Ok((Some(*object), fields_named(state, h))),
-        Holding::Bare(fields) => Ok((None, fields.as_slice())),
+        Holding::Slot(Slot::Strong(object)) => Ok(Fields {
+            owner: Some(*object),
+            slots: fields_named(state, h),
+        }),
+        Holding::Bare(fields) => Ok(Fields {
+            owner: None,
+            slots: fields.as_slice(),
+        }),
         Holding::Slot(Slot::Nothing | Slot::Weak(_) | Slot::Dangling) => {
             Err(Stop::Skip(Reason::WrongKind(h)))
         }

@@ -1,6 +1,6 @@
 use Rattle.std.proofs.Common.{◌≡◌, ◌++◌, drop}
 use Rattle.ownership_model.specs.Release.{drops}
-use Rattle.ownership_model.proofs.plain.release.drops.Given as goal
+use Rattle.ownership_model.proofs.effects.drops.Given as goal
 
 -- the items so far and those of the slots that are left are those of all
 abbrev pub invariant-loop-slot : goal.invariant-loop-slot
