@@ -97,11 +97,10 @@ pub fn kid_with<V, C: Level<V>>(
     requires within { key < C.SPAN }
     ensures { IfOk result (λ c. (q : ℕ) → C.at (arc_value c) q ≡ updated (child_at C.at (option_map arc_value kid.now)) key (Some value) q) }
 {
-    let child = match kid {
-        None => C::only(alloc, key, value)?,
-        Some(child) => child.with(alloc, key, value)?,
-    };
-    Ok(Arc::new(alloc, child)?)
+    match kid {
+        None => C::only(alloc, key, value),
+        Some(child) => child.with(alloc, key, value),
+    }
 }
 
 // The child without an entry, or none where nothing is left of it.
@@ -116,10 +115,7 @@ pub fn kid_without<V, C: Level<V>>(
 {
     match kid {
         None => Ok(None),
-        Some(child) => match child.without(alloc, key)? {
-            None => Ok(None),
-            Some(rest) => Ok(Some(Arc::new(alloc, rest)?)),
-        },
+        Some(child) => child.without(alloc, key),
     }
 }
 
@@ -140,7 +136,7 @@ fn child_insert<V, C: Level<V>>(
         return level.insert(alloc, key, value);
     }
     let was = child.get(key).is_some();
-    *child = Arc::new(alloc, child.with(alloc, key, value)?)?;
+    *child = child.with(alloc, key, value)?;
     Ok(was)
 }
 
@@ -159,7 +155,7 @@ pub fn kid_insert<V, C: Level<V>>(
 {
     match kid {
         None => {
-            *kid = Some(Arc::new(alloc, C::only(alloc, key, value)?)?);
+            *kid = Some(C::only(alloc, key, value)?);
             Ok(false)
         }
         Some(child) => child_insert(alloc, child, key, value),
@@ -184,7 +180,7 @@ fn child_remove<V, C: Level<V>>(
     match child.without(alloc, key)? {
         None => Ok(true),
         Some(rest) => {
-            *child = Arc::new(alloc, rest)?;
+            *child = rest;
             Ok(false)
         }
     }
