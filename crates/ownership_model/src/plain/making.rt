@@ -16,7 +16,6 @@ use crate::questions::bare_in;
 use std::alloc::{AllocError, Global};
 use trace_types::kinds::Field;
 use trace_types::outcomes::Answer;
-use trace_types::sequence::Sequence;
 use trace_types::slots::{Change, Holding, Slot};
 
 /// `Arc::new`, `Arc::new_cyclic`
