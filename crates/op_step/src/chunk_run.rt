@@ -4,10 +4,10 @@ ghost use Rattle.trace_types.specs.Trace.{has_distinct_numbers};
 ghost use Rattle.ownership_model.specs.Step.{outcomes_from, end_from, AreUnused};
 ghost use Rattle.op_step.specs.Meter.{raised};
 
+use crate::carry::see_kept;
 use crate::meter::Meter;
 use crate::replay::replay_from;
-use crate::step::see_kept;
-use object_heap::heap::Heap;
+use object_heap::Heap;
 use std::alloc::{AllocError, Global};
 use std::marker::Model;
 use std::sync::Arc;
@@ -43,8 +43,9 @@ impl Model for ChunkRun {
     ghost invariant = { λ c. IsReplayOf (record { start = c.start; ops = (arc_value c.replayed).ops.items }) (arc_value c.replayed).outcomes c.end };
 }
 
-/// Replays operations with distinct numbers, none that of an object of the heap, from that heap. The meter is raised by
-/// their number, and where memory runs out by at most that.
+/// Replays operations from a heap. Their numbers are distinct, and no object of the heap has one of them.
+///
+/// The meter is raised by the number of operations, and where memory runs out by at most that.
 pub fn run(
     alloc: Global,
     start: &Heap,

@@ -1,17 +1,22 @@
 //! Carries out operations on a heap: what each one does, and the replay of many.
 #![tactic(auto)]
 
+mod carry;
 mod cells;
 pub mod chunk_run;
-mod effect;
 mod fields;
 mod handles;
 mod make;
 pub mod meter;
 mod names;
-pub mod plan;
 pub mod replay;
-pub mod step;
+mod rows;
 #[cfg(test)]
 mod tests;
 mod unique;
+mod wants;
+
+pub use carry::{step, stepped};
+pub use chunk_run::ChunkRun;
+pub use meter::Meter;
+pub use rows::plan;

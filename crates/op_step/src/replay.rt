@@ -4,9 +4,9 @@ ghost use Rattle.ownership_model.specs.State.{nothing_held};
 ghost use Rattle.ownership_model.specs.Step.{AreNew, outcomes_from, end_from};
 ghost use Rattle.op_step.specs.Meter.{raised};
 
+use crate::carry::stepped;
 use crate::meter::Meter;
-use crate::step::stepped;
-use object_heap::heap::Heap;
+use object_heap::Heap;
 use std::alloc::{AllocError, Global};
 use trace_types::ops::Op;
 use trace_types::outcomes::Outcome;
@@ -30,8 +30,8 @@ pub fn replay(
     replay_from(alloc, Heap::empty(), trace.as_slice(), meter)
 }
 
-/// As `replay`, from a heap that is used up: what it alone holds is changed in place. No object has an operation's
-/// number when its turn comes.
+/// As `replay`, from a heap, which it takes: what it alone holds is changed in place. No object has an operation's number
+/// when its turn comes.
 pub fn replay_from(
     alloc: Global,
     start: Heap,

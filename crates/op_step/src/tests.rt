@@ -2,7 +2,7 @@
 use crate::chunk_run::run;
 use crate::meter::Meter;
 use crate::replay::replay;
-use object_heap::heap::Heap;
+use object_heap::Heap;
 use std::alloc::Global;
 use std::process::Abort;
 use std::test::Fail;

@@ -7,6 +7,7 @@ pub mod Changes
 pub mod Bounds
 pub mod View
 pub mod Table
+pub mod Rows
 pub mod Step
 pub mod Carry
 pub mod Agrees

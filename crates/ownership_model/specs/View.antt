@@ -4,7 +4,6 @@ use Rattle.std.specs.Prelude.{ℕ, ◌==◌, List, [], ◌∷◌, ◌++◌, Opti
 use Rattle.std.specs.List.{list_any}
 use Rattle.std.specs.FinMap.{get}
 use Rattle.trace_types.specs.declared.slots.Slot.{Slot}
-use Rattle.trace_types.specs.declared.slots.Slot.TheVariants.{Nothing, Strong, Weak, Dangling}
 use Rattle.trace_types.specs.declared.slots.Holding.{Holding}
 use Rattle.trace_types.specs.declared.slots.Holding.TheVariants as holding
 use Rattle.trace_types.specs.declared.slots.Entry.{Entry}
@@ -12,6 +11,7 @@ use Rattle.trace_types.specs.declared.kinds.Field.{Field}
 use Rattle.trace_types.specs.declared.kinds.Field.TheVariants as field
 use Rattle.trace_types.specs.declared.kinds.Kind.{Kind}
 use Rattle.trace_types.specs.declared.kinds.Kind.TheVariants as kind
+pub use Rattle.trace_types.specs.Slots.{named_by}
 use Rattle.ownership_model.specs.State.{State, strong, weak}
 
 -- the handles and the cell that an operation names, in the order of the table; `fields` comes last
@@ -93,13 +93,6 @@ element_of m field.Me = Me
 
 abbrev pub elements_of : State → List Field → List Element
 elements_of m fs = map (element_of m) fs
-
--- the object that a slot names, strongly or weakly
-abbrev pub named_by : Slot → Option ℕ
-named_by Nothing = None
-named_by (Strong o) = Some o
-named_by (Weak o) = Some o
-named_by Dangling = None
 
 -- the object that what a handle holds names; a value outside any allocation names none
 abbrev pub named_in : Option Holding → Option ℕ

@@ -5,9 +5,9 @@ ghost use Rattle.ownership_model.specs.Bounds.{IsBounded};
 ghost use Rattle.ownership_model.specs.Step.{outcomes_from, end_from};
 ghost use Rattle.ownership_model.specs.Plain.{state_of};
 
+mod carry;
 mod cells;
 mod changes;
-mod effects;
 mod fields;
 mod handles;
 mod making;
@@ -16,8 +16,6 @@ pub mod number_map;
 mod release;
 mod rows;
 pub mod state;
-mod step;
-mod stop;
 #[cfg(test)]
 mod tests;
 mod unique;

@@ -9,30 +9,30 @@ use Rattle.std.proofs.lemmas.List.Elements.{filter-append}
 use Rattle.share_tree.specs.Digits.{child_at, node_at}
 use Rattle.share_tree.specs.Entries.{entry, entries_from, map_of}
 use Rattle.share_tree.specs.Walk.{entries_through, IsNowhereFrom, IsFirstFrom}
-use Rattle.share_tree.proofs.KidLemmas.{node_at-place}
+use Rattle.share_tree.proofs.ChildLemmas.{node_at-place}
 use Rattle.share_tree.proofs.EntryLemmas.{entries_from-append, entries_from-none}
 use Rattle.share_tree.proofs.MapLemmas.{entries-map_of}
 
-module _ {C V : Type 0} (at : C → ℕ → Option V) (s : ℕ) (kid : ℕ → Option C) (key i : ℕ) where
+module _ {C V : Type 0} (at : C → ℕ → Option V) (s : ℕ) (child : ℕ → Option C) (key i : ℕ) where
   -- a node with nothing before child i, and nothing in it up to end
-  pub nowhere-next : (end : ℕ) → end ≤ s → IsNowhereFrom (node_at at s kid) key (i * s) → IsNowhereFrom (child_at at (kid i)) (key - s * i) end → IsNowhereFrom (node_at at s kid) key (i * s + end)
-  nowhere-next end fits before in_kid q a b = elim (cases_lt q (i * s)) [
+  pub nowhere-next : (end : ℕ) → end ≤ s → IsNowhereFrom (node_at at s child) key (i * s) → IsNowhereFrom (child_at at (child i)) (key - s * i) end → IsNowhereFrom (node_at at s child) key (i * s + end)
+  nowhere-next end fits before in_child q a b = elim (cases_lt q (i * s)) [
     | inl lt ↦ before q a lt
     | inr ge ↦
         let r : ℕ = q - i * s in
         let p : q ≡ i * s + r = omega arith in
         let c : s * i ≡ i * s = grind arith in
-        ap (node_at at s kid) p ∙ node_at-place at s kid i r (omega arith) ∙ in_kid r (omega (arith, c)) (omega arith)
+        ap (node_at at s child) p ∙ node_at-place at s child i r (omega arith) ∙ in_child r (omega (arith, c)) (omega arith)
   ]
 
   -- the first entry of a node is that of its first child with one
-  pub first-in_kid : (rest : ℕ) (v : V) → rest < s → IsNowhereFrom (node_at at s kid) key (i * s) → IsFirstFrom (child_at at (kid i)) (key - s * i) rest v → IsFirstFrom (node_at at s kid) key (s * i + rest) v
-  first-in_kid rest v below before h =
+  pub first-in_child : (rest : ℕ) (v : V) → rest < s → IsNowhereFrom (node_at at s child) key (i * s) → IsFirstFrom (child_at at (child i)) (key - s * i) rest v → IsFirstFrom (node_at at s child) key (s * i + rest) v
+  first-in_child rest v below before h =
       let c : s * i ≡ i * s = grind arith in
       let p : s * i + rest ≡ i * s + rest = ap (λ x. x + rest) c in
       record {
         rises = omega (arith, h.rises);
-        there = ap (node_at at s kid) p ∙ node_at-place at s kid i rest below ∙ h.there;
+        there = ap (node_at at s child) p ∙ node_at-place at s child i rest below ∙ h.there;
         first = λ q a b. nowhere-next rest (omega arith) before h.first q a (omega (arith, p));
       }
 

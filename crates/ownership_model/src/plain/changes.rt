@@ -1,17 +1,17 @@
 //! The changes of an operation, made on plain lists.
-ghost use Rattle.std.specs.Prelude.{◌≡◌, IfOk, OnOk};
+ghost use Rattle.std.specs.Prelude.{◌≡◌, IfOk, OnOk, slice_set};
 ghost use Rattle.std.specs.Option.{option_copied};
 ghost use Rattle.ownership_model.specs.Changes.{changed_by, changed};
 ghost use Rattle.ownership_model.specs.Changes as Changes;
 ghost use Rattle.ownership_model.specs.Plain.{state_of};
 
-use crate::plain::fields::with_slot;
 use crate::plain::state::PlainState;
 use std::alloc::{AllocError, Global};
+use trace_types::sequence::Sequence;
 use trace_types::slots::{Change, Entry, Slot};
 
 impl PlainState {
-    /// Makes the changes in order. Where memory runs out some are made, and the state is only good to be let go.
+    /// Makes the changes in order. Where memory runs out the state is unspecified: let it go.
     pub(crate) fn apply(&mut self, alloc: Global, changes: &[Change]) -> Result<(), AllocError>
         ensures { OnOk result (state_of self.new ≡ changed (state_of self.old) changes.now) }
     {
@@ -57,4 +57,15 @@ fn with_field(
         }
         Some(Entry::Husk) | None => Ok(Entry::Husk),
     }
+}
+
+// The fields, with another slot at an index, from 0, where there is one.
+fn with_slot(fields: Sequence<Slot>, i: u32, slot: Slot) -> Sequence<Slot>
+    ensures { result ≡ slice_set fields i slot }
+{
+    let mut items = fields.into_vec();
+    if let Some(place) = items.get_mut(i as usize) {
+        *place = slot;
+    }
+    Sequence::from_vec(items)
 }

@@ -1,75 +1,51 @@
 //! Fields: set, take, get.
 //!
 //! The fields of an object that a handle keeps, or of the value that it holds itself.
-ghost use Rattle.std.specs.Prelude.{◌≡◌, slice_set};
 ghost use Rattle.trace_types.specs.declared.kinds.Kind.TheVariants as kind;
-ghost use Rattle.ownership_model.specs.Table as Table;
-ghost use Rattle.ownership_model.specs.Plain.{row_in, Tells};
+ghost use Rattle.ownership_model.specs.Rows.{row_in, Tells};
+ghost use Rattle.ownership_model.specs.Plain.{state_of};
 
-use crate::plain::effects::{act, hold};
 use crate::plain::state::PlainState;
-use crate::plain::stop::Stop;
-use crate::plain::wants::{field_at, fields_in, held, slot_in, unheld};
-use crate::plan::Plan;
+use crate::plain::wants::{fields_in, held, unheld};
+use crate::plan::{Plan, Stop};
+use crate::questions::{field_at, slot_in};
 use std::alloc::Global;
 use trace_types::outcomes::Answer;
-use trace_types::sequence::Sequence;
 use trace_types::slots::{Change, Holding, Item, Slot};
 
 /// A field takes what a handle holds
 pub fn set(alloc: Global, state: &PlainState, h: u32, i: u32, from: u32) -> Result<Plan, Stop>
-    ensures { Tells result (row_in state.now 0 (kind.Set h i from)) }
+    ensures { Tells result (row_in (state_of state.now) 0 (kind.Set h i from)) }
 {
-    let owner_held = held(alloc, state, h)?;
-    let source = held(alloc, state, from)?;
-    let (owner, fields) = fields_in(alloc, state, h, owner_held)?;
+    let owner_held = held(state, h)?;
+    let source = held(state, from)?;
+    let fields = fields_in(state, h, owner_held)?;
     let slot = slot_in(from, source)?;
-    let old = field_at(i, fields.as_slice())?;
-    let written = write_field(h, owner, fields, i, slot);
+    let old = field_at(i, fields.slots)?;
+    let written = fields.write(alloc, h, i, slot)?;
     let changes = vec![in alloc; Change::EndHandle(from), written]?;
     let pending = vec![in alloc; Item::Slot(old)]?;
-    Ok(act(Answer::Done, changes, pending, owner))
+    Ok(Plan::act(Answer::Done, changes, pending, fields.owner))
 }
 
 /// A field is moved out, and an empty pointer is left
 pub fn take(alloc: Global, state: &PlainState, h: u32, i: u32, to: u32) -> Result<Plan, Stop>
-    ensures { Tells result (row_in state.now 0 (kind.Take h i to)) }
+    ensures { Tells result (row_in (state_of state.now) 0 (kind.Take h i to)) }
 {
-    let (owner, fields) = fields_in(alloc, state, h, held(alloc, state, h)?)?;
-    let slot = field_at(i, fields.as_slice())?;
+    let fields = fields_in(state, h, held(state, h)?)?;
+    let slot = field_at(i, fields.slots)?;
     unheld(state, to)?;
-    let written = write_field(h, owner, fields, i, Slot::Nothing);
+    let written = fields.write(alloc, h, i, Slot::Nothing)?;
     let changes = vec![in alloc; Change::SetHandle(to, Holding::Slot(slot)), written]?;
-    Ok(act(Answer::Done, changes, Vec::new(alloc), owner))
+    Ok(Plan::act(Answer::Done, changes, Vec::new(alloc), fields.owner))
 }
 
 /// A field is cloned
 pub fn get(alloc: Global, state: &PlainState, h: u32, i: u32, to: u32) -> Result<Plan, Stop>
-    ensures { Tells result (row_in state.now 0 (kind.Get h i to)) }
+    ensures { Tells result (row_in (state_of state.now) 0 (kind.Get h i to)) }
 {
-    let (owner, fields) = fields_in(alloc, state, h, held(alloc, state, h)?)?;
-    let slot = field_at(i, fields.as_slice())?;
+    let fields = fields_in(state, h, held(state, h)?)?;
+    let slot = field_at(i, fields.slots)?;
     unheld(state, to)?;
-    Ok(hold(alloc, Answer::Done, to, slot, owner)?)
-}
-
-// The field of the owner, or else of the value that the handle holds, becomes the slot.
-fn write_field(h: u32, owner: Option<u32>, fields: Sequence<Slot>, i: u32, slot: Slot) -> Change
-    ensures { result ≡ Table.write_field h owner fields i slot }
-{
-    match owner {
-        Some(object) => Change::SetField(object, i, slot),
-        None => Change::SetHandle(h, Holding::Bare(with_slot(fields, i, slot))),
-    }
-}
-
-/// The fields, with another slot at an index, from 0, where there is one.
-pub fn with_slot(fields: Sequence<Slot>, i: u32, slot: Slot) -> Sequence<Slot>
-    ensures { result ≡ slice_set fields i slot }
-{
-    let mut items = fields.into_vec();
-    if let Some(place) = items.get_mut(i as usize) {
-        *place = slot;
-    }
-    Sequence::from_vec(items)
+    Ok(Plan::hold(alloc, Answer::Done, to, slot, fields.owner)?)
 }

@@ -3,19 +3,19 @@ ghost use Rattle.std.specs.Prelude.{◌≡◌, IfOk};
 ghost use Rattle.std.specs.FinMap as map;
 ghost use Rattle.trace_types.specs.declared.kinds.Kind.TheVariants as kind;
 ghost use Rattle.ownership_model.specs.View.{elements_of};
-ghost use Rattle.ownership_model.specs.Table.{new_row, ending};
+ghost use Rattle.ownership_model.specs.Table.{new_row};
 ghost use Rattle.ownership_model.specs.Table as Table;
-ghost use Rattle.ownership_model.specs.Plain.{state_of, row_in, Tells};
+ghost use Rattle.ownership_model.specs.Rows.{row_in, Tells};
+ghost use Rattle.ownership_model.specs.Plain.{state_of};
 
-use crate::plain::effects::{act, hold, push_make};
+use crate::effects::{copy_fields, making, push_make};
 use crate::plain::state::PlainState;
-use crate::plain::stop::Stop;
-use crate::plain::wants::{all_held, all_slots, bare_in, held, unheld};
-use crate::plan::Plan;
+use crate::plain::wants::{all_held, all_slots, held, unheld};
+use crate::plan::{Plan, Stop};
+use crate::questions::bare_in;
 use std::alloc::{AllocError, Global};
 use trace_types::kinds::Field;
 use trace_types::outcomes::Answer;
-use trace_types::sequence::Sequence;
 use trace_types::slots::{Change, Holding, Slot};
 
 /// `Arc::new`, `Arc::new_cyclic`
@@ -32,8 +32,8 @@ pub fn new(
     all_slots(state, fields)?;
     unheld(state, to)?;
     let made = made_fields(alloc, state, id, fields)?;
-    let changes = making(alloc, state, id, fields, made, to)?;
-    Ok(act(Answer::Made, changes, Vec::new(alloc), Some(id)))
+    let changes = making(alloc, id, fields, made, to)?;
+    Ok(Plan::act(Answer::Made, changes, Vec::new(alloc), Some(id)))
 }
 
 /// `Arc::new` of a value that was moved out of another `Arc`
@@ -44,29 +44,29 @@ pub fn new_from(
     from: u32,
     to: u32,
 ) -> Result<Plan, Stop>
-    ensures { Tells result (row_in state.now id (kind.NewFrom from to)) }
+    ensures { Tells result (row_in (state_of state.now) id (kind.NewFrom from to)) }
 {
-    let fields = bare_in(from, held(alloc, state, from)?)?;
+    let fields = bare_in(from, held(state, from)?)?;
     unheld(state, to)?;
     let mut changes = vec![in alloc; Change::EndHandle(from)]?;
-    push_make(&mut changes, id, fields, to)?;
-    Ok(act(Answer::Made, changes, Vec::new(alloc), Some(id)))
+    push_make(&mut changes, id, copy_fields(alloc, fields)?, to)?;
+    Ok(Plan::act(Answer::Made, changes, Vec::new(alloc), Some(id)))
 }
 
 /// `Weak::new`
 pub fn weak_new(alloc: Global, state: &PlainState, to: u32) -> Result<Plan, Stop>
-    ensures { Tells result (row_in state.now 0 (kind.WeakNew to)) }
+    ensures { Tells result (row_in (state_of state.now) 0 (kind.WeakNew to)) }
 {
     unheld(state, to)?;
-    Ok(hold(alloc, Answer::Done, to, Slot::Dangling, None)?)
+    Ok(Plan::hold(alloc, Answer::Done, to, Slot::Dangling, None)?)
 }
 
 /// An empty pointer.
 pub fn null(alloc: Global, state: &PlainState, to: u32) -> Result<Plan, Stop>
-    ensures { Tells result (row_in state.now 0 (kind.Null to)) }
+    ensures { Tells result (row_in (state_of state.now) 0 (kind.Null to)) }
 {
     unheld(state, to)?;
-    Ok(hold(alloc, Answer::Done, to, Slot::Nothing, None)?)
+    Ok(Plan::hold(alloc, Answer::Done, to, Slot::Nothing, None)?)
 }
 
 // What the handles hold, in order.
@@ -96,25 +96,4 @@ fn slot_of(state: &PlainState, h: u32) -> Slot
         Some(Holding::Slot(slot)) => *slot,
         Some(Holding::Bare(_)) | None => Slot::Nothing,
     }
-}
-
-// The handles that are named end, and the object comes to be.
-fn making(
-    alloc: Global,
-    state: &PlainState,
-    id: u32,
-    fields: &[Field],
-    made: Vec<Slot>,
-    to: u32,
-) -> Result<Vec<Change>, AllocError>
-    ensures { IfOk result (λ v. v.items ≡ ending (elements_of (state_of state.now) fields.now) (Table.make id made.items to)) }
-{
-    let mut changes = Vec::new(alloc);
-    for field in fields {
-        if let Field::Held(h) = field {
-            changes.push(Change::EndHandle(*h))?;
-        }
-    }
-    push_make(&mut changes, id, Sequence::from_vec(made), to)?;
-    Ok(changes)
 }

@@ -3,18 +3,19 @@ ghost use Rattle.std.specs.Prelude.{◌≡◌, ◌==◌, ◌&&◌, [], IfOk, OnO
 ghost use Rattle.std.specs.FinMap as map;
 ghost use Rattle.ownership_model.specs.State.{weak, ends};
 ghost use Rattle.ownership_model.specs.Release.{release, fall, is_husk, left_by, drop_first, Becomes, Goes};
-ghost use Rattle.ownership_model.specs.Release as Release;
 ghost use Rattle.ownership_model.specs.Bounds.{IsBounded};
 ghost use Rattle.ownership_model.specs.Plain.{state_of};
 
+use crate::effects::drops;
 use crate::plain::state::PlainState;
 use std::alloc::{AllocError, Global};
 use trace_types::outcomes::Event;
 use trace_types::slots::{Entry, Item, Slot};
 
 impl PlainState {
-    /// Drops the items in order, each with all that it sets off before the next: what became of objects, in order. Where
-    /// memory runs out some are dropped, and the state is only good to be let go.
+    /// Drops the items in order, each with all that it sets off before the next: what became of objects, in order.
+    ///
+    /// Where memory runs out the state is unspecified: let it go.
     pub(crate) fn release(
         &mut self,
         alloc: Global,
@@ -118,16 +119,4 @@ fn has_no_end(object: u32, items: &[Item]) -> bool
         }
     }
     true
-}
-
-/// The slots as items to be dropped, in order, and then the rest.
-pub fn drops(alloc: Global, slots: &[Slot], rest: &[Item]) -> Result<Vec<Item>, AllocError>
-    ensures { IfOk result (λ v. v.items ≡ Release.drops slots.now rest.now) }
-{
-    let mut items = Vec::new(alloc);
-    for slot in slots {
-        items.push(Item::Slot(*slot))?;
-    }
-    items.extend_from_slice(rest)?;
-    Ok(items)
 }

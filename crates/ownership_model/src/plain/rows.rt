@@ -3,13 +3,13 @@ ghost use Rattle.std.specs.Prelude.{◌≡◌, IfOk};
 ghost use Rattle.ownership_model.specs.View.{view_of};
 ghost use Rattle.ownership_model.specs.Table.{row};
 ghost use Rattle.ownership_model.specs.Bounds.{IsBounded};
-ghost use Rattle.ownership_model.specs.Plain.{state_of, row_in, Tells};
+ghost use Rattle.ownership_model.specs.Rows.{row_in, Tells};
+ghost use Rattle.ownership_model.specs.Plain.{state_of};
 
 use crate::plain::names::repeated;
 use crate::plain::state::PlainState;
-use crate::plain::stop::Stop;
 use crate::plain::{cells, fields, handles, making, unique};
-use crate::plan::Plan;
+use crate::plan::{Plan, Stop};
 use std::alloc::{AllocError, Global};
 use trace_types::kinds::Kind;
 use trace_types::ops::Op;
@@ -32,7 +32,7 @@ pub fn plan_of(alloc: Global, state: &PlainState, op: &Op) -> Result<Plan, Alloc
 
 fn row_plan(alloc: Global, state: &PlainState, id: u32, kind: &Kind) -> Result<Plan, Stop>
     requires { IsBounded (state_of state.now) }
-    ensures { Tells result (row_in state.now id kind.now) }
+    ensures { Tells result (row_in (state_of state.now) id kind.now) }
 {
     match kind {
         Kind::New { to, fields } | Kind::NewCyclic { to, fields } => {

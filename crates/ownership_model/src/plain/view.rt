@@ -1,5 +1,5 @@
 //! The object that a handle names, as an operation sees it.
-ghost use Rattle.std.specs.Prelude.{◌≡◌, IfOk};
+ghost use Rattle.std.specs.Prelude.{◌≡◌};
 ghost use Rattle.std.specs.Option.{option_copied};
 ghost use Rattle.std.specs.FinMap as map;
 ghost use Rattle.ownership_model.specs.View.{seen};
@@ -10,19 +10,7 @@ ghost use Rattle.ownership_model.specs.Bounds.{IsBounded};
 ghost use Rattle.ownership_model.specs.Plain.{state_of};
 
 use crate::plain::state::PlainState;
-use std::alloc::{AllocError, Global};
-use trace_types::sequence::Sequence;
 use trace_types::slots::{Entry, Holding, Slot};
-
-/// The object that a slot names.
-pub fn named_by(slot: Slot) -> Option<u32>
-    ensures { result ≡ View.named_by slot }
-{
-    match slot {
-        Slot::Strong(object) | Slot::Weak(object) => Some(object),
-        Slot::Nothing | Slot::Dangling => None,
-    }
-}
 
 /// How many `Arc`s there are to the object.
 pub fn strong_named(state: &PlainState, h: u32) -> u64
@@ -54,12 +42,12 @@ pub fn is_alive_named(state: &PlainState, h: u32) -> bool
 }
 
 /// The fields of the object; none where its value is gone.
-pub fn fields_named(alloc: Global, state: &PlainState, h: u32) -> Result<Sequence<Slot>, AllocError>
-    ensures { IfOk result (λ fields. fields ≡ fields_of (seen (state_of state.now) (View.named_in (map.get state.now.handles h))).entry) }
+pub fn fields_named(state: &PlainState, h: u32) -> &[Slot]
+    ensures { result.now ≡ fields_of (seen (state_of state.now) (View.named_in (map.get state.now.handles h))).entry }
 {
     match entry_named(state, h) {
-        Some(Entry::Alive(fields)) => fields.copy(alloc),
-        Some(Entry::Husk) | None => Ok(Sequence::empty(alloc)),
+        Some(Entry::Alive(fields)) => fields.as_slice(),
+        Some(Entry::Husk) | None => &[],
     }
 }
 
@@ -76,7 +64,7 @@ fn named_in(state: &PlainState, h: u32) -> Option<u32>
     ensures { result ≡ View.named_in (map.get state.now.handles h) }
 {
     match state.handles.get(h) {
-        Some(Holding::Slot(slot)) => named_by(*slot),
+        Some(Holding::Slot(slot)) => slot.object(),
         Some(Holding::Bare(_)) | None => None,
     }
 }

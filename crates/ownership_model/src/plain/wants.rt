@@ -1,26 +1,25 @@
-//! What the members of an operation want: each question of the table, asked of plain lists.
-ghost use Rattle.std.specs.Prelude.{slice_get};
+//! What the members of an operation want of what is held: each question of the table, asked of plain lists.
 ghost use Rattle.std.specs.FinMap as map;
 ghost use Rattle.ownership_model.specs.View.{seen, elements_of};
 ghost use Rattle.ownership_model.specs.View as View;
 ghost use Rattle.ownership_model.specs.Table as Table;
-ghost use Rattle.ownership_model.specs.Plain.{state_of, Asks, AsksBoth, Allows};
+ghost use Rattle.ownership_model.specs.Rows.{Asks, AsksBoth, Allows, found, found_fields};
+ghost use Rattle.ownership_model.specs.Plain.{state_of};
 
 use crate::plain::state::PlainState;
-use crate::plain::stop::Stop;
 use crate::plain::view::fields_named;
-use std::alloc::Global;
+use crate::plan::Stop;
+use crate::questions::Fields;
 use trace_types::kinds::Field;
 use trace_types::outcomes::Reason;
-use trace_types::sequence::Sequence;
 use trace_types::slots::{Holding, Slot};
 
 /// What the handle holds.
-pub fn held(alloc: Global, state: &PlainState, h: u32) -> Result<Holding, Stop>
-    ensures { Asks result (Table.held h (map.get state.now.handles h)) }
+pub fn held(state: &PlainState, h: u32) -> Result<&Holding, Stop>
+    ensures { Asks (found result) (Table.held h (map.get state.now.handles h)) }
 {
     match state.handles.get(h) {
-        Some(held) => Ok(held.copy(alloc)?),
+        Some(held) => Ok(held),
         None => Err(Stop::Skip(Reason::NotHeld(h))),
     }
 }
@@ -55,100 +54,22 @@ pub fn absent_cell(state: &PlainState, c: u32) -> Result<(), Stop>
     }
 }
 
-/// A pointer of any kind, and no value.
-pub fn slot_in(h: u32, held: Holding) -> Result<Slot, Stop>
-    ensures { Asks result (Table.slot_in h held) }
-{
-    match held {
-        Holding::Slot(slot) => Ok(slot),
-        Holding::Bare(_) => Err(Stop::Skip(Reason::WrongKind(h))),
-    }
-}
-
-/// The fields of a value outside any allocation.
-pub fn bare_in(h: u32, held: Holding) -> Result<Sequence<Slot>, Stop>
-    ensures { Asks result (Table.bare_in h held) }
-{
-    match held {
-        Holding::Slot(_) => Err(Stop::Skip(Reason::WrongKind(h))),
-        Holding::Bare(fields) => Ok(fields),
-    }
-}
-
-/// The object of an `Arc`.
-pub fn strong_in(h: u32, held: Holding) -> Result<u32, Stop>
-    ensures { Asks result (Table.strong_in h held) }
-{
-    match held {
-        Holding::Slot(Slot::Strong(object)) => Ok(object),
-        Holding::Slot(Slot::Nothing | Slot::Weak(_) | Slot::Dangling) | Holding::Bare(_) => {
-            Err(Stop::Skip(Reason::WrongKind(h)))
-        }
-    }
-}
-
-/// The object of a `Weak`, if it names one.
-pub fn weak_in(h: u32, held: Holding) -> Result<Option<u32>, Stop>
-    ensures { Asks result (Table.weak_in h held) }
-{
-    match held {
-        Holding::Slot(Slot::Weak(object)) => Ok(Some(object)),
-        Holding::Slot(Slot::Dangling) => Ok(None),
-        Holding::Slot(Slot::Nothing | Slot::Strong(_)) | Holding::Bare(_) => {
-            Err(Stop::Skip(Reason::WrongKind(h)))
-        }
-    }
-}
-
-/// The object of an `Arc` or a `Weak`, if it names one.
-pub fn counted_in(h: u32, held: Holding) -> Result<Option<u32>, Stop>
-    ensures { Asks result (Table.counted_in h held) }
-{
-    match held {
-        Holding::Slot(Slot::Strong(object) | Slot::Weak(object)) => Ok(Some(object)),
-        Holding::Slot(Slot::Dangling) => Ok(None),
-        Holding::Slot(Slot::Nothing) | Holding::Bare(_) => Err(Stop::Skip(Reason::WrongKind(h))),
-    }
-}
-
-/// What a cell may hold: an `Arc` or an empty pointer.
-pub fn pointer_in(h: u32, held: Holding) -> Result<Slot, Stop>
-    ensures { Asks result (Table.pointer_in h held) }
-{
-    match held {
-        Holding::Slot(Slot::Nothing) => Ok(Slot::Nothing),
-        Holding::Slot(Slot::Strong(object)) => Ok(Slot::Strong(object)),
-        Holding::Slot(Slot::Weak(_) | Slot::Dangling) | Holding::Bare(_) => {
-            Err(Stop::Skip(Reason::WrongKind(h)))
-        }
-    }
-}
-
 /// The fields of the value that the handle's `Arc` keeps, with its object, or of the value that the handle holds itself.
-pub fn fields_in(
-    alloc: Global,
-    state: &PlainState,
-    h: u32,
-    held: Holding,
-) -> Result<(Option<u32>, Sequence<Slot>), Stop>
-    ensures { AsksBoth result (Table.fields_in h held (seen (state_of state.now) (View.named_in (map.get state.now.handles h))).entry) }
+pub fn fields_in<'a>(state: &'a PlainState, h: u32, held: &'a Holding) -> Result<Fields<'a>, Stop>
+    ensures { AsksBoth (found_fields result) (Table.fields_in h held.now (seen (state_of state.now) (View.named_in (map.get state.now.handles h))).entry) }
 {
     match held {
-        Holding::Slot(Slot::Strong(object)) => Ok((Some(object), fields_named(alloc, state, h)?)),
-        Holding::Bare(fields) => Ok((None, fields)),
+        Holding::Slot(Slot::Strong(object)) => Ok(Fields {
+            owner: Some(*object),
+            slots: fields_named(state, h),
+        }),
+        Holding::Bare(fields) => Ok(Fields {
+            owner: None,
+            slots: fields.as_slice(),
+        }),
         Holding::Slot(Slot::Nothing | Slot::Weak(_) | Slot::Dangling) => {
             Err(Stop::Skip(Reason::WrongKind(h)))
         }
-    }
-}
-
-/// The field with that index, from 0.
-pub fn field_at(i: u32, fields: &[Slot]) -> Result<Slot, Stop>
-    ensures { Asks result (Table.field_at i (slice_get fields.now i)) }
-{
-    match fields.get(i as usize) {
-        Some(slot) => Ok(*slot),
-        None => Err(Stop::Skip(Reason::NoField(i))),
     }
 }
 

@@ -1,0 +1,133 @@
+//! One operation carried out on a heap.
+ghost use Rattle.std.specs.Prelude.{◌≡◌, ◌++◌, [], None, IfOk, OnOk, OnErr, option_to_list};
+ghost use Rattle.std.specs.FinMap.{get};
+ghost use Rattle.ownership_model.specs.State.{IsSound};
+ghost use Rattle.ownership_model.specs.Bounds.{IsBounded, PlanFits};
+ghost use Rattle.ownership_model.specs.Carry.{IsCarriable};
+ghost use Rattle.ownership_model.specs.Step.{step, carried_out};
+ghost use Rattle.ownership_model.specs.Step as Step;
+ghost use Rattle.op_step.specs.Meter.{raised};
+
+use crate::meter::Meter;
+use crate::rows::plan;
+use object_heap::Heap;
+use ownership_model::Plan;
+use std::alloc::{AllocError, Global};
+use trace_types::ops::Op;
+use trace_types::outcomes::{Counts, Event, Outcome, Reason, Verdict};
+use trace_types::sequence::Sequence;
+
+/// Carries out one operation, whose number no object has: the heap afterwards, and what the operation did.
+///
+/// An operation that can't be done is skipped, and its outcome tells why. The meter is raised by one.
+pub fn step(
+    alloc: Global,
+    heap: &Heap,
+    op: &Op,
+    meter: &mut Meter,
+) -> Result<(Heap, Outcome), AllocError>
+    requires { get heap.now.objects op.now.id ≡ None }
+    ensures state { IfOk result (λ r. r.0 ≡ (step heap.now op.now).state) }
+    ensures outcome { IfOk result (λ r. r.1 ≡ (step heap.now op.now).outcome) }
+    ensures counted { OnOk result (meter.new ≡ raised meter.old 1) }
+    ensures uncounted { OnErr result (meter.new ≡ meter.old) }
+{
+    stepped(alloc, heap.share()?, op, meter)
+}
+
+/// As `step`, but takes the heap itself: what it alone holds is changed in place.
+pub fn stepped(
+    alloc: Global,
+    heap: Heap,
+    op: &Op,
+    meter: &mut Meter,
+) -> Result<(Heap, Outcome), AllocError>
+    requires { get heap.objects op.now.id ≡ None }
+    ensures state { IfOk result (λ r. r.0 ≡ (step heap op.now).state) }
+    ensures outcome { IfOk result (λ r. r.1 ≡ (step heap op.now).outcome) }
+    ensures counted { OnOk result (meter.new ≡ raised meter.old 1) }
+    ensures uncounted { OnErr result (meter.new ≡ meter.old) }
+{
+    let planned = plan(alloc, &heap, op)?;
+    see_kept(&heap);
+    let done = carry_out(alloc, heap, op.id(), planned)?;
+    meter.raise();
+    Ok(done)
+}
+
+// What every heap keeps, which a look at it tells.
+pub fn see_kept(heap: &Heap)
+    ensures sound { IsSound heap.now [] }
+    ensures bounded { IsBounded heap.now }
+{
+    let _held = heap.holding(0);
+}
+
+fn carry_out(alloc: Global, heap: Heap, id: u32, plan: Plan) -> Result<(Heap, Outcome), AllocError>
+    requires carriable { IsCarriable heap plan }
+    requires fits { PlanFits plan }
+    ensures state { IfOk result (λ r. r.0 ≡ (carried_out heap id plan).state) }
+    ensures outcome { IfOk result (λ r. r.1 ≡ (carried_out heap id plan).outcome) }
+{
+    match plan {
+        Plan::Skip(reason) => Ok((heap, skipped(alloc, id, reason))),
+        Plan::Act {
+            answer,
+            changes,
+            event,
+            pending,
+            object,
+        } => {
+            let (next, released) = heap.released(alloc, changes.as_slice(), pending.as_slice())?;
+            let events = with_named(alloc, event, released)?;
+            let counts = counts_of(&next, object);
+            let outcome = Outcome {
+                id,
+                verdict: Verdict::Did(answer),
+                events,
+                counts,
+            };
+            Ok((next, outcome))
+        }
+    }
+}
+
+fn skipped(alloc: Global, id: u32, reason: Reason) -> Outcome
+    ensures { result ≡ record { id = id; verdict = Verdict.Skipped reason; events = []; counts = None } }
+{
+    Outcome {
+        id,
+        verdict: Verdict::Skipped(reason),
+        events: Sequence::empty(alloc),
+        counts: None,
+    }
+}
+
+// The event that an operation names itself comes before those of what it drops.
+fn with_named(
+    alloc: Global,
+    event: Option<Event>,
+    released: Sequence<Event>,
+) -> Result<Sequence<Event>, AllocError>
+    ensures { IfOk result (λ s. s ≡ option_to_list event ++ released) }
+{
+    let Some(event) = event else {
+        return Ok(released);
+    };
+    let mut events = vec![in alloc; event]?;
+    events.extend_from_slice(released.as_slice())?;
+    Ok(Sequence::from_vec(events))
+}
+
+fn counts_of(heap: &Heap, object: Option<u32>) -> Option<Counts>
+    ensures { result ≡ Step.counts_of heap.now object }
+{
+    match object {
+        None => None,
+        Some(object) => Some(Counts {
+            object,
+            strong: heap.strong(object),
+            weak: heap.weak(object),
+        }),
+    }
+}
