@@ -72,7 +72,7 @@ weight-drop_first w m (item.Slot (Weak o)) xs sound =
     (λ t. weighs_goes w m xs o (middle (weak m xs o == 0) (is_husk (get m.objects o)) (ends o xs == 0) t)) (λ f. weighs_stays w m xs)
 weight-drop_first w m (item.End o) xs sound =
     decide (Weighs w m xs) (weak m xs o == 0) (Goes o) Stays
-    (λ t. weighs_goes w m xs o (ended_husk _ _ _ (get m.objects o) (sound o) (first_end o xs))) (λ f. weighs_stays w m xs)
+    (λ t. weighs_goes w m xs o (ended_husk _ _ _ (get m.objects o) (sound.counts o) (first_end o xs))) (λ f. weighs_stays w m xs)
 
 -- only the object that the item names has other counts
 record NamesOnly (m : State) (x : Item) (xs : List Item) (o : ℕ) : Type 0 where
@@ -153,7 +153,7 @@ module _ (m : State) (xs : List Item) (o : ℕ) where
   first_strong sound =
       let same : strong m (item.Slot (Strong o) ∷ xs) o ≡ 1 + strong m xs o = omega (arith, self_strong o) in
       let too : weak m (item.Slot (Strong o) ∷ xs) o ≡ weak m xs o = omega arith in
-      subst (λ n. IsSoundAt (1 + strong m xs o) n (ends o xs) (get m.objects o)) too (subst (λ n. IsSoundAt n (weak m (item.Slot (Strong o) ∷ xs) o) (ends o xs) (get m.objects o)) same (sound o))
+      subst (λ n. IsSoundAt (1 + strong m xs o) n (ends o xs) (get m.objects o)) too (subst (λ n. IsSoundAt n (weak m (item.Slot (Strong o) ∷ xs) o) (ends o xs) (get m.objects o)) same (sound.counts o))
 
 -- the fate of an item by a test that the code makes
 fate_by : (a b : Bool) (f g : Fate) → a ≡ b → (if b then f else g) ≡ (if a then f else g)

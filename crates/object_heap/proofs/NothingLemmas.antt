@@ -7,9 +7,10 @@ use Rattle.trace_types.specs.declared.slots.Slot.{Slot}
 use Rattle.trace_types.specs.declared.slots.Slot.TheVariants.{Strong, Weak}
 use Rattle.trace_types.specs.declared.slots.Entry.{Entry}
 use Rattle.ownership_model.specs.Totals.{total, total_in}
-use Rattle.ownership_model.specs.State.{State, nothing_held, weight, holding_weight, entry_weight, names_alike, IsSound, IsSoundAt}
+use Rattle.ownership_model.specs.State.{State, nothing_held, weight, holding_weight, entry_weight, names_alike, IsSound}
 use Rattle.ownership_model.specs.Bounds.{IsBounded}
 use Rattle.ownership_model.proofs.LimitLemmas.{nothing_bounded}
+use Rattle.ownership_model.proofs.ReplayLemmas.{nothing_sound}
 use Rattle.object_heap.specs.declared.counters.Counters.{Counters}
 use Rattle.object_heap.specs.declared.draft.Draft.{Draft}
 use Rattle.object_heap.specs.Counted.{counters_at, state_of, IsCounted, IsKept}
@@ -27,12 +28,6 @@ total-empty w = ap (total_in w) entries-empty
 weight-nothing : (w : Slot → ℕ) → weight w nothing_held [] ≡ 0
 weight-nothing w = omega (arith, total-empty (holding_weight w), total-empty w, total-empty (entry_weight w))
 
-absent : (s w : ℕ) (e : Option Entry) → e ≡ None → s ≡ 0 → w ≡ 0 → IsSoundAt s w 0 e
-absent s w e is a b = subst (λ (x : Option Entry). IsSoundAt s w 0 x) (sym is) (a, b, refl)
-
-sound-nothing : IsSound nothing_held []
-sound-nothing o = absent _ _ (get empty o) (get-empty nat_cmp o) (weight-nothing (names_alike (Strong o))) (weight-nothing (names_alike (Weak o)))
-
 no_counts : (o : ℕ) → counters_at (get (empty {X = Counters} {R = nat_cmp}) o) ≡ record { strong = 0; weak = 0; ends = 0 }
 no_counts o = ap counters_at (get-empty nat_cmp o)
 
@@ -46,7 +41,7 @@ counted_nothing = record {
 -- a draft of nothing is that of a heap
 pub kept_nothing : (d : Draft) → state_of d ≡ nothing_held → d.counts ≡ empty → IsKept d
 kept_nothing d held none = record {
-  sound = subst (λ (m : State). IsSound m []) (sym held) sound-nothing;
+  sound = subst (λ (m : State). IsSound m []) (sym held) nothing_sound;
   bounded = subst (λ (m : State). IsBounded m) (sym held) nothing_bounded;
   counted = subst (λ (counts : FinMap nat_cmp Counters). IsCounted counts (state_of d) []) (sym none) (subst (λ (m : State). IsCounted empty m []) (sym held) counted_nothing);
 }

@@ -84,6 +84,7 @@ impl Draft {
     fn set_cell(&mut self, alloc: Global, cell: u32, slot: Slot) -> Result<(), AllocError>
         requires counted { IsCounted self.old.counts (state_of self.old) [] }
         requires bounded { IsBounded (state_of self.old) }
+        requires can { CanBeDone (state_of self.old) (change.SetCell cell slot) }
         ensures { OnOk result (Changes self.old self.new (change.SetCell cell slot)) }
     {
         hold(alloc, &mut self.counts, slot)?;

@@ -3,7 +3,8 @@ use Rattle.std.proofs.Common.{◌≡◌, ℕ, ◌+◌, ◌<◌, ◌≤◌, List,
 use Rattle.std.specs.Prelude.{Option, Some, None, IsTrue, ◌==◌, ◌||◌, if◌then◌else◌, slice_get, slice_set, IsSome}
 use Rattle.std.proofs.lemmas.Bool.Decides.{nat_tests}
 use Rattle.std.proofs.lemmas.Option.{slice_get_within}
-use Rattle.std.specs.FinMap.{get, insert, remove}
+use Rattle.std.specs.Ordering.{nat_cmp}
+use Rattle.std.specs.FinMap.{FinMap, get, insert, remove}
 use Rattle.trace_types.specs.declared.slots.Slot.{Slot}
 use Rattle.trace_types.specs.declared.slots.Slot.TheVariants.{Nothing, Strong, Weak, Dangling}
 use Rattle.trace_types.specs.declared.slots.Holding.{Holding}
@@ -11,34 +12,35 @@ use Rattle.trace_types.specs.declared.slots.Holding.TheVariants as holding
 use Rattle.trace_types.specs.declared.slots.Entry.{Entry}
 use Rattle.trace_types.specs.declared.slots.Entry.TheVariants.{Alive, Husk}
 use Rattle.trace_types.specs.declared.slots.Item.TheVariants as item
-use Rattle.trace_types.specs.declared.slots.Change.TheVariants.{SetHandle, EndHandle, SetCell, EndCell, SetField, TurnHusk}
+use Rattle.trace_types.specs.declared.slots.Change.{Change}
+use Rattle.trace_types.specs.declared.slots.Change.TheVariants.{SetHandle, EndHandle, SetCell, EndCell, SetField, Make, TurnHusk}
 use Rattle.trace_types.specs.declared.kinds.Kind.{Kind}
 use Rattle.trace_types.specs.declared.kinds.Kind.TheVariants as kind
 use Rattle.trace_types.specs.declared.outcomes.Answer.{Answer}
 use Rattle.trace_types.specs.declared.outcomes.Answer.TheVariants as answer
 use Rattle.ownership_model.specs.declared.plan.Plan.{Plan}
 use Rattle.ownership_model.specs.declared.plan.Plan.TheVariants.{Skip, Act}
-use Rattle.ownership_model.specs.State.{State, strong, weak, weight, holding_weight, entry_weight, slots_weight, names_alike, IsSound, IsSoundAt, is_alive}
+use Rattle.ownership_model.specs.State.{State, strong, weak, weight, holding_weight, entry_weight, slots_weight, names_alike, IsPointer, HoldPointers, AreCountsSound, IsSound, IsSoundAt, is_alive}
 use Rattle.ownership_model.specs.Release.{drops}
-use Rattle.ownership_model.specs.Changes.{changed, HasField, with_field}
+use Rattle.ownership_model.specs.Changes.{changed, changed_by, CanChange, HasField, with_field}
 use Rattle.ownership_model.specs.Carry.{IsCarriable}
 use Rattle.ownership_model.specs.View.{Seen, held_by, named_by, named_in, seen, view_of, repeated}
 use Rattle.ownership_model.specs.Step.{step, carried_out, end_from, AreNew}
 use Rattle.trace_types.specs.Operation.{Operation}
 use Rattle.ownership_model.proofs.DropLemmas.{sound-release}
-use Rattle.ownership_model.proofs.EndingLemmas.{new_carriable}
+use Rattle.ownership_model.proofs.EndingLemmas.{CountsCarriable, new_carriable}
 use Rattle.ownership_model.specs.Table.{row, row_of, upgraded, unwrapped, made_unique, dropped, swapped, exchanged, set_field, take_field, copy_field, write_field, fields_of, same_pointer, make, act}
 use Rattle.ownership_model.proofs.WalkLemmas as walk
-use Rattle.ownership_model.proofs.MapLemmas.{get_inserted}
+use Rattle.ownership_model.proofs.MapLemmas.{get_inserted, get_removed}
 use Rattle.ownership_model.proofs.CountLemmas.{total-set, total-cut, get_cut_none, get_cut_other, get_set_other, apart_of, slots_weight-set, slots_weight-get, items_weight-drops, ends-drops, held_within, cell_within, fields_within, self_strong, named_weak, named_strong, same_number, positive, shape}
 use Rattle.ownership_model.proofs.GroupLemmas.{copies_sound, moves_sound, makes_sound, turns_sound, value_moves_sound}
 
 there : {X : Type 0} (x : Option X) (y : X) → x ≡ Some y → IsSome x
 there x y is = subst (λ z. IsSome z) (sym is) refl
 
-module _ (m : State) (sound : IsSound m []) where
+module _ (m : State) (sound : AreCountsSound m []) where
   abbrev P : Plan → Type 0
-  P p = IsCarriable m p
+  P p = CountsCarriable m p
 
   -- the slot names what is named already
   record Stands (s : Slot) : Type 0 where
@@ -112,26 +114,26 @@ module _ (m : State) (sound : IsSound m []) where
         (λ t. omega (arith, total-cut (holding_weight (names_alike t)) m.handles h (Some (holding.Bare fields)) is, items_weight-drops (names_alike t) fields [])) (λ q. ends-drops q fields []) (λ q. refl),
   )
 
-  cell_new_carriable : (c from : ℕ) (s : Slot) → get m.handles from ≡ Some (holding.Slot s) → get m.cells c ≡ None → P (act answer.Done (EndHandle from ∷ SetCell c s ∷ []) [] (named_by s))
-  cell_new_carriable c from s is free = (
-    (there _ _ is, (tt, tt)),
+  cell_new_carriable : (c from : ℕ) (s : Slot) → get m.handles from ≡ Some (holding.Slot s) → IsPointer s → get m.cells c ≡ None → P (act answer.Done (EndHandle from ∷ SetCell c s ∷ []) [] (named_by s))
+  cell_new_carriable c from s is pointer free = (
+    (there _ _ is, (pointer, tt)),
     moves_sound m (changed m (EndHandle from ∷ SetCell c s ∷ [])) [] sound
         (λ t. omega (arith, total-cut (holding_weight (names_alike t)) m.handles from (Some (holding.Slot s)) is, total-set (names_alike t) m.cells c s None free)) (λ q. refl) (λ q. refl),
   )
 
   -- a handle's slot goes into a cell, and the old one is dropped
-  store_carriable : (c from : ℕ) (a : Answer) (old s : Slot) → get m.cells c ≡ Some old → get m.handles from ≡ Some (holding.Slot s) → P (act a (EndHandle from ∷ SetCell c s ∷ []) (item.Slot old ∷ []) (named_by s))
-  store_carriable c from a old s had is = (
-    (there _ _ is, (tt, tt)),
+  store_carriable : (c from : ℕ) (a : Answer) (old s : Slot) → get m.cells c ≡ Some old → get m.handles from ≡ Some (holding.Slot s) → IsPointer s → P (act a (EndHandle from ∷ SetCell c s ∷ []) (item.Slot old ∷ []) (named_by s))
+  store_carriable c from a old s had is pointer = (
+    (there _ _ is, (pointer, tt)),
     moves_sound m (changed m (EndHandle from ∷ SetCell c s ∷ [])) (item.Slot old ∷ []) sound
         (λ t. omega (arith, total-cut (holding_weight (names_alike t)) m.handles from (Some (holding.Slot s)) is, total-set (names_alike t) m.cells c s (Some old) had)) (λ q. refl) (λ q. refl),
   )
 
-  swapped_carriable : (c from : ℕ) (to : Option ℕ) (it : Option Holding) (old s : Slot) → ((k : ℕ) → to ≡ Some k → it ≡ get m.handles k) → get m.cells c ≡ Some old → get m.handles from ≡ Some (holding.Slot s) → P (swapped c from to it old s)
-  swapped_carriable c from None it old s at had is = store_carriable c from answer.Done old s had is
-  swapped_carriable c from (Some to) it old s at had is = walk.at_unheld P (λ _. tt) to it _ (λ none.
+  swapped_carriable : (c from : ℕ) (to : Option ℕ) (it : Option Holding) (old s : Slot) → ((k : ℕ) → to ≡ Some k → it ≡ get m.handles k) → get m.cells c ≡ Some old → get m.handles from ≡ Some (holding.Slot s) → IsPointer s → P (swapped c from to it old s)
+  swapped_carriable c from None it old s at had is pointer = store_carriable c from answer.Done old s had is pointer
+  swapped_carriable c from (Some to) it old s at had is pointer = walk.at_unheld P (λ _. tt) to it _ (λ none.
       let free : get m.handles to ≡ None = sym (at to refl) ∙ none in (
-        (there _ _ is, (tt, (tt, tt))),
+        (there _ _ is, (pointer, (tt, tt))),
         moves_sound m (changed m (EndHandle from ∷ SetCell c s ∷ SetHandle to (holding.Slot old) ∷ [])) [] sound
             (λ t. omega (
               arith,
@@ -141,10 +143,10 @@ module _ (m : State) (sound : IsSound m []) where
             )) (λ q. refl) (λ q. refl),
       ))
 
-  exchanged_carriable : (c expected desired : ℕ) (old e d : Slot) → (expected == desired) ≡ false → get m.cells c ≡ Some old → get m.handles expected ≡ Some (holding.Slot e) → get m.handles desired ≡ Some (holding.Slot d) → P (exchanged c expected desired old e d)
-  exchanged_carriable c expected desired old e d apart had is is_too =
+  exchanged_carriable : (c expected desired : ℕ) (old e d : Slot) → (expected == desired) ≡ false → get m.cells c ≡ Some old → get m.handles expected ≡ Some (holding.Slot e) → get m.handles desired ≡ Some (holding.Slot d) → IsPointer d → P (exchanged c expected desired old e d)
+  exchanged_carriable c expected desired old e d apart had is is_too pointer =
       walk.at_test P (λ _. tt) (same_pointer old e) _ _
-      (λ _. store_carriable c desired answer.Yes old d had is_too)
+      (λ _. store_carriable c desired answer.Yes old d had is_too pointer)
       (λ _.
       let still : get (insert m.handles expected (holding.Slot old)) desired ≡ Some (holding.Slot d) = get_set_other m.handles expected (holding.Slot old) desired apart ∙ is_too in
       let c : Stands old = cell_stands c old had in (
@@ -404,22 +406,55 @@ module _ (m : State) (sound : IsSound m []) where
       (copy_field_carriable i to (Some o) (fields_of (get m.objects o)) (λ s free got. get_object_carriable i to o s (get m.objects o) refl free got)))
       (λ fields was. copy_field_carriable i to None fields (λ s free got. get_bare_carriable h i to s fields (is ∙ ap Some was) free got)))
   row_of_carriable id (kind.CellNew c from) new apart =
-      walk.at_held P (λ _. tt) from (get m.handles from) _ (λ x is. walk.at_pointer P (λ _. tt) from x _ (λ s was. walk.at_absent_cell P (λ _. tt) c (get m.cells c) _ (λ free.
-      cell_new_carriable c from s (is ∙ ap Some was) free)))
+      walk.at_held P (λ _. tt) from (get m.handles from) _ (λ x is. walk.at_pointer P (λ _. tt) from x _ (λ s was pointer. walk.at_absent_cell P (λ _. tt) c (get m.cells c) _ (λ free.
+      cell_new_carriable c from s (is ∙ ap Some was) pointer free)))
   row_of_carriable id (kind.CellLoad c to) new apart =
       walk.at_cell P (λ _. tt) c (get m.cells c) _ (λ s is. walk.at_unheld P (λ _. tt) to (get m.handles to) _ (λ free. add_carriable to s answer.Done (named_by s) free (cell_stands c s is)))
   row_of_carriable id (kind.CellSwap c from to) new apart =
-      walk.at_cell P (λ _. tt) c (get m.cells c) _ (λ old had. walk.at_held P (λ _. tt) from (get m.handles from) _ (λ x is. walk.at_pointer P (λ _. tt) from x _ (λ s was.
-      swapped_carriable c from to (held_by m to) old s (at_to to) had (is ∙ ap Some was))))
+      walk.at_cell P (λ _. tt) c (get m.cells c) _ (λ old had. walk.at_held P (λ _. tt) from (get m.handles from) _ (λ x is. walk.at_pointer P (λ _. tt) from x _ (λ s was pointer.
+      swapped_carriable c from to (held_by m to) old s (at_to to) had (is ∙ ap Some was) pointer)))
   row_of_carriable id (kind.CellCas c expected desired) new apart =
       walk.at_cell P (λ _. tt) c (get m.cells c) _ (λ old had. walk.at_held P (λ _. tt) expected (get m.handles expected) _ (λ x is. walk.at_held P (λ _. tt) desired (get m.handles desired) _ (λ y is_too.
-      walk.at_pointer P (λ _. tt) expected x _ (λ e was. walk.at_pointer P (λ _. tt) desired y _ (λ d was_too.
-      exchanged_carriable c expected desired old e d (cas_apart expected desired apart) had (is ∙ ap Some was) (is_too ∙ ap Some was_too))))))
+      walk.at_pointer P (λ _. tt) expected x _ (λ e was _. walk.at_pointer P (λ _. tt) desired y _ (λ d was_too pointer.
+      exchanged_carriable c expected desired old e d (cas_apart expected desired apart) had (is ∙ ap Some was) (is_too ∙ ap Some was_too) pointer)))))
   row_of_carriable id (kind.CellDrop c) new apart = walk.at_cell P (λ _. tt) c (get m.cells c) _ (λ s is. cell_drop_carriable c s is)
+
+some_same : (a b : Slot) → Some a ≡ Some b → a ≡ b
+some_same a b e = cc
+
+-- any changes that can be made leave pointers in the cells
+put_pointer : (cells : FinMap nat_cmp Slot) (k : ℕ) (x : Slot) → IsPointer x → HoldPointers cells → HoldPointers (insert cells k x)
+put_pointer cells k x pointer hold c s is =
+    elim (k == c) as (λ b. (if b then Some x else get cells c) ≡ Some s → IsPointer s) [
+      | true ↦ λ e. subst IsPointer (some_same x s e) pointer
+      | false ↦ λ e. hold c s e
+    ] (sym (get_inserted cells k x c) ∙ is)
+
+cut_pointer : (cells : FinMap nat_cmp Slot) (k : ℕ) → HoldPointers cells → HoldPointers (remove cells k)
+cut_pointer cells k hold c s is =
+    elim (k == c) as (λ b. (if b then None else get cells c) ≡ Some s → IsPointer s) [
+      | true ↦ λ e. absurd cc
+      | false ↦ λ e. hold c s e
+    ] (sym (get_removed cells k c) ∙ is)
+
+pub changed_pointers : (cs : List Change) (m : State) → CanChange m cs → HoldPointers m.cells → HoldPointers (changed m cs).cells
+changed_pointers [] m can hold = hold
+changed_pointers (SetHandle h x ∷ cs) m can hold = changed_pointers cs (changed_by m (SetHandle h x)) can.1 hold
+changed_pointers (EndHandle h ∷ cs) m can hold = changed_pointers cs (changed_by m (EndHandle h)) can.1 hold
+changed_pointers (SetCell c s ∷ cs) m can hold = changed_pointers cs (changed_by m (SetCell c s)) can.1 (put_pointer m.cells c s can.0 hold)
+changed_pointers (EndCell c ∷ cs) m can hold = changed_pointers cs (changed_by m (EndCell c)) can.1 (cut_pointer m.cells c hold)
+changed_pointers (SetField o i s ∷ cs) m can hold = changed_pointers cs (changed_by m (SetField o i s)) can.1 hold
+changed_pointers (Make o fields ∷ cs) m can hold = changed_pointers cs (changed_by m (Make o fields)) can.1 hold
+changed_pointers (TurnHusk o ∷ cs) m can hold = changed_pointers cs (changed_by m (TurnHusk o)) can.1 hold
+
+carriable : (m : State) (p : Plan) → HoldPointers m.cells → CountsCarriable m p → IsCarriable m p
+carriable m (Skip why) hold c = tt
+carriable m (Act answer changes event pending object) hold c = (c.0, record { counts = c.1; cells = changed_pointers changes m c.0 hold })
 
 -- each row can be carried out
 pub row_carriable : (m : State) (op : Operation) → IsSound m [] → get m.objects op.id ≡ None → IsCarriable m (row op (view_of m op.kind))
-row_carriable m op sound new = walk.at_repeated (IsCarriable m) (λ _. tt) (repeated op.kind) _ (λ apart. row_of_carriable m sound op.id op.kind new apart)
+row_carriable m op sound new =
+    carriable m (row op (view_of m op.kind)) sound.cells (walk.at_repeated (CountsCarriable m) (λ _. tt) (repeated op.kind) _ (λ apart. row_of_carriable m sound.counts op.id op.kind new apart))
 
 carried_sound : (m : State) (id : ℕ) (p : Plan) → IsSound m [] → IsCarriable m p → IsSound (carried_out m id p).state []
 carried_sound m id (Skip why) sound c = sound

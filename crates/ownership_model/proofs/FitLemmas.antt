@@ -218,16 +218,16 @@ module _ (id : ℕ) (low : id ≤ max_id) where
       walk.at_held PlanFits (λ _. tt) h v.first _ (λ x is. walk.at_fields PlanFits (λ _. tt) h x v.object.entry _
       (λ o was. copy_fits i to v.second (Some o) (fields_of v.object.entry) target) (λ fields was. copy_fits i to v.second None fields target))
   row_of_fits (kind.CellNew cell from) v fits c =
-      walk.at_held PlanFits (λ _. tt) from v.first _ (λ x is. walk.at_pointer PlanFits (λ _. tt) from x _ (λ s was. walk.at_absent_cell PlanFits (λ _. tt) cell v.cell _ (λ _.
+      walk.at_held PlanFits (λ _. tt) from v.first _ (λ x is. walk.at_pointer PlanFits (λ _. tt) from x _ (λ s was _. walk.at_absent_cell PlanFits (λ _. tt) cell v.cell _ (λ _.
       (tt, (below cell max_name (one (is_name cell) _ fits), tt)))))
   row_of_fits (kind.CellLoad cell to) v fits c =
       walk.at_cell PlanFits (λ _. tt) cell v.cell _ (λ s is. walk.at_unheld PlanFits (λ _. tt) to v.first _ (λ _. ((below to max_name (other (is_name cell) _ fits), tt), tt)))
   row_of_fits (kind.CellSwap cell from to) v fits c =
-      walk.at_cell PlanFits (λ _. tt) cell v.cell _ (λ old had. walk.at_held PlanFits (λ _. tt) from v.first _ (λ x is. walk.at_pointer PlanFits (λ _. tt) from x _ (λ s was.
+      walk.at_cell PlanFits (λ _. tt) cell v.cell _ (λ old had. walk.at_held PlanFits (λ _. tt) from v.first _ (λ x is. walk.at_pointer PlanFits (λ _. tt) from x _ (λ s was _.
       swapped_fits cell from to v.second old s (below cell max_name (one (is_name cell) _ fits)) (other (is_name from) _ (other (is_name cell) _ fits)))))
   row_of_fits (kind.CellCas cell expected desired) v fits c =
       walk.at_cell PlanFits (λ _. tt) cell v.cell _ (λ old had. walk.at_held PlanFits (λ _. tt) expected v.first _ (λ x is. walk.at_held PlanFits (λ _. tt) desired v.second _ (λ y is_too.
-      walk.at_pointer PlanFits (λ _. tt) expected x _ (λ e was. walk.at_pointer PlanFits (λ _. tt) desired y _ (λ d was_too.
+      walk.at_pointer PlanFits (λ _. tt) expected x _ (λ e was _. walk.at_pointer PlanFits (λ _. tt) desired y _ (λ d was_too _.
       exchanged_fits cell expected desired old e d (below cell max_name (one (is_name cell) _ fits)) (below expected max_name (one (is_name expected) _ (other (is_name cell) _ fits))))))))
   row_of_fits (kind.CellDrop cell) v fits c = walk.at_cell PlanFits (λ _. tt) cell v.cell _ (λ s is. (tt, tt))
 

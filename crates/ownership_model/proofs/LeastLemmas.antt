@@ -80,7 +80,7 @@ destroyed_closed m p sound o falls =
     total-zero (entry_weight (names_alike (Strong o))) (release m p).state.objects
     (λ q. holds_none o (times_destroyed q (release m p).events) (times_freed q (release m p).events) (get m.objects q) (get (release m p).state.objects q) (course m p q sound) (falls.held q)) in
     destroyed_or_named (times_destroyed o (release m p).events) (times_freed o (release m p).events) (strong (release m p).state [] o) (weak (release m p).state [] o)
-    (get m.objects o) (get (release m p).state.objects o) falls.alive (course m p o sound) (sound-release m p sound o) (omega (arith, handles, cells, objects))
+    (get m.objects o) (get (release m p).state.objects o) falls.alive (course m p o sound) ((sound-release m p sound).counts o) (omega (arith, handles, cells, objects))
 
 -- least: what is destroyed is in every closed set, which stays closed
 
@@ -157,7 +157,7 @@ module _ (k : ℕ → Bool) (m : State) (xs : List Item) where
       (λ t. led_goes p (all_three m xs (weak m xs p) (ends p xs) (is_husk (get m.objects p)) t).1 c) (λ _. led_stays c)
   led (item.End p) h c = decide IsLed (weak m xs p == 0) (Goes p) Stays
       (λ _. led_goes p (end_husk m xs (strong m xs p) (weak m xs p) (ends p xs) (get m.objects p)
-      (at _ _ _ (strong m xs p) (weak m xs p) ((if p == p then 1 else 0) + ends p xs) _ (get m.objects p) refl refl (self_end m xs p (ends p xs)) refl (h p))) c) (λ _. led_stays c)
+      (at _ _ _ (strong m xs p) (weak m xs p) ((if p == p then 1 else 0) + ends p xs) _ (get m.objects p) refl refl (self_end m xs p (ends p xs)) refl (h.counts p))) c) (λ _. led_stays c)
 
 in_either : (P : Type 0) (a b : ℕ) → 0 < a + b → (0 < a → P) → (0 < b → P) → P
 in_either P zero b h f g = g (omega (arith, h))

@@ -22,7 +22,7 @@ use Rattle.trace_types.specs.declared.outcomes.Outcome.{Outcome}
 use Rattle.trace_types.specs.declared.outcomes.Verdict.TheVariants.{Did}
 use Rattle.trace_types.specs.Operation.{Operation}
 use Rattle.ownership_model.specs.Totals.{total_in, total}
-use Rattle.ownership_model.specs.State.{State, nothing_held, weight, holding_weight, entry_weight, names_alike, ends, IsSoundAt, IsSound, is_alive}
+use Rattle.ownership_model.specs.State.{State, nothing_held, weight, holding_weight, entry_weight, names_alike, ends, IsSoundAt, IsPointer, AreCountsSound, IsSound, is_alive}
 use Rattle.ownership_model.specs.Release.{Fate, Stays, Falls, Goes, fate, fall, is_husk, Dropped, left_by, drop_first, Released, release_within, release, work, alive_size}
 use Rattle.ownership_model.specs.Changes.{with_field, changed_by, changed, HasField, CanBeDone, CanChange}
 use Rattle.ownership_model.specs.View.{Members, members, Read, Null, Me, View, held_by, cell_of, elements_of, named_in, seen, view_at}
@@ -35,6 +35,8 @@ use Rattle.ownership_model.proofs.TotalLemmas.{weight_at, total-insert, total-ze
 use Rattle.ownership_model.proofs.MapLemmas.{get_inserted, get_removed}
 use Rattle.ownership_model.proofs.ReleaseLemmas.{release-enough}
 use Rattle.ownership_model.proofs.Listed.{Lists, look, cut, set, count, fate_in, Left, meet_in, Ended, dropped_in, change_in, changes_in, look_if, elements_in, seen_in, view_in, counts_in, Stepped, cascade_in, carried_in, step_in, told_after, nothing_listed, told}
+use Rattle.ownership_model.proofs.CarryLemmas.{changed_pointers}
+use Rattle.ownership_model.proofs.ReplayLemmas.{nothing_sound}
 
 -- no key stands twice
 abbrev pub AreApart : {X : Type 0} → List (ℕ × X) → Type 0
@@ -270,23 +272,26 @@ cascaded changes pending =
     sym e.events
 
 -- ---- what changes make of nothing can be asked of the lists
-abbrev pub IsSoundIn : Lists → List Item → Type 0
-IsSoundIn m pending = (o : ℕ) → IsSoundAt (count (Strong o) m pending) (count (Weak o) m pending) (ends o pending) (look o m.objects)
+abbrev pub AreCountsSoundIn : Lists → List Item → Type 0
+AreCountsSoundIn m pending = (o : ℕ) → IsSoundAt (count (Strong o) m pending) (count (Weak o) m pending) (ends o pending) (look o m.objects)
 
-pub sound_made : (changes : List Change) (pending : List Item) → IsSoundIn (changes_in nothing_listed changes) pending → IsSound (changed nothing_held changes) pending
-sound_made changes pending is =
+pub sound_made : (changes : List Change) (pending : List Item) → CanChange nothing_held changes → AreCountsSoundIn (changes_in nothing_listed changes) pending → IsSound (changed nothing_held changes) pending
+sound_made changes pending can is =
     let n : Lists = changes_in nothing_listed changes in
     let apart : IsApart n = changes_apart changes nothing_listed (record { handles = tt; cells = tt; objects = tt }) in
-    let all : IsSound (shown n) pending = λ o.
+    let all : AreCountsSound (shown n) pending = λ o.
     subst (λ (e : Option Entry). IsSoundAt (weight (names_alike (Strong o)) (shown n) pending) (weight (names_alike (Weak o)) (shown n) pending) (ends o pending) e) (sym (get-map_of n.objects o))
     (subst (λ (w : ℕ). IsSoundAt (weight (names_alike (Strong o)) (shown n) pending) w (ends o pending) (look o n.objects)) (sym (count-shown (Weak o) n pending apart))
     (subst (λ (s : ℕ). IsSoundAt s (count (Weak o) n pending) (ends o pending) (look o n.objects)) (sym (count-shown (Strong o) n pending apart)) (is o))) in
-    subst (λ (s : State). IsSound s pending) (changes-shown changes nothing_listed) all
+    record {
+      counts = subst (λ (s : State). AreCountsSound s pending) (changes-shown changes nothing_listed) all;
+      cells = changed_pointers changes nothing_held can nothing_sound.cells;
+    }
 
 abbrev pub CanBeDoneIn : Lists → Change → Type 0
 CanBeDoneIn m (SetHandle h x) = Unit {0}
 CanBeDoneIn m (EndHandle h) = IsSome (look h m.handles)
-CanBeDoneIn m (SetCell c s) = Unit {0}
+CanBeDoneIn m (SetCell c s) = IsPointer s
 CanBeDoneIn m (EndCell c) = IsSome (look c m.cells)
 CanBeDoneIn m (SetField o i s) = HasField (look o m.objects) i
 CanBeDoneIn m (Make o fields) = look o m.objects ≡ None
@@ -299,7 +304,7 @@ CanChangeIn m (c ∷ cs) = CanBeDoneIn m c × CanChangeIn (change_in m c) cs
 can-shown : (m : Lists) (c : Change) → CanBeDoneIn m c → CanBeDone (shown m) c
 can-shown m (SetHandle h x) can = tt
 can-shown m (EndHandle h) can = subst (λ (e : Option Holding). IsSome e) (sym (get-map_of m.handles h)) can
-can-shown m (SetCell c s) can = tt
+can-shown m (SetCell c s) can = can
 can-shown m (EndCell c) can = subst (λ (e : Option Slot). IsSome e) (sym (get-map_of m.cells c)) can
 can-shown m (SetField o i s) can = subst (λ (e : Option Entry). HasField e i) (sym (get-map_of m.objects o)) can
 can-shown m (Make o fields) can = get-map_of m.objects o ∙ can

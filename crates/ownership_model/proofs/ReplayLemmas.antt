@@ -1,5 +1,5 @@
 -- A replay of one list of operations after another, and a replay from the empty state.
-use Rattle.std.proofs.Common.{◌≡◌, ℕ, List, [], ◌∷◌, ◌++◌, length, refl, ap, arith}
+use Rattle.std.proofs.Common.{◌≡◌, ℕ, List, [], ◌∷◌, ◌++◌, length, refl, sym, ◌∙◌, ap, arith}
 use Rattle.std.specs.Prelude.{Option, Some, None, IsTrue, Bool, true, false, not, ◌&&◌, ◌||◌, ◌==◌}
 use Rattle.std.proofs.lemmas.Bool.Decides.{nat_tests}
 use Rattle.std.specs.Ordering.{nat_cmp}
@@ -117,7 +117,10 @@ absent s w (Some e) a b is = absurd cc
 
 -- nothing is held, and nothing stands
 pub nothing_sound : IsSound nothing_held []
-nothing_sound o = absent (strong nothing_held [] o) (weak nothing_held [] o) (get nothing_held.objects o) (nothing_weighs (names_alike (Strong o))) (nothing_weighs (names_alike (Weak o))) (get-empty nat_cmp o)
+nothing_sound = record {
+  counts = λ o. absent (strong nothing_held [] o) (weak nothing_held [] o) (get nothing_held.objects o) (nothing_weighs (names_alike (Strong o))) (nothing_weighs (names_alike (Weak o))) (get-empty nat_cmp o);
+  cells = λ c s is. absurd (let none : None ≡ Some s = sym (get-empty nat_cmp c) ∙ is in cc);
+}
 
 pub nothing_taken : (ops : List Operation) → AreUnused nothing_held ops
 nothing_taken [] = tt

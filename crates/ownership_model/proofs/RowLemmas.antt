@@ -164,17 +164,17 @@ module _ (r : ℕ → Bool) (id : ℕ) (new : r id ≡ false) where
       (λ o was. copy_avoids i to v.second (Some o) (fields_of v.object.entry) (subst Held was (there Held v.first x c.first is)) (fields_avoids v.object.entry c.object))
       (λ fields was. copy_avoids i to v.second None fields tt (subst Held was (there Held v.first x c.first is))))
   row_of_avoids (kind.CellNew k from) v c =
-      walk.at_held Avoids (λ _. tt) from v.first _ (λ x is. walk.at_pointer Avoids (λ _. tt) from x _ (λ s was. walk.at_absent_cell Avoids (λ _. tt) k v.cell _ (λ _.
+      walk.at_held Avoids (λ _. tt) from v.first _ (λ x is. walk.at_pointer Avoids (λ _. tt) from x _ (λ s was _. walk.at_absent_cell Avoids (λ _. tt) k v.cell _ (λ _.
       let a : AvoidsSlot r s = subst Held was (there Held v.first x c.first is) in ((tt, (a, tt)), (tt, named_avoids s a)))))
   row_of_avoids (kind.CellLoad k to) v c =
       walk.at_cell Avoids (λ _. tt) k v.cell _ (λ s is. walk.at_unheld Avoids (λ _. tt) to v.first _ (λ _.
       let a : AvoidsSlot r s = there (AvoidsSlot r) v.cell s c.cell is in ((a, tt), (tt, named_avoids s a))))
   row_of_avoids (kind.CellSwap k from to) v c =
-      walk.at_cell Avoids (λ _. tt) k v.cell _ (λ old had. walk.at_held Avoids (λ _. tt) from v.first _ (λ x is. walk.at_pointer Avoids (λ _. tt) from x _ (λ s was.
+      walk.at_cell Avoids (λ _. tt) k v.cell _ (λ old had. walk.at_held Avoids (λ _. tt) from v.first _ (λ x is. walk.at_pointer Avoids (λ _. tt) from x _ (λ s was _.
       swapped_avoids k from to v.second old s (there (AvoidsSlot r) v.cell old c.cell had) (subst Held was (there Held v.first x c.first is)))))
   row_of_avoids (kind.CellCas k expected desired) v c =
       walk.at_cell Avoids (λ _. tt) k v.cell _ (λ old had. walk.at_held Avoids (λ _. tt) expected v.first _ (λ x is. walk.at_held Avoids (λ _. tt) desired v.second _ (λ y is_too.
-      walk.at_pointer Avoids (λ _. tt) expected x _ (λ e was. walk.at_pointer Avoids (λ _. tt) desired y _ (λ d was_too.
+      walk.at_pointer Avoids (λ _. tt) expected x _ (λ e was _. walk.at_pointer Avoids (λ _. tt) desired y _ (λ d was_too _.
       exchanged_avoids k expected desired old e d (there (AvoidsSlot r) v.cell old c.cell had) (subst Held was (there Held v.first x c.first is)) (subst Held was_too (there Held v.second y c.second is_too)))))))
   row_of_avoids (kind.CellDrop k) v c =
       walk.at_cell Avoids (λ _. tt) k v.cell _ (λ s is. let a : AvoidsSlot r s = there (AvoidsSlot r) v.cell s c.cell is in ((tt, tt), ((a, tt), named_avoids s a)))

@@ -15,7 +15,7 @@ use Rattle.ownership_model.specs.Release.{release}
 use Rattle.ownership_model.specs.Bounds.{ChangesFit}
 use Rattle.ownership_model.proofs.Listed.{nothing_listed, changes_in}
 use Rattle.ownership_model.proofs.FarLemmas.{far_sound}
-use Rattle.ownership_model.proofs.ListedLemmas.{cascaded, IsSoundIn, sound_made, can_be_made}
+use Rattle.ownership_model.proofs.ListedLemmas.{cascaded, AreCountsSoundIn, sound_made, can_be_made}
 
 -- the events, where the changes are made to nothing and then the items dropped
 abbrev events_of : List Change → List Item → List Event
@@ -61,19 +61,19 @@ husk_stays = cascaded husk []
 pub pair_can : CanChange nothing_held pair
 pair_can = can_be_made pair (refl, (refl, tt))
 
-pair_counts : IsSoundIn (changes_in nothing_listed pair) []
+pair_counts : AreCountsSoundIn (changes_in nothing_listed pair) []
 pair_counts zero = (refl, refl, refl)
 pair_counts (suc zero) = (omega arith, refl)
 pair_counts (suc (suc zero)) = (omega arith, refl)
 pair_counts (suc (suc (suc o))) = far_sound 3 (changes_in nothing_listed pair) [] (record { handles = tt; cells = tt; objects = ((omega arith, tt), ((omega arith, tt), tt)); keys = (omega arith, (omega arith, tt)); items = tt }) (suc (suc (suc o))) (omega arith)
 
 pub pair_is_sound : IsSound (changed nothing_held pair) []
-pair_is_sound = sound_made pair [] pair_counts
+pair_is_sound = sound_made pair [] pair_can pair_counts
 
 pub nested_can : CanChange nothing_held nested
 nested_can = can_be_made nested (refl, (refl, (refl, (refl, (refl, (tt, tt))))))
 
-nested_counts : IsSoundIn (changes_in nothing_listed nested) (item.Slot (Strong 6) ∷ [])
+nested_counts : AreCountsSoundIn (changes_in nothing_listed nested) (item.Slot (Strong 6) ∷ [])
 nested_counts zero = (refl, refl, refl)
 nested_counts (suc zero) = (omega arith, refl)
 nested_counts (suc (suc zero)) = (omega arith, refl)
@@ -84,29 +84,29 @@ nested_counts (suc (suc (suc (suc (suc (suc zero)))))) = (omega arith, refl)
 nested_counts (suc (suc (suc (suc (suc (suc (suc o))))))) = far_sound 7 (changes_in nothing_listed nested) (item.Slot (Strong 6) ∷ []) (record { handles = (omega arith, tt); cells = tt; objects = ((omega arith, (omega arith, (omega arith, tt))), (tt, (tt, ((omega arith, tt), (tt, tt))))); keys = (omega arith, (omega arith, (omega arith, (omega arith, (omega arith, tt))))); items = (omega arith, tt) }) (suc (suc (suc (suc (suc (suc (suc o))))))) (omega arith)
 
 pub nested_is_sound : IsSound (changed nothing_held nested) (item.Slot (Strong 6) ∷ [])
-nested_is_sound = sound_made nested (item.Slot (Strong 6) ∷ []) nested_counts
+nested_is_sound = sound_made nested (item.Slot (Strong 6) ∷ []) nested_can nested_counts
 
 pub own_weak_can : CanChange nothing_held own_weak
 own_weak_can = can_be_made own_weak (refl, tt)
 
-own_weak_counts : IsSoundIn (changes_in nothing_listed own_weak) (item.Slot (Strong 1) ∷ [])
+own_weak_counts : AreCountsSoundIn (changes_in nothing_listed own_weak) (item.Slot (Strong 1) ∷ [])
 own_weak_counts zero = (refl, refl, refl)
 own_weak_counts (suc zero) = (omega arith, refl)
 own_weak_counts (suc (suc o)) = far_sound 2 (changes_in nothing_listed own_weak) (item.Slot (Strong 1) ∷ []) (record { handles = tt; cells = tt; objects = ((omega arith, tt), tt); keys = (omega arith, tt); items = (omega arith, tt) }) (suc (suc o)) (omega arith)
 
 pub own_weak_is_sound : IsSound (changed nothing_held own_weak) (item.Slot (Strong 1) ∷ [])
-own_weak_is_sound = sound_made own_weak (item.Slot (Strong 1) ∷ []) own_weak_counts
+own_weak_is_sound = sound_made own_weak (item.Slot (Strong 1) ∷ []) own_weak_can own_weak_counts
 
 pub husk_can : CanChange nothing_held husk
 husk_can = can_be_made husk (refl, (refl, (tt, tt)))
 
-husk_counts : IsSoundIn (changes_in nothing_listed husk) []
+husk_counts : AreCountsSoundIn (changes_in nothing_listed husk) []
 husk_counts zero = (refl, refl, refl)
 husk_counts (suc zero) = (refl, omega arith, omega arith)
 husk_counts (suc (suc o)) = far_sound 2 (changes_in nothing_listed husk) [] (record { handles = (omega arith, tt); cells = tt; objects = (tt, tt); keys = (omega arith, tt); items = tt }) (suc (suc o)) (omega arith)
 
 pub husk_is_sound : IsSound (changed nothing_held husk) []
-husk_is_sound = sound_made husk [] husk_counts
+husk_is_sound = sound_made husk [] husk_can husk_counts
 
 -- ---- and its numbers and fields are within the limits
 pub pair_fits : ChangesFit pair

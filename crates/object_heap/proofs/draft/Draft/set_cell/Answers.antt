@@ -16,12 +16,12 @@ hold-requires c =
 pub let_go_cell-requires : goal.let_go_cell-requires
 let_go_cell-requires c =
     let old = c.args.self.now in
-    lost_in old.counts c.hold.new.counts (state_of old) (SetCell c.args.cell c.args.slot) tt c.requires.counted c.in_ok-hold.ensures
+    lost_in old.counts c.hold.new.counts (state_of old) (SetCell c.args.cell c.args.slot) c.requires.can c.requires.counted c.in_ok-hold.ensures
 
 pub returns : goal.returns
 returns c =
     let old = c.args.self.now in
     let new : Draft = record { handles = old.handles; cells = c.insert.new.self; objects = old.objects; counts = c.let_go_cell.new.counts } in
     on_ok c.insert.result c.insert.ensures.ok (λ is.
-    changes old.counts c.hold.new.counts (state_of old) (SetCell c.args.cell c.args.slot) tt c.requires.counted c.in_ok-hold.ensures old new refl c.in_ok-let_go_cell.ensures
+    changes old.counts c.hold.new.counts (state_of old) (SetCell c.args.cell c.args.slot) c.requires.can c.requires.counted c.in_ok-hold.ensures old new refl c.in_ok-let_go_cell.ensures
     (ap (λ (x : FinMap nat_cmp Slot). record { handles = old.handles; cells = x; objects = old.objects }) is))
