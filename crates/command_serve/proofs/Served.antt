@@ -1,10 +1,11 @@
 -- What was read and written makes a served input.
-use Rattle.std.proofs.Common.{◌≡◌, ℕ, ◌<◌, ◌≤◌, List, [], ◌++◌, length, Bool, true, false, Option, Some, None, refl, ap, ◌∙◌, sym, subst, arith, append-nil, length-append, lt-ltb, le-ltb, ◌⊎◌, inl, inr}
+use Rattle.std.proofs.Common.{◌≡◌, ℕ, ◌+◌, ◌<◌, ◌≤◌, List, [], ◌++◌, length, Bool, true, false, Option, Some, None, refl, ap, ◌∙◌, sym, subst, arith, append-nil, length-append, lt-ltb, le-ltb, ◌⊎◌, inl, inr}
 use Rattle.std.specs.Bool.{if◌then◌else◌}
 use Rattle.std.specs.Io.KnownBytes.{Appends, Consumes, IsAtEnd}
 use Rattle.std.proofs.KnownBytes.{Appends-nil}
 use Rattle.trace_types.specs.Devices.{IsInput, AppendsFront}
-use Rattle.command_serve.specs.Serve.{max_input, is_too_long, Due, too_long, exit_of, due_of, IsRead, IsServed}
+use Rattle.trace_types.specs.declared.limits.TheConstants.{MAX_INPUT}
+use Rattle.command_serve.specs.Serve.{is_too_long, Due, too_long, exit_of, due_of, IsRead, IsServed}
 use Rattle.command_serve.specs.declared.exits.Exit.{Exit}
 use Rattle.command_serve.specs.declared.exits.Exit.TheVariants.{Fine, Trace, Device, Memory}
 
@@ -25,23 +26,23 @@ IsInput-whole None left' bytes h e = tt
 IsInput-whole (Some xs) None bytes h e = absurd h
 IsInput-whole (Some xs) (Some ys) bytes h e = sym (h ∙ ap (λ l. bytes ++ l) e ∙ append-nil bytes)
 
-pub IsInput-long : (left left' : Option (List ℕ)) (bytes : List ℕ) → Consumes left left' bytes → max_input < length bytes → (input : List ℕ) × IsInput left input × (max_input < length input)
+pub IsInput-long : (left left' : Option (List ℕ)) (bytes : List ℕ) → Consumes left left' bytes → MAX_INPUT < length bytes → (input : List ℕ) × IsInput left input × (MAX_INPUT < length input)
 IsInput-long None left' bytes h l = (bytes, tt, l)
 IsInput-long (Some xs) None bytes h l = absurd h
 IsInput-long (Some xs) (Some ys) bytes h l = (xs, refl, omega (arith, simp length-append at (ap length h)))
 
-pub due-long : (answer : List ℕ → Due) (input : List ℕ) → max_input < length input → due_of answer input ≡ too_long
+pub due-long : (answer : List ℕ → Due) (input : List ℕ) → MAX_INPUT < length input → due_of answer input ≡ too_long
 unfolding due_of
 due-long answer input l = let e : is_too_long input ≡ true = lt-ltb _ _ l in rw e
 
-pub due-short : (answer : List ℕ → Due) (input : List ℕ) → length input ≤ max_input → due_of answer input ≡ answer input
+pub due-short : (answer : List ℕ → Due) (input : List ℕ) → length input ≤ MAX_INPUT → due_of answer input ≡ answer input
 unfolding due_of
 due-short answer input l = let e : is_too_long input ≡ false = le-ltb _ _ l in rw e
 
-pub read-short : (left left' : Option (List ℕ)) (input : List ℕ) → length input ≤ max_input → IsAtEnd left' → IsRead left left' input
+pub read-short : (left left' : Option (List ℕ)) (input : List ℕ) → length input ≤ MAX_INPUT → IsAtEnd left' → IsRead left left' input
 read-short left left' input l ended = (λ _. ended, λ long. let e : is_too_long input ≡ false = le-ltb _ _ l in absurd cc)
 
-pub read-long : (left left' : Option (List ℕ)) (input bytes : List ℕ) → max_input < length input → Consumes left left' bytes → length bytes ≡ 300000001 → IsRead left left' input
+pub read-long : (left left' : Option (List ℕ)) (input bytes : List ℕ) → MAX_INPUT < length input → Consumes left left' bytes → length bytes ≡ MAX_INPUT + 1 → IsRead left left' input
 read-long left left' input bytes l h n = ((λ short. absurd (omega (arith, l))), (λ _. (bytes, h, n)))
 
 done_at : (b : Bool) (left left' held held' : Option (List ℕ)) (input : List ℕ) (due : Due) → due.is_fault ≡ b → IsRead left left' input → Appends held held' due.text

@@ -1,16 +1,13 @@
 -- What a command has read and written when it ends, for what is due for an input.
-use Rattle.std.specs.Prelude.{◌≡◌, ℕ, ◌≤◌, List, length, Bool, true, nat_lt, if◌then◌else◌, codes, Option}
+use Rattle.std.specs.Prelude.{◌≡◌, ℕ, ◌+◌, ◌≤◌, List, length, Bool, true, nat_lt, if◌then◌else◌, codes, Option}
 use Rattle.std.specs.Io.KnownBytes.{Appends, Consumes, IsAtEnd}
 use Rattle.trace_types.specs.Devices.{IsInput, AppendsFront}
+use Rattle.trace_types.specs.declared.limits.TheConstants.{MAX_INPUT}
 use Rattle.command_serve.specs.declared.exits.Exit.{Exit}
 use Rattle.command_serve.specs.declared.exits.Exit.TheVariants.{Fine, Trace, Usage, Device, Memory}
 
--- how many bytes an input may have
-abbrev pub max_input : ℕ
-max_input = 300000000
-
 abbrev pub is_too_long : List ℕ → Bool
-is_too_long input = nat_lt max_input (length input)
+is_too_long input = nat_lt MAX_INPUT (length input)
 
 -- the text that is to be written for an input, and whether it tells a fault of the input
 pub record Due : Type 0 where
@@ -30,8 +27,8 @@ due_of answer input = if is_too_long input then too_long else answer input
 
 -- an input was read until a read gave no bytes, or until one byte more than is allowed
 abbrev pub IsRead : Option (List ℕ) → Option (List ℕ) → List ℕ → Type 0
-IsRead left left' input = (length input ≤ max_input → IsAtEnd left')
-    × (is_too_long input ≡ true → (bytes : List ℕ) × Consumes left left' bytes × (length bytes ≡ 300000001))
+IsRead left left' input = (length input ≤ MAX_INPUT → IsAtEnd left')
+    × (is_too_long input ≡ true → (bytes : List ℕ) × Consumes left left' bytes × (length bytes ≡ MAX_INPUT + 1))
 
 -- all of what is due was written, and nothing else
 abbrev pub IsDone : Option (List ℕ) → Option (List ℕ) → Option (List ℕ) → Option (List ℕ) → List ℕ → Due → Exit → Type 0

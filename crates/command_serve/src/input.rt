@@ -1,9 +1,10 @@
 //! All of an input, read before any of it is parsed.
-ghost use Rattle.std.specs.Prelude.{◌≡◌, ◌≢◌, ℕ, ◌≤◌, List, length, true, IfOk, IfErr, OnOk, vec_len, IsErrOf};
+ghost use Rattle.std.specs.Prelude.{◌≡◌, ◌≢◌, ℕ, ◌+◌, ◌≤◌, List, length, true, IfOk, IfErr, OnOk, vec_len, IsErrOf};
 ghost use Rattle.std.specs.Io.KnownBytes.{Consumes, IsAtEnd};
 
 use std::alloc::Global;
 use trace_types::devices::Source;
+use trace_types::limits::MAX_INPUT;
 
 /// Why an input can't be had.
 #[derive(Clone, Copy, Debug, PartialEq, Eq)]
@@ -16,23 +17,23 @@ pub enum InputFault {
     Memory,
 }
 
-/// How many bytes an input may have.
-pub const MAX_INPUT: usize = 300_000_000;
+/// How many bytes a read asks for at most.
+const PIECE: usize = 65_536;
 
 /// Reads all there is, until a read gives 0 bytes, or one byte more than is allowed.
 pub fn read_all<S: Source>(alloc: Global, source: &mut S) -> Result<Vec<u8>, InputFault>
     ensures ok { IfOk result (λ v. Consumes (S.left source.old) (S.left source.new) v.items
-        × IsAtEnd (S.left source.new) × (vec_len v ≤ 300000000)) }
+        × IsAtEnd (S.left source.new) × (vec_len v ≤ MAX_INPUT)) }
     ensures too_long { IsErrOf result InputFault.TooLong → ((bytes : List ℕ)
-        × Consumes (S.left source.old) (S.left source.new) bytes × (length bytes ≡ 300000001)) }
+        × Consumes (S.left source.old) (S.left source.new) bytes × (length bytes ≡ MAX_INPUT + 1)) }
     ensures device { IsErrOf result InputFault.Device → S.failed source.new ≡ true }
     ensures read { OnOk result (S.failed source.new ≡ S.failed source.old) }
     ensures other { IfErr result (λ e. e ≢ InputFault.Device → S.failed source.new ≡ S.failed source.old) }
 {
     let mut all = Vec::new(alloc);
-    let mut piece = [0u8; 65_536];
+    let mut piece = [0u8; PIECE];
     'reads: while all.len() <= MAX_INPUT {
-        let room = (MAX_INPUT + 1 - all.len()).min(65_536);
+        let room = (MAX_INPUT + 1 - all.len()).min(PIECE);
         let n = source
             .read(&mut piece[..room])
             .map_err(|_| InputFault::Device)?;

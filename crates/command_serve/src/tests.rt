@@ -5,6 +5,7 @@ use std::alloc::{AllocError, Global};
 use std::process::Abort;
 use std::test::Fail;
 use trace_types::devices::{Failed, Sink, Source, StdSink, StdSource};
+use trace_types::limits::{MAX_NAME, MAX_OPS};
 
 const TRACE: &[u8] = b"{\"id\":1,\"t\":0,\"op\":\"new\",\"to\":0,\"fields\":[]}
 {\"id\":2,\"t\":1,\"op\":\"clone\",\"from\":0,\"to\":1}
@@ -233,7 +234,7 @@ fn a_source_that_never_ends(rt: HostRuntime) {
 fn many_nulls(alloc: Global, count: u32) -> Result<String, AllocError> {
     let mut text = String::new(alloc);
     for id in 1..count.saturating_add(1) {
-        let to = id % 1_000_000;
+        let to = id % (MAX_NAME + 1);
         write!(
             &mut text,
             "{{\"id\":{id},\"t\":0,\"op\":\"null\",\"to\":{to}}}\n"
@@ -244,16 +245,13 @@ fn many_nulls(alloc: Global, count: u32) -> Result<String, AllocError> {
 
 #[test]
 fn as_many_operations_as_there_may_be(rt: HostRuntime) -> Result<(), Fail> {
-    let full = many_nulls(rt.alloc(), 65_536)?;
+    let most = MAX_OPS as u32;
+    let full = many_nulls(rt.alloc(), most)?;
     let (exit, _) = served(rt.alloc(), full.as_bytes());
     assert!(rt; exit == Exit::Fine);
-    let more = many_nulls(rt.alloc(), 65_537)?;
-    expect(
-        &rt,
-        more.as_bytes(),
-        Exit::Trace,
-        "fault line 65537 TooMany\n",
-    );
+    let more = many_nulls(rt.alloc(), most + 1)?;
+    let fault = format!(in rt.alloc(); "fault line {} TooMany\n", most + 1)?;
+    expect(&rt, more.as_bytes(), Exit::Trace, fault.as_str());
     Ok(())
 }
 

@@ -3,6 +3,7 @@ use Rattle.std.proofs.Common.{◌≡◌, ℕ, ◌+◌, ◌<◌, ◌≤◌, List,
 use Rattle.std.specs.Prelude.{◌==◌, nat_le, if◌then◌else◌, Result, Ok, Err}
 use Rattle.std.proofs.lemmas.Bool.Decides.{nat_tests}
 use Rattle.trace_types.specs.Operation.{Operation}
+use Rattle.trace_types.specs.declared.limits.TheConstants.{MAX_ENTRIES}
 use Rattle.run_engine.specs.declared.faults.RunFault.{RunFault}
 use Rattle.run_engine.specs.Edited.{edited_by}
 use Rattle.edit_desk.specs.declared.replies.Reply.{Reply}
@@ -35,23 +36,23 @@ one_more s e false true (Ok ops) = omega arith
 one_more s e false true (Err fault) = omega arith
 one_more s e false false x = omega arith
 
-is_room : (n : ℕ) → n < 1000000 → nat_le 1000000 n ≡ false
+is_room : (n : ℕ) → n < MAX_ENTRIES → nat_le MAX_ENTRIES n ≡ false
 is_room n less = grind (arith, nat_tests)
 
 -- the version grows by at most one
 pub version_after : (s : Standing) (session : ℕ) (r : Request) → (after s session r).version ≤ s.version + 1
 version_after s session r =
     let due : Entry = record { session = session; request = r; reply = reply_to s r } in
-    one_more s due (nat_le 1000000 (length s.history)) (r.base == s.version) (edited_by s.trace r.batch)
+    one_more s due (nat_le MAX_ENTRIES (length s.history)) (r.base == s.version) (edited_by s.trace r.batch)
 
 -- what stands after a request that there is room for
-pub stands_after : (s : Standing) (e : Entry) (trace : List Operation) (version : ℕ) (history : List Entry) → length s.history < 1000000
+pub stands_after : (s : Standing) (e : Entry) (trace : List Operation) (version : ℕ) (history : List Entry) → length s.history < MAX_ENTRIES
     → e.reply ≡ reply_to s e.request → trace ≡ (after s e.session e.request).trace → version ≡ (after s e.session e.request).version → history ≡ s.history ++ e ∷ []
     → (let now : Standing = record { opening = s.opening; trace = trace; version = version; history = history } in now ≡ after s e.session e.request)
 stands_after s e trace version history room reply trace_is version_is history_is =
     let due : Entry = record { session = e.session; request = e.request; reply = reply_to s e.request } in
     let same : e ≡ due = λ i. record { session = e.session; request = e.request; reply = reply i } in
     let told : (after s e.session e.request).history ≡ s.history ++ due ∷ [] =
-    stored s due (nat_le 1000000 (length s.history)) (e.request.base == s.version) (edited_by s.trace e.request.batch) (is_room (length s.history) room) in
+    stored s due (nat_le MAX_ENTRIES (length s.history)) (e.request.base == s.version) (edited_by s.trace e.request.batch) (is_room (length s.history) room) in
     let all : history ≡ (after s e.session e.request).history = history_is ∙ ap (λ x. s.history ++ x ∷ []) same ∙ sym told in
     λ i. record { opening = s.opening; trace = trace_is i; version = version_is i; history = all i }

@@ -1,6 +1,7 @@
 -- What a desk replies to a request, and what it has then (profile of this project).
 use Rattle.std.specs.Prelude.{◌≡◌, ℕ, ◌+◌, ◌==◌, List, [], ◌∷◌, ◌++◌, length, nat_le, if◌then◌else◌, Result, Ok, Err}
 use Rattle.trace_types.specs.Operation.{Operation}
+use Rattle.trace_types.specs.declared.limits.TheConstants.{MAX_ENTRIES}
 use Rattle.run_engine.specs.declared.faults.RunFault.{RunFault}
 use Rattle.run_engine.specs.Edited.{edited_by}
 use Rattle.edit_desk.specs.declared.replies.Reply.{Reply}
@@ -15,10 +16,6 @@ pub record Standing : Type 0 where
   pub trace : List Operation
   pub version : ℕ
   pub history : List Entry
-
--- how many entries a history may have
-abbrev pub max_entries : ℕ
-max_entries = 1000000
 
 -- a trace that nobody has edited yet
 abbrev pub opened : List Operation → Standing
@@ -35,7 +32,7 @@ reply_with_room version trace r = if r.base == version then settled version (edi
 
 -- the reply to a request
 abbrev pub reply_to : Standing → Request → Reply
-reply_to s r = if nat_le max_entries (length s.history) then HistoryFull else reply_with_room s.version s.trace r
+reply_to s r = if nat_le MAX_ENTRIES (length s.history) then HistoryFull else reply_with_room s.version s.trace r
 
 -- the edited trace, or the one that stands where the edits are refused
 abbrev pub edited_or : List Operation → Result (List Operation) RunFault → List Operation

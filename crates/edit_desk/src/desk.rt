@@ -19,10 +19,8 @@ use run_engine::run::Run;
 use std::alloc::{AllocError, Global};
 use std::marker::Model;
 use std::sync::Arc;
+use trace_types::limits::MAX_ENTRIES;
 use trace_types::trace::Trace;
-
-/// How many entries a history may have.
-pub const MAX_ENTRIES: usize = 1_000_000;
 
 /// One trace in versions. Contracts see the trace that stands, its version and the history, the checkpoints of its run, the
 /// room for more entries that is there already, and how many operations were replayed.
@@ -40,6 +38,7 @@ impl Model for Desk {
     ghost use Rattle.std.specs.Prelude.{◌≤◌, ◌-◌, length, map};
     ghost use Rattle.std.specs.Arc.{arc_value};
     ghost use Rattle.std.specs.Vec.{vec_len, vec_capacity};
+    ghost use Rattle.trace_types.specs.declared.limits.TheConstants.{MAX_ENTRIES};
     ghost use Rattle.edit_desk.specs.Answers.{IsLegal};
     ghost use Rattle.edit_desk.specs.Versions.{DeskView};
 
@@ -52,7 +51,7 @@ impl Model for Desk {
       meter = d.meter;
     } };
 
-    ghost invariant = { λ d. (d.published.version ≤ length d.history.items) × (length d.history.items ≤ 1000000)
+    ghost invariant = { λ d. (d.published.version ≤ length d.history.items) × (length d.history.items ≤ MAX_ENTRIES)
         × IsLegal (record { opening = d.opening; trace = d.published.run.trace; version = d.published.version; history = map arc_value d.history.items }) };
 }
 
@@ -131,9 +130,9 @@ impl Desk {
         ensures unchanged { OnErr result (self.new.standing ≡ self.old.standing) }
         ensures run { OnOk result (let next : RunView = record { trace = self.new.standing.trace; marks = self.new.marks } in IsNextRun self.old.standing.trace self.old.marks next) }
         ensures same_run { OnErr result (self.new.marks ≡ self.old.marks) }
-        ensures bound { length self.old.standing.history < 1000000 → request.base ≡ self.old.standing.version → ReplaysWithin self.old.standing.trace self.old.marks request.batch self.old.meter self.new.meter }
-        ensures stepped { OnOk result (length self.old.standing.history < 1000000 → request.base ≡ self.old.standing.version → StepsAtLeast self.old.standing.trace self.old.marks request.batch self.old.meter self.new.meter) }
-        ensures full { 1000000 ≤ length self.old.standing.history → self.new.meter ≡ self.old.meter }
+        ensures bound { length self.old.standing.history < MAX_ENTRIES → request.base ≡ self.old.standing.version → ReplaysWithin self.old.standing.trace self.old.marks request.batch self.old.meter self.new.meter }
+        ensures stepped { OnOk result (length self.old.standing.history < MAX_ENTRIES → request.base ≡ self.old.standing.version → StepsAtLeast self.old.standing.trace self.old.marks request.batch self.old.meter self.new.meter) }
+        ensures full { MAX_ENTRIES ≤ length self.old.standing.history → self.new.meter ≡ self.old.meter }
         ensures stale { request.base ≢ self.old.standing.version → self.new.meter ≡ self.old.meter }
         ensures refused { IsErr (edited_by self.old.standing.trace request.batch) → self.new.meter ≡ self.old.meter }
     {
@@ -152,7 +151,7 @@ impl Desk {
         session: u32,
         request: Request,
     ) -> Result<Prepared, AllocError>
-        requires { length self.old.standing.history < 1000000 }
+        requires { length self.old.standing.history < MAX_ENTRIES }
         ensures due { IfOk result (λ p. IsDue self.old.standing p) }
         ensures request { IfOk result (λ p. (p.entry.session ≡ session) × (p.entry.request ≡ request)) }
         ensures run { IfOk result (λ p. IsNextRun self.old.standing.trace self.old.marks p.next.run) }
@@ -177,7 +176,7 @@ impl Desk {
 
     /// Makes what was prepared stand, where nothing came between. Takes no memory.
     pub fn commit(&mut self, prepared: Prepared) -> Reply
-        requires history { length self.old.standing.history < 1000000 }
+        requires history { length self.old.standing.history < MAX_ENTRIES }
         requires room { 0 < self.old.room }
         requires due { IsDue self.old.standing prepared }
         ensures reply { result ≡ prepared.entry.reply }
@@ -200,7 +199,7 @@ fn settle(
     request: &Request,
     meter: &mut Meter,
 ) -> Result<(Reply, Published), AllocError>
-    requires { published.now.version < 1000000 }
+    requires { published.now.version < MAX_ENTRIES }
     ensures settled { IfOk result (λ r. IsSettled published.now request.now r.0 r.1) }
     ensures run { IfOk result (λ r. IsNextRun published.now.run.trace published.now.run.marks r.1.run) }
     ensures bound { request.now.base ≡ published.now.version → ReplaysWithin published.now.run.trace published.now.run.marks request.now.batch meter.old meter.new }

@@ -9,6 +9,7 @@ use run_engine::faults::RunFault;
 use std::test::Fail;
 use trace_types::edits::{Batch, Edit};
 use trace_types::kinds::Kind;
+use trace_types::limits::MAX_ENTRIES;
 use trace_types::ops::Op;
 use trace_types::sequence::Sequence;
 use trace_types::trace::Trace;
@@ -102,7 +103,7 @@ fn version_asked_what_if_stays(rt: HostRuntime) -> Result<(), Fail> {
 fn full_history(rt: HostRuntime) -> Result<(), Fail> {
     let alloc = rt.alloc();
     let mut desk = opened(&rt)?;
-    for _ in 0..1_000_000u32 {
+    for _ in 0..MAX_ENTRIES {
         let batch = Sequence::empty(alloc);
         let reply = desk.answer(alloc, 0, Request { base: 1, batch })?;
         assert!(rt; reply == Reply::Stale(0));
@@ -110,7 +111,7 @@ fn full_history(rt: HostRuntime) -> Result<(), Fail> {
     let batch = removal(&rt, 1, 1)?;
     let reply = desk.answer(alloc, 0, Request { base: 0, batch })?;
     assert_eq!(rt; reply, Reply::HistoryFull);
-    assert_eq!(rt; desk.len(), 1_000_000);
+    assert_eq!(rt; desk.len(), MAX_ENTRIES);
     assert_eq!(rt; desk.version(), 0);
     Ok(())
 }

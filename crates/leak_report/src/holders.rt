@@ -11,6 +11,7 @@ ghost use Rattle.leak_report.specs.HolderPass.{with_holders, unheld, leak_names}
 use object_heap::heap::Heap;
 use ownership_model::leaks::{Holder, Leak};
 use std::alloc::{AllocError, Global};
+use trace_types::limits::MAX_FIELDS;
 use trace_types::sequence::Sequence;
 use trace_types::slots::{Entry, Slot};
 
@@ -79,7 +80,7 @@ fn push_field_holders(
     names: &[u32],
     leaks: &mut Vec<Leak>,
 ) -> Result<(), AllocError>
-    requires few { length fields.now ≤ 16 }
+    requires few { length fields.now ≤ MAX_FIELDS }
     requires same { leak_names leaks.old.items ≡ names.now }
     requires rising { IsStrictlySortedBy nat_cmp names.now }
     ensures value { OnOk result (leaks.new.items ≡ with_holders (λ o. fields_holding o object 0 fields.now) leaks.old.items) }

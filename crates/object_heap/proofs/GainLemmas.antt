@@ -5,6 +5,7 @@ use Rattle.std.specs.Prelude.{Result, Ok, Err, OnOk}
 use Rattle.std.proofs.Math.Seq.{take-suc, drop-cons}
 use Rattle.std.specs.Ordering.{nat_cmp}
 use Rattle.std.specs.FinMap.{FinMap, get, insert, remove}
+use Rattle.trace_types.specs.declared.limits.TheConstants.{MAX_FIELDS}
 use Rattle.trace_types.specs.declared.slots.Slot.{Slot}
 use Rattle.trace_types.specs.declared.slots.Slot.TheVariants.{Strong, Weak}
 use Rattle.trace_types.specs.declared.slots.Entry.{Entry}
@@ -172,7 +173,7 @@ ends-le o (item.End q ∷ p) = ends_one (q == o) (ends o p) (length p) (ends-le 
     ends_one false n k le = omega arith
 
 -- the limits leave room in the counters
-pub room : (counts : FinMap nat_cmp Counters) (m : State) (p : List Item) → IsBounded m → IsCounted counts m p → length p < 2 ^ 63 → HasRoom counts 16
+pub room : (counts : FinMap nat_cmp Counters) (m : State) (p : List Item) → IsBounded m → IsCounted counts m p → length p < 2 ^ 63 → HasRoom counts MAX_FIELDS
 room counts m p bounded counted short = record {
   strong_fits = λ o. omega (arith, counted.strong_is o, strong-le m p o bounded);
   weak_fits = λ o. omega (arith, counted.weak_is o, weak-le m p o bounded);

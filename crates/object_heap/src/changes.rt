@@ -5,7 +5,6 @@ ghost use Rattle.std.specs.FinMap as map;
 ghost use Rattle.trace_types.specs.declared.slots.Change.TheVariants as change;
 ghost use Rattle.ownership_model.specs.State.{holding_weight, entry_weight};
 ghost use Rattle.ownership_model.specs.Changes.{HasField, CanBeDone, CanChange, changed};
-ghost use Rattle.trace_types.specs.Limits.{max_fields};
 ghost use Rattle.ownership_model.specs.Bounds.{IsBounded, HoldingFits, AreFew, ChangeFits, ChangesFit};
 ghost use Rattle.object_heap.specs.Counted.{state_of, IsCounted};
 ghost use Rattle.object_heap.specs.Gains.{Changes, CountsMore, HasRoom, HasSlots};

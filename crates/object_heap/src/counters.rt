@@ -2,13 +2,13 @@
 ghost use Rattle.std.specs.Prelude.{◌≡◌, OnOk, length};
 ghost use Rattle.std.specs.FinMap as map;
 ghost use Rattle.ownership_model.specs.State.{slots_weight, holding_weight};
-ghost use Rattle.trace_types.specs.Limits.{max_fields};
 ghost use Rattle.ownership_model.specs.Bounds.{HoldingFits};
 ghost use Rattle.object_heap.specs.Counted.{counters_at};
 ghost use Rattle.object_heap.specs.Gains.{IsSetAt, CountsMore, CountsItem, HasSlots, HasRoom};
 
 use share_tree::ShareTree;
 use std::alloc::{AllocError, Global};
+use trace_types::limits::MAX_FIELDS;
 use trace_types::slots::{Holding, Item, Slot};
 
 /// How many slots name an object, and how many of its ends are pending.
@@ -164,7 +164,7 @@ pub fn hold_holding(
     counts: &mut ShareTree<Counters>,
     holding: &Holding,
 ) -> Result<(), AllocError>
-    requires room { HasRoom counts.old max_fields }
+    requires room { HasRoom counts.old MAX_FIELDS }
     requires fits { HoldingFits holding.now }
     ensures { OnOk result (CountsMore counts.old counts.new (λ w. holding_weight w holding.now)) }
 {

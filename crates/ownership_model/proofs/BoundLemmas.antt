@@ -18,6 +18,7 @@ use Rattle.trace_types.specs.declared.slots.Entry.{Entry}
 use Rattle.trace_types.specs.declared.slots.Entry.TheVariants.{Alive, Husk}
 use Rattle.trace_types.specs.declared.slots.Item.{Item}
 use Rattle.trace_types.specs.declared.slots.Item.TheVariants as item
+use Rattle.trace_types.specs.declared.limits.TheConstants.{MAX_NAME, MAX_ID, MAX_FIELDS}
 use Rattle.ownership_model.specs.Totals.{total_in, total}
 use Rattle.ownership_model.specs.State.{State, slots_weight, holding_weight, entry_weight, items_weight, standing_weight, weight, names_alike, strong, weak}
 use Rattle.ownership_model.specs.Bounds.{HandleFits, CellFits, ObjectFits, IsBounded, max_slots}
@@ -95,16 +96,16 @@ module _ (w : Slot → ℕ) (light : (s : Slot) → w s ≤ 1) where
   items_weight-le (item.Slot s ∷ pending) = omega (arith, light s, items_weight-le pending)
   items_weight-le (item.End o ∷ pending) = omega (arith, items_weight-le pending)
 
-  handle_within : (h : ℕ) (it : Option Holding) → HandleFits h it → WithinAt (holding_weight w) 1000000 16 h it
+  handle_within : (h : ℕ) (it : Option Holding) → HandleFits h it → WithinAt (holding_weight w) (MAX_NAME + 1) MAX_FIELDS h it
   handle_within h None fits = tt
   handle_within h (Some (holding.Slot s)) fits = (omega (arith, fits.0), omega (arith, light s))
   handle_within h (Some (holding.Bare fields)) fits = (omega (arith, fits.0), omega (arith, fits.1, slots_weight-le fields))
 
-  cell_within : (c : ℕ) (it : Option Slot) → CellFits c it → WithinAt w 1000000 1 c it
+  cell_within : (c : ℕ) (it : Option Slot) → CellFits c it → WithinAt w (MAX_NAME + 1) 1 c it
   cell_within c None fits = tt
   cell_within c (Some s) fits = (omega (arith, fits), light s)
 
-  object_within : (o : ℕ) (it : Option Entry) → ObjectFits o it → WithinAt (entry_weight w) 1000000000 16 o it
+  object_within : (o : ℕ) (it : Option Entry) → ObjectFits o it → WithinAt (entry_weight w) (MAX_ID + 1) MAX_FIELDS o it
   object_within o None fits = tt
   object_within o (Some (Alive fields)) fits = (omega (arith, fits.0), omega (arith, fits.1, slots_weight-le fields))
   object_within o (Some Husk) fits = (omega (arith, fits.0), omega arith)
@@ -112,9 +113,9 @@ module _ (w : Slot → ℕ) (light : (s : Slot) → w s ≤ 1) where
   -- how many slots may stand: those of each handle, of each cell, and of each object
   pub standing_weight-le : (m : State) → IsBounded m → standing_weight w m ≤ max_slots
   standing_weight-le m bounded =
-      let handles : total (holding_weight w) m.handles ≤ 1000000 * 16 = total-le (holding_weight w) 1000000 16 m.handles (λ h. handle_within h (get m.handles h) (bounded.handles h)) in
-      let cells : total w m.cells ≤ 1000000 * 1 = total-le w 1000000 1 m.cells (λ c. cell_within c (get m.cells c) (bounded.cells c)) in
-      let objects : total (entry_weight w) m.objects ≤ 1000000000 * 16 = total-le (entry_weight w) 1000000000 16 m.objects (λ o. object_within o (get m.objects o) (bounded.objects o)) in
+      let handles : total (holding_weight w) m.handles ≤ (MAX_NAME + 1) * MAX_FIELDS = total-le (holding_weight w) (MAX_NAME + 1) MAX_FIELDS m.handles (λ h. handle_within h (get m.handles h) (bounded.handles h)) in
+      let cells : total w m.cells ≤ (MAX_NAME + 1) * 1 = total-le w (MAX_NAME + 1) 1 m.cells (λ c. cell_within c (get m.cells c) (bounded.cells c)) in
+      let objects : total (entry_weight w) m.objects ≤ (MAX_ID + 1) * MAX_FIELDS = total-le (entry_weight w) (MAX_ID + 1) MAX_FIELDS m.objects (λ o. object_within o (get m.objects o) (bounded.objects o)) in
       omega (arith, handles, cells, objects)
 
   pub weight-le : (m : State) (pending : List Item) → IsBounded m → weight w m pending ≤ max_slots + length pending

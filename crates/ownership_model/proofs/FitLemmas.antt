@@ -16,7 +16,8 @@ use Rattle.trace_types.specs.declared.kinds.Field.{Field}
 use Rattle.trace_types.specs.declared.kinds.Kind.{Kind}
 use Rattle.trace_types.specs.declared.kinds.Kind.TheVariants as kind
 use Rattle.trace_types.specs.Operation.{Operation}
-use Rattle.trace_types.specs.Limits.{is_name, is_perhaps_name, is_kind, IsWithinLimits, max_name, max_id, max_fields}
+use Rattle.trace_types.specs.Limits.{is_name, is_index, is_perhaps_name, is_kind, IsWithinLimits}
+use Rattle.trace_types.specs.declared.limits.TheConstants.{MAX_NAME as max_name, MAX_ID as max_id, MAX_THREAD as max_thread, MAX_FIELDS as max_fields}
 use Rattle.ownership_model.specs.declared.plan.Plan.{Plan}
 use Rattle.ownership_model.specs.declared.plan.Plan.TheVariants.{Skip, Act}
 use Rattle.ownership_model.specs.State.{State, IsSound, is_alive}
@@ -77,8 +78,8 @@ module _ (m : State) (b : IsBounded m) where
   seen_few (Some o) = entry_few o (get m.objects o) (b.objects o)
 
 few_members : (k : Kind) → IsTrue (is_kind k) → length (members k).fields ≤ max_fields
-few_members (kind.New to fields) fits = below (length fields) 16 (one (nat_le (length fields) 16) _ (other (is_name to) _ fits))
-few_members (kind.NewCyclic to fields) fits = below (length fields) 16 (one (nat_le (length fields) 16) _ (other (is_name to) _ fits))
+few_members (kind.New to fields) fits = below (length fields) max_fields (one (nat_le (length fields) max_fields) _ (other (is_name to) _ fits))
+few_members (kind.NewCyclic to fields) fits = below (length fields) max_fields (one (nat_le (length fields) max_fields) _ (other (is_name to) _ fits))
 few_members (kind.NewFrom from to) fits = omega arith
 few_members (kind.WeakNew to) fits = omega arith
 few_members (kind.Null to) fits = omega arith
@@ -209,12 +210,12 @@ module _ (id : ℕ) (low : id ≤ max_id) where
       (λ o was. set_fits h i from y (Some o) (fields_of v.object.entry) (below h max_name (one (is_name h) _ fits)) c.object)
       (λ fields was. set_fits h i from y None fields (below h max_name (one (is_name h) _ fits)) (bare_few v.first x fields c.first is was))))
   row_of_fits (kind.Take h i to) v fits c =
-      let target : to ≤ max_name = below to max_name (other (nat_le i 15) _ (other (is_name h) _ fits)) in
+      let target : to ≤ max_name = below to max_name (other (is_index i) _ (other (is_name h) _ fits)) in
       walk.at_held PlanFits (λ _. tt) h v.first _ (λ x is. walk.at_fields PlanFits (λ _. tt) h x v.object.entry _
       (λ o was. take_fits h i to v.second (Some o) (fields_of v.object.entry) (below h max_name (one (is_name h) _ fits)) target c.object)
       (λ fields was. take_fits h i to v.second None fields (below h max_name (one (is_name h) _ fits)) target (bare_few v.first x fields c.first is was)))
   row_of_fits (kind.Get h i to) v fits c =
-      let target : to ≤ max_name = below to max_name (other (nat_le i 15) _ (other (is_name h) _ fits)) in
+      let target : to ≤ max_name = below to max_name (other (is_index i) _ (other (is_name h) _ fits)) in
       walk.at_held PlanFits (λ _. tt) h v.first _ (λ x is. walk.at_fields PlanFits (λ _. tt) h x v.object.entry _
       (λ o was. copy_fits i to v.second (Some o) (fields_of v.object.entry) target) (λ fields was. copy_fits i to v.second None fields target))
   row_of_fits (kind.CellNew cell from) v fits c =
@@ -232,10 +233,10 @@ module _ (id : ℕ) (low : id ≤ max_id) where
   row_of_fits (kind.CellDrop cell) v fits c = walk.at_cell PlanFits (λ _. tt) cell v.cell _ (λ s is. (tt, tt))
 
 kind_within : (op : Operation) → IsWithinLimits op → IsTrue (is_kind op.kind)
-kind_within op within = other (nat_le op.thread 65535) _ (other (nat_le op.id 999999999) _ (other (nat_le 1 op.id) _ within))
+kind_within op within = other (nat_le op.thread max_thread) _ (other (nat_le op.id max_id) _ (other (nat_le 1 op.id) _ within))
 
 id_within : (op : Operation) → IsWithinLimits op → op.id ≤ max_id
-id_within op within = below op.id max_id (one (nat_le op.id 999999999) _ (other (nat_le 1 op.id) _ within))
+id_within op within = below op.id max_id (one (nat_le op.id max_id) _ (other (nat_le 1 op.id) _ within))
 
 -- each row
 pub row_fits : (m : State) (op : Operation) → IsBounded m → IsWithinLimits op → PlanFits (row op (view_of m op.kind))

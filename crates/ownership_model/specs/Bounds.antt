@@ -1,6 +1,6 @@
 -- The limits of a state (profile of this project): which numbers handles, cells and objects may have, and how many
 -- fields a value may have. They bound the counts.
-use Rattle.std.specs.Prelude.{ℕ, ◌≤◌, List, Option, Some, None, length}
+use Rattle.std.specs.Prelude.{ℕ, ◌+◌, ◌*◌, ◌≤◌, List, Option, Some, None, length}
 use Rattle.std.specs.List.{AllByRecursion}
 use Rattle.std.specs.FinMap.{get}
 use Rattle.trace_types.specs.declared.slots.Slot.{Slot}
@@ -10,18 +10,18 @@ use Rattle.trace_types.specs.declared.slots.Entry.{Entry}
 use Rattle.trace_types.specs.declared.slots.Entry.TheVariants.{Alive, Husk}
 use Rattle.trace_types.specs.declared.slots.Change.{Change}
 use Rattle.trace_types.specs.declared.slots.Change.TheVariants.{SetHandle, EndHandle, SetCell, EndCell, SetField, Make, TurnHusk}
-use Rattle.trace_types.specs.Limits.{max_name, max_id, max_fields}
+use Rattle.trace_types.specs.declared.limits.TheConstants.{MAX_NAME, MAX_ID, MAX_FIELDS}
 use Rattle.ownership_model.specs.State.{State}
 use Rattle.ownership_model.specs.declared.plan.Plan.{Plan}
 use Rattle.ownership_model.specs.declared.plan.Plan.TheVariants.{Skip, Act}
 
 -- how many slots can stand at once: the fields of each handle's value, each cell, the fields of each object
 abbrev pub max_slots : ℕ
-max_slots = 16017000000
+max_slots = (MAX_NAME + 1) * (MAX_FIELDS + 1) + (MAX_ID + 1) * MAX_FIELDS
 
 -- the fields of a value are within the limit
 abbrev pub AreFew : List Slot → Type 0
-AreFew fields = length fields ≤ max_fields
+AreFew fields = length fields ≤ MAX_FIELDS
 
 -- so are those of a value outside any allocation
 abbrev pub HoldingFits : Holding → Type 0
@@ -36,15 +36,15 @@ EntryFits Husk = Unit {0}
 -- what stands at a handle, at a cell, for an object, if anything does
 abbrev pub HandleFits : ℕ → Option Holding → Type 0
 HandleFits h None = Unit {0}
-HandleFits h (Some x) = (h ≤ max_name) × HoldingFits x
+HandleFits h (Some x) = (h ≤ MAX_NAME) × HoldingFits x
 
 abbrev pub CellFits : ℕ → Option Slot → Type 0
 CellFits c None = Unit {0}
-CellFits c (Some s) = c ≤ max_name
+CellFits c (Some s) = c ≤ MAX_NAME
 
 abbrev pub ObjectFits : ℕ → Option Entry → Type 0
 ObjectFits o None = Unit {0}
-ObjectFits o (Some e) = (o ≤ max_id) × EntryFits e
+ObjectFits o (Some e) = (o ≤ MAX_ID) × EntryFits e
 
 -- all numbers and fields of a state are within the limits
 pub record IsBounded (m : State) : Type 0 where
@@ -54,12 +54,12 @@ pub record IsBounded (m : State) : Type 0 where
 
 -- a change keeps the limits: what it sets is within them
 abbrev pub ChangeFits : Change → Type 0
-ChangeFits (SetHandle h x) = (h ≤ max_name) × HoldingFits x
+ChangeFits (SetHandle h x) = (h ≤ MAX_NAME) × HoldingFits x
 ChangeFits (EndHandle h) = Unit {0}
-ChangeFits (SetCell c s) = c ≤ max_name
+ChangeFits (SetCell c s) = c ≤ MAX_NAME
 ChangeFits (EndCell c) = Unit {0}
 ChangeFits (SetField o i s) = Unit {0}
-ChangeFits (Make o fields) = (o ≤ max_id) × AreFew fields
+ChangeFits (Make o fields) = (o ≤ MAX_ID) × AreFew fields
 ChangeFits (TurnHusk o) = Unit {0}
 
 abbrev pub ChangesFit : List Change → Type 0

@@ -4,6 +4,7 @@ use Rattle.std.specs.Prelude.{Some, if◌then◌else◌, ◌==◌, ◌&&◌, ◌
 use Rattle.std.specs.List.{position_from}
 use Rattle.std.proofs.lemmas.List.Edits.{length-insert, length-remove}
 use Rattle.std.proofs.lemmas.Bool.Decides.{nat_tests}
+use Rattle.trace_types.specs.declared.limits.TheConstants.{MAX_OPS}
 use Rattle.trace_types.specs.Operation.{Operation}
 use Rattle.trace_types.specs.Trace.{place_of, is_taken, IsNew, has_distinct_numbers, IsTrace}
 
@@ -115,7 +116,7 @@ untaken : (b : Bool) → b ≡ false → IsTrue (not b)
 untaken true e = absurd cc
 untaken false e = refl
 
-pub trace-insert : (ops : List Operation) (i : ℕ) (op : Operation) → i ≤ length ops → is_taken op.id ops ≡ false → length ops < 65536 → IsTrace ops → IsTrace (insert ops i op)
+pub trace-insert : (ops : List Operation) (i : ℕ) (op : Operation) → i ≤ length ops → is_taken op.id ops ≡ false → length ops < MAX_OPS → IsTrace ops → IsTrace (insert ops i op)
 trace-insert ops i op within new room h = record { distinct = distinct-insert i ops op h.distinct (untaken (is_taken op.id ops) new); few = omega (arith, length-insert ops i op within) }
 
 pub trace-remove : (ops : List Operation) (i : ℕ) → i < length ops → IsTrace ops → IsTrace (remove ops i)

@@ -1,10 +1,10 @@
 -- The trace after a batch of edits (profile of this project).
 use Rattle.std.specs.Prelude.{ℕ, ◌+◌, ◌==◌, List, [], ◌∷◌, length, Option, Some, None, option_map, if◌then◌else◌, Result, Ok, Err, nat_le, nat_lt, insert, remove, slice_set}
-use Rattle.trace_types.specs.Limits.{max_ops}
 use Rattle.trace_types.specs.Operation.{Operation}
 use Rattle.trace_types.specs.Trace.{place_of, is_taken}
 use Rattle.trace_types.specs.declared.edits.Edit.{Edit}
 use Rattle.trace_types.specs.declared.edits.Edit.TheVariants.{Insert, Remove, Change}
+use Rattle.trace_types.specs.declared.limits.TheConstants.{MAX_OPS, MAX_EDITS}
 use Rattle.run_engine.specs.declared.faults.RunFault.{RunFault}
 use Rattle.run_engine.specs.declared.faults.RunFault.TheVariants.{NoSuchOp, IdTaken, TooMany, EmptyBatch, TooManyEdits}
 
@@ -15,7 +15,7 @@ place_after after ops = if after == 0 then Some 0 else option_map (λ i. i + 1) 
 -- the operations with one more at a place, where there is one
 abbrev pub inserted : ℕ → List Operation → Operation → Option ℕ → Result (List Operation) RunFault
 inserted k ops op None = Err (NoSuchOp k)
-inserted k ops op (Some i) = if is_taken op.id ops then Err (IdTaken k) else (if nat_le max_ops (length ops) then Err (TooMany k) else Ok (insert ops i op))
+inserted k ops op (Some i) = if is_taken op.id ops then Err (IdTaken k) else (if nat_le MAX_OPS (length ops) then Err (TooMany k) else Ok (insert ops i op))
 
 -- the operations without the one at a place
 abbrev pub removed : ℕ → List Operation → Option ℕ → Result (List Operation) RunFault
@@ -43,6 +43,6 @@ abbrev pub edits_from : ℕ → List Operation → List Edit → Result (List Op
 edits_from k ops [] = Ok ops
 edits_from k ops (edit ∷ edits) = go_on (edited_one k ops edit) (λ next. edits_from (k + 1) next edits)
 
--- the trace after a batch of 1 to 64 edits, or why the batch is refused
+-- the trace after a batch of 1 to `MAX_EDITS` edits, or why the batch is refused
 abbrev pub edited_by : List Operation → List Edit → Result (List Operation) RunFault
-edited_by ops batch = if length batch == 0 then Err EmptyBatch else (if nat_lt 64 (length batch) then Err TooManyEdits else edits_from 0 ops batch)
+edited_by ops batch = if length batch == 0 then Err EmptyBatch else (if nat_lt MAX_EDITS (length batch) then Err TooManyEdits else edits_from 0 ops batch)

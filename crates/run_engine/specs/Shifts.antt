@@ -1,6 +1,6 @@
 -- Where an operation goes when others around it are edited.
 use Rattle.std.specs.Prelude.{ℕ, ◌+◌, ◌-◌, ◌≤◌, ◌==◌, List, [], ◌∷◌, Option, Some, None, IfSome, if◌then◌else◌, nat_lt}
-use Rattle.trace_types.specs.Limits.{max_ops}
+use Rattle.trace_types.specs.declared.limits.TheConstants.{MAX_OPS}
 use Rattle.run_engine.specs.declared.shift.Shift.{Shift}
 use Rattle.run_engine.specs.declared.shift.Shift.TheVariants.{Inserted, Removed, Exchanged}
 
@@ -32,7 +32,7 @@ shifted_by (s ∷ shifts) id place = shifted_by shifts id (shifted s id place)
 
 -- a place is within the limit of a trace
 abbrev pub PlaceFits : Option ℕ → Type 0
-PlaceFits place = IfSome place (λ p. p ≤ max_ops)
+PlaceFits place = IfSome place (λ p. p ≤ MAX_OPS)
 
 -- and so it is before and after each of the edits
 abbrev pub PlacesFit : List Shift → ℕ → Option ℕ → Type 0

@@ -5,12 +5,13 @@ ghost use Rattle.run_engine.specs.Segments.{trace_of, outcomes_in, mark_here, al
 use crate::listing::Listing;
 use crate::segment::Segment;
 use std::alloc::{AllocError, Global};
+use trace_types::limits::MAX_OPS;
 use trace_types::outcomes::Outcome;
 use trace_types::sequence::Sequence;
 
 /// How many operations there are.
 pub fn len_in(segments: &[Segment]) -> usize
-    requires { length (trace_of segments.now) ≤ 65536 }
+    requires { length (trace_of segments.now) ≤ MAX_OPS }
     ensures { result ≡ length (trace_of segments.now) }
 {
     let mut len = 0;
@@ -22,7 +23,7 @@ pub fn len_in(segments: &[Segment]) -> usize
 
 /// The operations, where they stand.
 pub fn ops_in<'a>(alloc: Global, segments: &'a [Segment]) -> Result<Listing<'a>, AllocError>
-    requires { length (trace_of segments.now) ≤ 65536 }
+    requires { length (trace_of segments.now) ≤ MAX_OPS }
     ensures { IfOk result (λ v. v ≡ trace_of segments.now) }
 {
     let mut ops = Listing::with_room(alloc, len_in(segments))?;
@@ -54,7 +55,7 @@ fn extend(alloc: Global, all: &mut Sequence<Outcome>, more: &[Outcome]) -> Resul
 
 /// The positions of the checkpoints, rising.
 pub fn marks_in(alloc: Global, segments: &[Segment]) -> Result<Sequence<usize>, AllocError>
-    requires { length (trace_of segments.now) ≤ 65536 }
+    requires { length (trace_of segments.now) ≤ MAX_OPS }
     ensures { IfOk result (λ v. v ≡ all_marks segments.now) }
 {
     let mut marks = Sequence::empty(alloc);

@@ -10,6 +10,7 @@ use std::alloc::{AllocError, Global};
 use std::collections::BTreeMap;
 use std::marker::Model;
 use trace_types::edits::Edit;
+use trace_types::limits::MAX_OPS;
 use trace_types::ops::Op;
 
 /// A trace that is edited. It is walked once, for the places of all operations that the edits name; each edit then moves
@@ -70,7 +71,7 @@ impl<'a> Editing<'a> {
     pub fn place(&self, id: u32) -> Option<usize>
         ensures value { result ≡ place_of id self.now }
         ensures within { IfSome result (λ place. place < length self.now) }
-        ensures few { length self.now ≤ 65536 }
+        ensures few { length self.now ≤ MAX_OPS }
     {
         match self.first.get(&id) {
             Some(first) => place_after(self.shifts.as_slice(), id, *first),
@@ -88,7 +89,7 @@ impl<'a> Editing<'a> {
     pub fn insert(&mut self, place: usize, op: &'a Op) -> Result<(), AllocError>
         requires within { place ≤ length self.old }
         requires new { is_taken op.now.id self.old ≡ false }
-        requires room { length self.old < 65536 }
+        requires room { length self.old < MAX_OPS }
         ensures { OnOk result (self.new ≡ insert self.old place op.now) }
     {
         self.shifts.reserve(1)?;

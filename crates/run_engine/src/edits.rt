@@ -9,11 +9,9 @@ use crate::faults::RunFault;
 use crate::listing::Listing;
 use std::alloc::{AllocError, Global};
 use trace_types::edits::{Batch, Edit};
+use trace_types::limits::{MAX_EDITS, MAX_OPS};
 use trace_types::ops::Op;
-use trace_types::trace::{MAX_OPS, Trace};
-
-/// How many edits a batch may have.
-pub const MAX_EDITS: usize = 64;
+use trace_types::trace::Trace;
 
 /// The trace after the edits. The size of the batch is tried first, which takes no memory. Then the edits are tried in
 /// order, each on the result of those before it.
@@ -21,7 +19,7 @@ pub fn apply(alloc: Global, trace: &Trace, batch: &Batch) -> Result<Trace, RunFa
     ensures ok { IfOk result (λ t. edited_by trace.now batch.now ≡ Ok t) }
     ensures fault { IfErr result (λ e. (e ≡ Memory) ⊎ (edited_by trace.now batch.now ≡ Err e)) }
     ensures empty { length batch.now ≡ 0 → result ≡ Err EmptyBatch }
-    ensures too_many { 64 < length batch.now → result ≡ Err TooManyEdits }
+    ensures too_many { MAX_EDITS < length batch.now → result ≡ Err TooManyEdits }
 {
     try_size(batch.len())?;
     let Ok(ops) = listed(alloc, trace.as_slice()) else {
@@ -41,8 +39,8 @@ fn listed<'a>(alloc: Global, all: &'a [Op]) -> Result<Listing<'a>, AllocError>
 
 /// Whether a batch may have so many edits.
 pub(crate) fn try_size(len: usize) -> Result<(), RunFault>
-    ensures ok { OnOk result ((0 < len) × (len ≤ 64)) }
-    ensures fault { IfErr result (λ e. ((e ≡ EmptyBatch) × (len ≡ 0)) ⊎ ((e ≡ TooManyEdits) × (64 < len))) }
+    ensures ok { OnOk result ((0 < len) × (len ≤ MAX_EDITS)) }
+    ensures fault { IfErr result (λ e. ((e ≡ EmptyBatch) × (len ≡ 0)) ⊎ ((e ≡ TooManyEdits) × (MAX_EDITS < len))) }
 {
     if len == 0 {
         return Err(RunFault::EmptyBatch);
@@ -61,7 +59,7 @@ pub(crate) fn edited<'a>(
 ) -> Result<Listing<'a>, RunFault>
     requires trace { IsTrace ops }
     requires some { 0 < length batch.now }
-    requires few { length batch.now ≤ 64 }
+    requires few { length batch.now ≤ MAX_EDITS }
     ensures ok { IfOk result (λ r. edited_by ops.entry batch.now ≡ Ok r) }
     ensures fault { IfErr result (λ e. (e ≡ Memory) ⊎ (edited_by ops.entry batch.now ≡ Err e)) }
     ensures trace { IfOk result (λ r. IsTrace r) }

@@ -14,7 +14,7 @@ pub enum RunFault {
     TooMany(u64),
     #[error("the batch has no edit")]
     EmptyBatch,
-    #[error("the batch has more than 64 edits")]
+    #[error("the batch has too many edits")]
     TooManyEdits,
     #[error("out of memory")]
     Memory,

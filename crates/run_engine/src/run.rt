@@ -29,6 +29,7 @@ use op_step::meter::Meter;
 use std::alloc::{AllocError, Global};
 use std::marker::Model;
 use trace_types::edits::Batch;
+use trace_types::limits::MAX_EDITS;
 use trace_types::ops::Op;
 use trace_types::outcomes::Outcome;
 use trace_types::sequence::Sequence;
@@ -97,7 +98,7 @@ impl Run {
         ensures marks { IfOk result (λ r. AreMarksAfter self.now r) }
         ensures fault { IfErr result (λ e. (e ≡ Memory) ⊎ (edited_by self.now.trace batch.now ≡ Err e)) }
         ensures empty { length batch.now ≡ 0 → result ≡ Err EmptyBatch }
-        ensures too_many { 64 < length batch.now → result ≡ Err TooManyEdits }
+        ensures too_many { MAX_EDITS < length batch.now → result ≡ Err TooManyEdits }
         ensures bound { (ops : List Operation) → edited_by self.now.trace batch.now ≡ Ok ops → StepsAtMostFrom self.now.trace ops self.now.marks meter.old meter.new }
         ensures stepped { IfOk result (λ r. AreSteppedFrom self.now.trace r.trace self.now.marks meter.old meter.new) }
         ensures refused { IsErr (edited_by self.now.trace batch.now) → meter.new ≡ meter.old }

@@ -516,7 +516,7 @@ fn faults_are_told(rt: HostRuntime) -> Result<(), Fail> {
         (RunFault::IdTaken(7), "edit 7: an operation has this number"),
         (RunFault::TooMany(63), "edit 63: the trace is full"),
         (RunFault::EmptyBatch, "the batch has no edit"),
-        (RunFault::TooManyEdits, "the batch has more than 64 edits"),
+        (RunFault::TooManyEdits, "the batch has too many edits"),
         (RunFault::Memory, "out of memory"),
     ];
     for (fault, text) in table {

@@ -9,13 +9,14 @@ use Rattle.serde_json.specs.Events.{items_len}
 use Rattle.serde_json.specs.Read.{read, of_json, of_items, max_depth}
 use Rattle.serde_json.specs.Written.{outline, items_outline}
 use Rattle.serde_json.proofs.Numbers.{number_of-decimal}
-use Rattle.trace_types.specs.Limits.{is_name, is_field, is_cyclic_field, is_kind, is_within_limits}
+use Rattle.trace_types.specs.Limits.{is_name, is_index, is_field, is_cyclic_field, is_kind, is_within_limits}
 use Rattle.trace_types.specs.Names.{name_of}
 use Rattle.trace_types.specs.Operation.{Operation}
 use Rattle.trace_types.specs.declared.kinds.Field.{Field}
 use Rattle.trace_types.specs.declared.kinds.Field.TheVariants.{Held, Null, Me}
 use Rattle.trace_types.specs.declared.kinds.Kind.{Kind}
 use Rattle.trace_types.specs.declared.kinds.Kind.TheVariants as kind
+use Rattle.trace_types.specs.declared.limits.TheConstants.{MAX_NAME, MAX_ID, MAX_THREAD, MAX_FIELDS, MAX_INDEX}
 use Rattle.trace_reader.specs.Members.{◌>>=◌, within, field_test, fields_from, number_at, perhaps_handle_at, text_at, fields_at}
 use Rattle.trace_reader.specs.Kinds.{new_at, new_cyclic_at, new_from_at, weak_new_at, null_at, clone_at, drop_at, downgrade_at, upgrade_at, try_unwrap_at, into_inner_at, get_mut_at, make_mut_at, counts_at, ptr_eq_at, set_at, take_at, get_at, cell_new_at, cell_load_at, cell_swap_at, cell_cas_at, cell_drop_at}
 use Rattle.trace_reader.specs.Reading.{read_op, members_of_op, kind_at}
@@ -27,10 +28,10 @@ both true b h = (refl, h)
 both false b h = absurd cc
 
 name_fits : (n : ℕ) → is_name n ≡ true → n < 2 ^ 64
-name_fits n h = let small : n ≤ 999999 = leb-true n 999999 h in omega arith
+name_fits n h = let small : n ≤ MAX_NAME = leb-true n MAX_NAME h in omega arith
 
-index_fits : (n : ℕ) → nat_le n 15 ≡ true → n < 2 ^ 64
-index_fits n h = let small : n ≤ 15 = leb-true n 15 h in omega arith
+index_fits : (n : ℕ) → is_index n ≡ true → n < 2 ^ 64
+index_fits n h = let small : n ≤ MAX_INDEX = leb-true n MAX_INDEX h in omega arith
 
 natural_back : (n : ℕ) → n < 2 ^ 64 → of_json (outline (natural n)) ≡ Some (natural n)
 natural_back n h = ap (option_map number) (number_of-decimal n h)
@@ -69,10 +70,10 @@ value_of id t k = data_of (record { id = id; thread = t; kind = k })
 op_numbers : (id t : ℕ) (k : Kind) → id < 2 ^ 64 → t < 2 ^ 64 → is_kind k ≡ true → tree.HasNumbers (outline (value_of id t k))
 unfolding members_of
 op_numbers id t (kind.New to fields) low few fits =
-    let p = both (is_name to) _ fits in let q = both (nat_le (length fields) 16) _ p.1 in
+    let p = both (is_name to) _ fits in let q = both (nat_le (length fields) MAX_FIELDS) _ p.1 in
     (fields_fit fields (are_cyclic fields q.1), (IsNumber-decimal id low, (tt, (IsNumber-decimal t few, (IsNumber-decimal to (name_fits to p.0), tt)))))
 op_numbers id t (kind.NewCyclic to fields) low few fits =
-    let p = both (is_name to) _ fits in let q = both (nat_le (length fields) 16) _ p.1 in
+    let p = both (is_name to) _ fits in let q = both (nat_le (length fields) MAX_FIELDS) _ p.1 in
     (fields_fit fields q.1, (IsNumber-decimal id low, (tt, (IsNumber-decimal t few, (IsNumber-decimal to (name_fits to p.0), tt)))))
 op_numbers id t (kind.NewFrom from to) low few fits =
     let p = both (is_name from) _ fits in
@@ -98,13 +99,13 @@ op_numbers id t (kind.PtrEq a b) low few fits =
     let p = both (is_name a) _ fits in
     (IsNumber-decimal a (name_fits a p.0), (IsNumber-decimal b (name_fits b p.1), (IsNumber-decimal id low, (tt, (IsNumber-decimal t few, tt)))))
 op_numbers id t (kind.Set h i from) low few fits =
-    let p = both (is_name h) _ fits in let q = both (nat_le i 15) _ p.1 in
+    let p = both (is_name h) _ fits in let q = both (is_index i) _ p.1 in
     (IsNumber-decimal from (name_fits from q.1), (IsNumber-decimal h (name_fits h p.0), (IsNumber-decimal i (index_fits i q.0), (IsNumber-decimal id low, (tt, (IsNumber-decimal t few, tt))))))
 op_numbers id t (kind.Take h i to) low few fits =
-    let p = both (is_name h) _ fits in let q = both (nat_le i 15) _ p.1 in
+    let p = both (is_name h) _ fits in let q = both (is_index i) _ p.1 in
     (IsNumber-decimal h (name_fits h p.0), (IsNumber-decimal i (index_fits i q.0), (IsNumber-decimal id low, (tt, (IsNumber-decimal t few, (IsNumber-decimal to (name_fits to q.1), tt))))))
 op_numbers id t (kind.Get h i to) low few fits =
-    let p = both (is_name h) _ fits in let q = both (nat_le i 15) _ p.1 in
+    let p = both (is_name h) _ fits in let q = both (is_index i) _ p.1 in
     (IsNumber-decimal h (name_fits h p.0), (IsNumber-decimal i (index_fits i q.0), (IsNumber-decimal id low, (tt, (IsNumber-decimal t few, (IsNumber-decimal to (name_fits to q.1), tt))))))
 op_numbers id t (kind.CellNew c from) low few fits =
     let p = both (is_name c) _ fits in
@@ -153,10 +154,10 @@ op_depth id t (kind.CellDrop c) = omega arith
 op_back : (id t : ℕ) (k : Kind) → id < 2 ^ 64 → t < 2 ^ 64 → is_kind k ≡ true → of_json (outline (value_of id t k)) ≡ Some (value_of id t k)
 unfolding members_of
 op_back id t (kind.New to fields) low few fits =
-    let p = both (is_name to) _ fits in let q = both (nat_le (length fields) 16) _ p.1 in
+    let p = both (is_name to) _ fits in let q = both (nat_le (length fields) MAX_FIELDS) _ p.1 in
     rw (fields_back fields (are_cyclic fields q.1), number_of-decimal id low, number_of-decimal t few, number_of-decimal to (name_fits to p.0))
 op_back id t (kind.NewCyclic to fields) low few fits =
-    let p = both (is_name to) _ fits in let q = both (nat_le (length fields) 16) _ p.1 in
+    let p = both (is_name to) _ fits in let q = both (nat_le (length fields) MAX_FIELDS) _ p.1 in
     rw (fields_back fields q.1, number_of-decimal id low, number_of-decimal t few, number_of-decimal to (name_fits to p.0))
 op_back id t (kind.NewFrom from to) low few fits =
     let p = both (is_name from) _ fits in
@@ -182,13 +183,13 @@ op_back id t (kind.PtrEq a b) low few fits =
     let p = both (is_name a) _ fits in
     rw (number_of-decimal a (name_fits a p.0), number_of-decimal b (name_fits b p.1), number_of-decimal id low, number_of-decimal t few)
 op_back id t (kind.Set h i from) low few fits =
-    let p = both (is_name h) _ fits in let q = both (nat_le i 15) _ p.1 in
+    let p = both (is_name h) _ fits in let q = both (is_index i) _ p.1 in
     rw (number_of-decimal from (name_fits from q.1), number_of-decimal h (name_fits h p.0), number_of-decimal i (index_fits i q.0), number_of-decimal id low, number_of-decimal t few)
 op_back id t (kind.Take h i to) low few fits =
-    let p = both (is_name h) _ fits in let q = both (nat_le i 15) _ p.1 in
+    let p = both (is_name h) _ fits in let q = both (is_index i) _ p.1 in
     rw (number_of-decimal h (name_fits h p.0), number_of-decimal i (index_fits i q.0), number_of-decimal id low, number_of-decimal t few, number_of-decimal to (name_fits to q.1))
 op_back id t (kind.Get h i to) low few fits =
-    let p = both (is_name h) _ fits in let q = both (nat_le i 15) _ p.1 in
+    let p = both (is_name h) _ fits in let q = both (is_index i) _ p.1 in
     rw (number_of-decimal h (name_fits h p.0), number_of-decimal i (index_fits i q.0), number_of-decimal id low, number_of-decimal t few, number_of-decimal to (name_fits to q.1))
 op_back id t (kind.CellNew c from) low few fits =
     let p = both (is_name c) _ fits in
@@ -210,20 +211,20 @@ op_back id t (kind.CellDrop c) low few fits = rw (number_of-decimal c (name_fits
 -- what the limits say
 pub record Within (op : Operation) : Type 0 where
   pub low : nat_le 1 op.id ≡ true
-  pub high : nat_le op.id 999999999 ≡ true
-  pub thread : nat_le op.thread 65535 ≡ true
+  pub high : nat_le op.id MAX_ID ≡ true
+  pub thread : nat_le op.thread MAX_THREAD ≡ true
   pub kind : is_kind op.kind ≡ true
 
 pub Within-is_within_limits : (op : Operation) → is_within_limits op ≡ true → Within op
 Within-is_within_limits op h =
-    let a = both (nat_le 1 op.id) _ h in let b = both (nat_le op.id 999999999) _ a.1 in let c = both (nat_le op.thread 65535) _ b.1 in
+    let a = both (nat_le 1 op.id) _ h in let b = both (nat_le op.id MAX_ID) _ a.1 in let c = both (nat_le op.thread MAX_THREAD) _ b.1 in
     record { low = a.0; high = b.0; thread = c.0; kind = c.1 }
 
 -- the canonical line reads as the operation's value
 pub read-line_of : (op : Operation) → is_within_limits op ≡ true → read (line_of op) ≡ Some (data_of op)
 read-line_of op h =
     let w = Within-is_within_limits op h in
-    let below : op.id ≤ 999999999 = leb-true _ _ w.high in let small : op.thread ≤ 65535 = leb-true _ _ w.thread in
+    let below : op.id ≤ MAX_ID = leb-true _ _ w.high in let small : op.thread ≤ MAX_THREAD = leb-true _ _ w.thread in
     let i : op.id < 2 ^ 64 = omega arith in let t : op.thread < 2 ^ 64 = omega arith in
     read-compact_text _ (op_numbers op.id op.thread op.kind i t w.kind) (op_back op.id op.thread op.kind i t w.kind) (op_depth op.id op.thread op.kind)
 
@@ -233,7 +234,7 @@ items_len-fields : (fields : List Field) → items_len (fields_data fields) ≡ 
 items_len-fields [] = refl
 items_len-fields (field ∷ fields) = ap suc (items_len-fields fields)
 
-name_again : (n : ℕ) → is_name n ≡ true → within 0 999999 (Some n) ≡ Ok n
+name_again : (n : ℕ) → is_name n ≡ true → within 0 MAX_NAME (Some n) ≡ Ok n
 name_again n h = rw (le-leb 0 n (omega arith), h)
 
 fields_again : (cyclic : Bool) (done fields : List Field) → list_all (field_test cyclic) fields ≡ true → fields_from cyclic done (fields_data fields) ≡ Ok (done ++ fields)
@@ -249,13 +250,13 @@ fields_again false done (Null ∷ fields) h = fields_again false (done ++ Null �
 fields_again true done (Me ∷ fields) h = fields_again true (done ++ Me ∷ []) fields h ∙ ap Ok (append_assoc done (Me ∷ []) fields)
 fields_again false done (Me ∷ fields) h = absurd cc
 
-op_again : (id t : ℕ) (k : Kind) → nat_le 1 id ≡ true → nat_le id 999999999 ≡ true → nat_le t 65535 ≡ true → is_kind k ≡ true → members_of_op (value_of id t k) ≡ Ok (record { id = id; thread = t; kind = k })
+op_again : (id t : ℕ) (k : Kind) → nat_le 1 id ≡ true → nat_le id MAX_ID ≡ true → nat_le t MAX_THREAD ≡ true → is_kind k ≡ true → members_of_op (value_of id t k) ≡ Ok (record { id = id; thread = t; kind = k })
 unfolding members_of members_of_op kind_at number_at text_at perhaps_handle_at fields_at name_of new_at new_cyclic_at new_from_at weak_new_at null_at clone_at drop_at downgrade_at upgrade_at try_unwrap_at into_inner_at get_mut_at make_mut_at counts_at ptr_eq_at set_at take_at get_at cell_new_at cell_load_at cell_swap_at cell_cas_at cell_drop_at
 op_again id t (kind.New to fields) low high small fits =
-    let p = both (is_name to) _ fits in let q = both (nat_le (length fields) 16) _ p.1 in
+    let p = both (is_name to) _ fits in let q = both (nat_le (length fields) MAX_FIELDS) _ p.1 in
     rw (low, high, le-leb 0 t (omega arith), small, le-leb 0 to (omega arith), p.0, items_len-fields fields, q.0, fields_again false [] fields q.1)
 op_again id t (kind.NewCyclic to fields) low high small fits =
-    let p = both (is_name to) _ fits in let q = both (nat_le (length fields) 16) _ p.1 in
+    let p = both (is_name to) _ fits in let q = both (nat_le (length fields) MAX_FIELDS) _ p.1 in
     rw (low, high, le-leb 0 t (omega arith), small, le-leb 0 to (omega arith), p.0, items_len-fields fields, q.0, fields_again true [] fields q.1)
 op_again id t (kind.NewFrom from to) low high small fits =
     let p = both (is_name from) _ fits in
@@ -281,13 +282,13 @@ op_again id t (kind.PtrEq a b) low high small fits =
     let p = both (is_name a) _ fits in
     rw (low, high, le-leb 0 t (omega arith), small, le-leb 0 a (omega arith), p.0, le-leb 0 b (omega arith), p.1)
 op_again id t (kind.Set h i from) low high small fits =
-    let p = both (is_name h) _ fits in let q = both (nat_le i 15) _ p.1 in
+    let p = both (is_name h) _ fits in let q = both (is_index i) _ p.1 in
     rw (low, high, le-leb 0 t (omega arith), small, le-leb 0 h (omega arith), p.0, le-leb 0 i (omega arith), q.0, le-leb 0 from (omega arith), q.1)
 op_again id t (kind.Take h i to) low high small fits =
-    let p = both (is_name h) _ fits in let q = both (nat_le i 15) _ p.1 in
+    let p = both (is_name h) _ fits in let q = both (is_index i) _ p.1 in
     rw (low, high, le-leb 0 t (omega arith), small, le-leb 0 h (omega arith), p.0, le-leb 0 i (omega arith), q.0, le-leb 0 to (omega arith), q.1)
 op_again id t (kind.Get h i to) low high small fits =
-    let p = both (is_name h) _ fits in let q = both (nat_le i 15) _ p.1 in
+    let p = both (is_name h) _ fits in let q = both (is_index i) _ p.1 in
     rw (low, high, le-leb 0 t (omega arith), small, le-leb 0 h (omega arith), p.0, le-leb 0 i (omega arith), q.0, le-leb 0 to (omega arith), q.1)
 op_again id t (kind.CellNew c from) low high small fits =
     let p = both (is_name c) _ fits in

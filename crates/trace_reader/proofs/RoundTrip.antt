@@ -7,6 +7,7 @@ use Rattle.std.proofs.lemmas.List.Splits.{slice_split_at}
 use Rattle.std.proofs.lemmas.Str.{IsUtf8-from_ascii}
 use Rattle.std.proofs.lemmas.Str.Ascii.{IsAscii-nil, IsAscii-cons}
 use Rattle.trace_types.specs.Limits.{is_within_limits}
+use Rattle.trace_types.specs.declared.limits.TheConstants.{MAX_LINE}
 use Rattle.trace_types.specs.Operation.{Operation}
 use Rattle.trace_reader.specs.Reading.{json_of, is_blank, read_op, push_cause, after_line, after_lines, lines_of, at_line, read_trace}
 use Rattle.trace_types.specs.Trace.{IsTrace, pushed}
@@ -35,7 +36,7 @@ pub after_line-line_of : (t : List Operation) (o : Operation) → is_within_limi
 unfolding after_line
 after_line-line_of t o h =
     let n = IsNeatLine-line_of o h in
-    let short : nat_lt 4096 (length (line_of o)) ≡ false = le-ltb _ _ n.short in
+    let short : nat_lt MAX_LINE (length (line_of o)) ≡ false = le-ltb _ _ n.short in
     let full : is_blank (line_of o) ≡ false = ap is_blank n.begins in
     rw (short, full, json_of-line_of o h, read_op-data_of o h)
 

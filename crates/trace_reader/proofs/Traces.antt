@@ -3,6 +3,7 @@ use Rattle.std.proofs.Common.{◌≡◌, ℕ, ◌<◌, ◌≤◌, List, [], ◌�
 use Rattle.std.proofs.lemmas.Bool.Decides.{nat_tests}
 use Rattle.std.specs.List.{list_all}
 use Rattle.trace_types.specs.Limits.{is_within_limits}
+use Rattle.trace_types.specs.declared.limits.TheConstants.{MAX_OPS}
 use Rattle.trace_types.specs.Operation.{Operation}
 use Rattle.trace_types.specs.Trace.{IsTrace, is_taken, has_distinct_numbers, pushed}
 use Rattle.trace_reader.proofs.OpLines.{both}
@@ -38,15 +39,15 @@ fresh (x ∷ before) op after h =
     let p = both (not (is_taken x.id (before ++ op ∷ after))) _ h in
     either_false (x.id == op.id) (is_taken op.id before) (same_test x.id op.id ∙ at_seam x.id before op after p.0) (fresh before op after p.1)
 
-GoesOn-after : (done ops : List Operation) → list_all is_within_limits ops ≡ true → has_distinct_numbers (done ++ ops) ≡ true → length (done ++ ops) ≤ 65536 → GoesOn done ops
+GoesOn-after : (done ops : List Operation) → list_all is_within_limits ops ≡ true → has_distinct_numbers (done ++ ops) ≡ true → length (done ++ ops) ≤ MAX_OPS → GoesOn done ops
 GoesOn-after done [] within distinct few = tt
 GoesOn-after done (op ∷ ops) within distinct few =
     let p = both (is_within_limits op) _ within in
     let new : is_taken op.id done ≡ false = fresh done op ops distinct in
-    let size : length done < 65536 = omega (arith, few, length-append done (op ∷ ops)) in
-    let room : nat_le 65536 (length done) ≡ false = grind (arith, nat_tests) in
+    let size : length done < MAX_OPS = omega (arith, few, length-append done (op ∷ ops)) in
+    let room : nat_le MAX_OPS (length done) ≡ false = grind (arith, nat_tests) in
     let same = append_assoc done (op ∷ []) ops in
-    (p.0, rw (new, room), GoesOn-after (done ++ op ∷ []) ops p.1 (subst (λ l. has_distinct_numbers l ≡ true) (sym same) distinct) (subst (λ (l : List Operation). length l ≤ 65536) (sym same) few))
+    (p.0, rw (new, room), GoesOn-after (done ++ op ∷ []) ops p.1 (subst (λ l. has_distinct_numbers l ≡ true) (sym same) distinct) (subst (λ (l : List Operation). length l ≤ MAX_OPS) (sym same) few))
 
 pub GoesOn-from_trace : (ops : List Operation) → IsTrace ops → list_all is_within_limits ops ≡ true → GoesOn [] ops
 GoesOn-from_trace ops t within = GoesOn-after [] ops within t.distinct t.few

@@ -4,6 +4,7 @@ use Rattle.std.specs.Prelude.{codes, true, false, Result, Ok}
 use Rattle.serde_json.specs.Data.{Data}
 use Rattle.trace_types.specs.declared.kinds.Kind.{Kind}
 use Rattle.trace_types.specs.declared.kinds.Kind.TheVariants as kind
+use Rattle.trace_types.specs.declared.limits.TheConstants.{MAX_INDEX}
 use Rattle.trace_types.specs.declared.names.OpName.{OpName}
 use Rattle.trace_types.specs.declared.names.OpName.TheVariants.{New, NewCyclic, NewFrom, WeakNew, Null, Clone, Drop, Downgrade, Upgrade, TryUnwrap, IntoInner, GetMut, MakeMut, Counts, PtrEq, Set, Take, Get, CellNew, CellLoad, CellSwap, CellCas, CellDrop}
 use Rattle.trace_reader.specs.declared.fault.LineCause.{LineCause}
@@ -94,21 +95,21 @@ ptr_eq_at d = do
 unfoldable pub set_at : Data → Result Kind LineCause
 set_at d = do
   h ← handle_at (codes "h") d
-  i ← number_at (codes "i") 0 15 d
+  i ← number_at (codes "i") 0 MAX_INDEX d
   from ← handle_at (codes "from") d
   Ok (kind.Set h i from)
 
 unfoldable pub take_at : Data → Result Kind LineCause
 take_at d = do
   h ← handle_at (codes "h") d
-  i ← number_at (codes "i") 0 15 d
+  i ← number_at (codes "i") 0 MAX_INDEX d
   to ← handle_at (codes "to") d
   Ok (kind.Take h i to)
 
 unfoldable pub get_at : Data → Result Kind LineCause
 get_at d = do
   h ← handle_at (codes "h") d
-  i ← number_at (codes "i") 0 15 d
+  i ← number_at (codes "i") 0 MAX_INDEX d
   to ← handle_at (codes "to") d
   Ok (kind.Get h i to)
 

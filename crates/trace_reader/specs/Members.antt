@@ -5,7 +5,8 @@ use Rattle.std.specs.Str.{bytes_eq}
 use Rattle.serde_json.specs.Data.{Data, null, string, Items, no_items, item}
 use Rattle.serde_json.specs.Events.{items_len}
 use Rattle.serde_json.specs.Find.{get, as_number, as_u64, as_str, as_array}
-use Rattle.trace_types.specs.Limits.{max_name, max_fields, is_field, is_cyclic_field}
+use Rattle.trace_types.specs.Limits.{is_field, is_cyclic_field}
+use Rattle.trace_types.specs.declared.limits.TheConstants.{MAX_NAME, MAX_FIELDS}
 use Rattle.trace_types.specs.declared.kinds.Field.{Field}
 use Rattle.trace_types.specs.declared.kinds.Field.TheVariants.{Held, Null, Me}
 use Rattle.trace_reader.specs.declared.fault.LineCause.{LineCause}
@@ -47,10 +48,10 @@ number_at name low high d = number_in low high (get name d)
 
 -- the number of a handle or a cell
 abbrev pub handle_of : Data → Result ℕ LineCause
-handle_of d = within 0 max_name (number_of d)
+handle_of d = within 0 MAX_NAME (number_of d)
 
 abbrev pub handle_at : List ℕ → Data → Result ℕ LineCause
-handle_at name d = number_at name 0 max_name d
+handle_at name d = number_at name 0 MAX_NAME d
 
 abbrev pub handle_or_null : Data → Result (Option ℕ) LineCause
 handle_or_null null = Ok None
@@ -97,12 +98,12 @@ fields_from cyclic done (item d ds) = field_of cyclic d >>= λ f. fields_from cy
 -- the length is tried before the elements
 abbrev pub few_fields : Bool → Option Items → Result (List Field) LineCause
 few_fields cyclic None = Err WrongType
-few_fields cyclic (Some ds) = if nat_le (items_len ds) max_fields then fields_from cyclic [] ds else Err OutOfRange
+few_fields cyclic (Some ds) = if nat_le (items_len ds) MAX_FIELDS then fields_from cyclic [] ds else Err OutOfRange
 
 abbrev pub fields_in : Bool → Option Data → Result (List Field) LineCause
 fields_in cyclic None = Err Missing
 fields_in cyclic (Some d) = few_fields cyclic (as_array d)
 
--- the member `fields`, at most 16 elements
+-- the member `fields`, at most `MAX_FIELDS` elements
 unfoldable pub fields_at : Bool → Data → Result (List Field) LineCause
 fields_at cyclic d = fields_in cyclic (get (codes "fields") d)

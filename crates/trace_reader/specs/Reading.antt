@@ -6,11 +6,11 @@ use Rattle.std.specs.Str.{is_utf8}
 use Rattle.serde_json.specs.Data.{Data, Members}
 use Rattle.serde_json.specs.Read.{read}
 use Rattle.serde_json.specs.Find.{as_object}
-use Rattle.trace_types.specs.Limits.{max_id, max_thread, max_line}
 use Rattle.trace_types.specs.Names.{name_of}
 use Rattle.trace_types.specs.Operation.{Operation}
 use Rattle.trace_types.specs.Trace.{pushed}
 use Rattle.trace_types.specs.declared.kinds.Kind.{Kind}
+use Rattle.trace_types.specs.declared.limits.TheConstants.{MAX_ID, MAX_THREAD, MAX_LINE}
 use Rattle.trace_types.specs.declared.names.OpName.{OpName}
 use Rattle.trace_types.specs.declared.ops.TraceFault.{TraceFault}
 use Rattle.trace_types.specs.declared.ops.TraceFault.TheVariants as faults
@@ -34,8 +34,8 @@ kind_at d = do
 -- the members `id`, `t`, `op` and then those of the operation
 unfoldable pub members_of_op : Data → Result Operation LineCause
 members_of_op d = do
-  id ← number_at (codes "id") 1 max_id d
-  thread ← number_at (codes "t") 0 max_thread d
+  id ← number_at (codes "id") 1 MAX_ID d
+  thread ← number_at (codes "t") 0 MAX_THREAD d
   kind ← kind_at d
   Ok (record { id = id; thread = thread; kind = kind })
 
@@ -69,7 +69,7 @@ push_cause (Err fault) = Err (push_cause_of fault)
 
 -- the trace after a line
 unfoldable pub after_line : List Operation → List ℕ → Result (List Operation) LineCause
-after_line ops line = if nat_lt max_line (length line) then Err LineTooLong else (if is_blank line then Ok ops else (json_of line >>= read_op >>= λ op. push_cause (pushed ops op)))
+after_line ops line = if nat_lt MAX_LINE (length line) then Err LineTooLong else (if is_blank line then Ok ops else (json_of line >>= read_op >>= λ op. push_cause (pushed ops op)))
 
 -- ---- a text
 

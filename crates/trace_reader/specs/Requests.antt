@@ -3,10 +3,10 @@ use Rattle.std.specs.Prelude.{ℕ, List, [], ◌∷◌, ◌++◌, codes, if◌th
 use Rattle.std.specs.Str.{bytes_eq}
 use Rattle.serde_json.specs.Data.{Data, Items, no_items, item}
 use Rattle.serde_json.specs.Find.{get, as_array, as_object}
-use Rattle.trace_types.specs.Limits.{max_id}
 use Rattle.trace_types.specs.Operation.{Operation}
 use Rattle.trace_types.specs.declared.edits.Edit.{Edit}
 use Rattle.trace_types.specs.declared.edits.Edit.TheVariants.{Insert, Remove, Change}
+use Rattle.trace_types.specs.declared.limits.TheConstants.{MAX_ID, MAX_SESSION, MAX_VERSION}
 use Rattle.trace_reader.specs.declared.fault.LineCause.{LineCause}
 use Rattle.trace_reader.specs.declared.fault.LineCause.TheVariants.{NotObject, Missing, WrongType, UnknownOp}
 use Rattle.trace_reader.specs.declared.request.RequestLine.{RequestLine}
@@ -25,11 +25,11 @@ op_at d = op_in (get (codes "op") d)
 
 -- the number of an operation of the trace
 abbrev pub id_at : Data → Result ℕ LineCause
-id_at d = number_at (codes "id") 1 max_id d
+id_at d = number_at (codes "id") 1 MAX_ID d
 
 unfoldable pub insert_at : Data → Result Edit LineCause
 insert_at d = do
-  after ← number_at (codes "after") 0 max_id d
+  after ← number_at (codes "after") 0 MAX_ID d
   op ← op_at d
   Ok (Insert after op)
 
@@ -75,8 +75,8 @@ edits_at d = edits_in (get (codes "edits") d)
 
 unfoldable pub members_of_request : Data → Result RequestLine LineCause
 members_of_request d = do
-  base ← number_at (codes "base") 0 1000000 d
-  session ← number_at (codes "session") 0 15 d
+  base ← number_at (codes "base") 0 MAX_VERSION d
+  session ← number_at (codes "session") 0 MAX_SESSION d
   batch ← edits_at d
   Ok (record { base = base; session = session; batch = batch })
 

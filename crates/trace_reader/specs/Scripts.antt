@@ -1,8 +1,8 @@
 -- Which trace a text is with the requests that follow it, or which fault its first faulty line has (profile of this project).
 use Rattle.std.specs.Prelude.{ℕ, suc, List, [], ◌∷◌, ◌++◌, length, codes, Bool, ◌&&◌, nat_lt, if◌then◌else◌, Result, Ok, Err}
 use Rattle.std.specs.Str.{bytes_eq}
-use Rattle.trace_types.specs.Limits.{max_line}
 use Rattle.trace_types.specs.Operation.{Operation}
+use Rattle.trace_types.specs.declared.limits.TheConstants.{MAX_LINE}
 use Rattle.trace_reader.specs.declared.fault.LineCause.{LineCause}
 use Rattle.trace_reader.specs.declared.fault.LineCause.TheVariants.{LineTooLong, TooMany}
 use Rattle.trace_reader.specs.declared.fault.LineFault.{LineFault}
@@ -18,7 +18,7 @@ joined lone requests request = if lone && nat_lt 0 (length requests) then Err To
 
 -- the requests after a line
 unfoldable pub after_request : Bool → List RequestLine → List ℕ → Result (List RequestLine) LineCause
-after_request lone requests line = if nat_lt max_line (length line) then Err LineTooLong else (if is_blank line then Ok requests else (json_of line >>= read_request >>= λ request. joined lone requests request))
+after_request lone requests line = if nat_lt MAX_LINE (length line) then Err LineTooLong else (if is_blank line then Ok requests else (json_of line >>= read_request >>= λ request. joined lone requests request))
 
 -- the requests after these lines, the first of which has number n
 abbrev pub after_requests : Bool → List RequestLine → ℕ → List (List ℕ) → Result (List RequestLine) LineFault

@@ -10,7 +10,7 @@ use thiserror::Error;
 /// `OutOfRange` and `UnknownOp` are tried for one member after the other, and that memory may run out at any point.
 #[derive(Clone, Copy, Debug, PartialEq, Eq, Error)]
 pub enum LineCause {
-    /// more than 4,096 bytes without the newline
+    /// more than `MAX_LINE` bytes without the newline
     LineTooLong,
     /// no JSON text, or no UTF-8
     NotJson,
@@ -22,7 +22,7 @@ pub enum LineCause {
     WrongType,
     /// `op` or `edit` is a text, but names no operation or edit
     UnknownOp,
-    /// a number is outside its range, or there are more than 16 fields
+    /// a number is outside its range, or there are more than `MAX_FIELDS` fields
     OutOfRange,
     /// an earlier operation has the number
     IdTaken,

@@ -2,7 +2,6 @@
 ghost use Rattle.std.specs.Prelude.{◌≡◌, ◌≤◌, [], length, Some, IfOk, IsTrue, ◌&&◌, nat_le};
 ghost use Rattle.std.specs.List.{list_all};
 ghost use Rattle.serde_json.specs.View.{view, items_view};
-ghost use Rattle.trace_types.specs.Limits.{max_fields};
 ghost use Rattle.trace_reader.specs.Members.{Gives, field_named, field_of, field_test, fields_from, few_fields, fields_at};
 
 use crate::fault::LineCause;
@@ -13,11 +12,11 @@ use trace_types::kinds::Field;
 use trace_types::limits::{MAX_FIELDS, MAX_NAME};
 use trace_types::sequence::Sequence;
 
-/// The member `fields`: at most 16 elements, each a handle's number, null, or where `cyclic` the text `me`.
+/// The member `fields`: at most `MAX_FIELDS` elements, each a handle's number, null, or where `cyclic` the text `me`.
 #[tactic(auto, unfolding(crate::specs::Members::fields_at))]
 pub fn fields(alloc: Global, value: &Value, cyclic: bool) -> Result<Sequence<Field>, LineCause>
     ensures value { Gives result (fields_at cyclic (view value.now)) }
-    ensures length { IfOk result (λ fields. length fields ≤ max_fields) }
+    ensures length { IfOk result (λ fields. length fields ≤ MAX_FIELDS) }
     ensures within { IfOk result (λ fields. IsTrue (list_all (field_test cyclic) fields)) }
 {
     let Some(member) = value.get("fields") else {
@@ -32,7 +31,7 @@ pub fn fields(alloc: Global, value: &Value, cyclic: bool) -> Result<Sequence<Fie
 // The length is tried before the elements.
 fn few_elements(alloc: Global, items: &[Value], cyclic: bool) -> Result<Sequence<Field>, LineCause>
     ensures value { Gives result (few_fields cyclic (Some (items_view items.now))) }
-    ensures length { IfOk result (λ fields. length fields ≤ max_fields) }
+    ensures length { IfOk result (λ fields. length fields ≤ MAX_FIELDS) }
     ensures within { IfOk result (λ fields. IsTrue (list_all (field_test cyclic) fields)) }
 {
     if items.len() > MAX_FIELDS {

@@ -10,9 +10,6 @@ use crate::fault::LineCause;
 use serde_json::Value;
 use std::alloc::Global;
 
-/// The most bytes that a line may have, without its newline.
-pub const MAX_LINE: usize = 4_096;
-
 /// The first line, and what comes after its newline.
 pub fn cut_line(bytes: &[u8]) -> (&[u8], Option<&[u8]>)
     ensures { MatchOption result.1 (lines_of bytes.now ≡ result.0.now ∷ [])

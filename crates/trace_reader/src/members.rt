@@ -1,13 +1,13 @@
 //! The members of a JSON object.
 ghost use Rattle.std.specs.Prelude.{◌≡◌, ◌≤◌, Ok, Err, IfOk, IsTrue, MatchResult, codes};
 ghost use Rattle.serde_json.specs.View.{view};
-ghost use Rattle.trace_types.specs.Limits.{max_name, is_perhaps_name};
+ghost use Rattle.trace_types.specs.Limits.{is_perhaps_name};
 ghost use Rattle.trace_reader.specs.Members.{within, number_at, handle_at, perhaps_handle_at, text_at};
 ghost use Rattle.trace_reader.specs.Members as Members;
 
 use crate::fault::LineCause;
 use serde_json::Value;
-use trace_types::limits::MAX_NAME;
+use trace_types::limits::{MAX_INDEX, MAX_NAME};
 
 /// The member of that name, a number from `low` to `high`.
 #[tactic(auto, unfolding(crate::specs::Members::number_at))]
@@ -38,7 +38,7 @@ pub fn number_of(value: &Value, low: u32, high: u32) -> Result<u32, LineCause>
 /// The number of a handle or a cell.
 pub fn handle(value: &Value, name: &str) -> Result<u32, LineCause>
     ensures value { result ≡ handle_at name.now (view value.now) }
-    ensures range { IfOk result (λ h. h ≤ max_name) }
+    ensures range { IfOk result (λ h. h ≤ MAX_NAME) }
 {
     number(value, name, 0, MAX_NAME)
 }
@@ -68,10 +68,10 @@ fn handle_or_null(value: &Value) -> Result<Option<u32>, LineCause>
 
 /// The index of a field, from 0.
 pub fn index(value: &Value) -> Result<u32, LineCause>
-    ensures value { result ≡ number_at (codes "i") 0 15 (view value.now) }
-    ensures range { IfOk result (λ i. i ≤ 15) }
+    ensures value { result ≡ number_at (codes "i") 0 MAX_INDEX (view value.now) }
+    ensures range { IfOk result (λ i. i ≤ MAX_INDEX) }
 {
-    number(value, "i", 0, 15)
+    number(value, "i", 0, MAX_INDEX)
 }
 
 /// The member of that name, a text.

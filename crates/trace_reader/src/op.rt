@@ -10,12 +10,13 @@ use crate::{kinds, members};
 use serde_json::Value;
 use std::alloc::Global;
 use trace_types::kinds::Kind;
+use trace_types::limits::{MAX_ID, MAX_THREAD};
 use trace_types::names::read_name;
 use trace_types::ops::Op;
 
 /// The operation that a value is, or its first fault.
 ///
-/// It is an object with the members `id` (1 to 999,999,999), `t` (0 to 65,535), `op`, the operation's name, and then
+/// It is an object with the members `id` (1 to `MAX_ID`), `t` (0 to `MAX_THREAD`), `op`, the operation's name, and then
 /// those of the operation. Each is tried for `Missing`, `WrongType` and `OutOfRange` before the next one.
 #[tactic(auto, unfolding(crate::specs::Reading::read_op))]
 pub fn read_op(alloc: Global, value: &Value) -> Result<Op, LineCause>
@@ -32,8 +33,8 @@ pub fn read_op(alloc: Global, value: &Value) -> Result<Op, LineCause>
 pub fn members_of_op(alloc: Global, value: &Value) -> Result<Op, LineCause>
     ensures { Gives result (Reading.members_of_op (view value.now)) }
 {
-    let id = members::number(value, "id", 1, 999_999_999)?;
-    let thread = members::number(value, "t", 0, 65_535)?;
+    let id = members::number(value, "id", 1, MAX_ID)?;
+    let thread = members::number(value, "t", 0, MAX_THREAD)?;
     let kind = kind(alloc, value)?;
     Op::make(id, thread, kind).map_err(|_| LineCause::OutOfRange)
 }

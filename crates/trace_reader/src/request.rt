@@ -11,10 +11,11 @@ use crate::op::members_of_op;
 use serde_json::Value;
 use std::alloc::Global;
 use trace_types::edits::{Batch, Edit};
+use trace_types::limits::{MAX_ID, MAX_SESSION, MAX_VERSION};
 use trace_types::ops::Op;
 use trace_types::sequence::Sequence;
 
-/// A request as a line has it: edits that session `session` (0 to 15) made for version `base` (0 to 1,000,000). How many
+/// A request as a line has it: edits that session `session` (0 to `MAX_SESSION`) made for version `base` (0 to `MAX_VERSION`). How many
 /// there are, and whether they can be made, is not asked yet.
 #[derive(Debug, Drop)]
 pub struct RequestLine {
@@ -26,8 +27,8 @@ pub struct RequestLine {
 /// The request that a value is, or its first fault.
 ///
 /// It is an object with the members `base`, `session` and `edits`, tried in this order as those of an operation. An
-/// edit is an object with `edit`: `insert` with `after` (0 to 999,999,999) and `op`, `remove` with `id` (1 to
-/// 999,999,999), or `change` with `id` and `op`; `op` is an operation as a trace's line has it.
+/// edit is an object with `edit`: `insert` with `after` (0 to `MAX_ID`) and `op`, `remove` with `id` (1 to
+/// `MAX_ID`), or `change` with `id` and `op`; `op` is an operation as a trace's line has it.
 #[tactic(auto, unfolding(crate::specs::Requests::read_request))]
 pub fn read_request(alloc: Global, value: &Value) -> Result<RequestLine, LineCause>
     ensures { Gives result (Requests.read_request (view value.now)) }
@@ -42,8 +43,8 @@ pub fn read_request(alloc: Global, value: &Value) -> Result<RequestLine, LineCau
 fn members_of_request(alloc: Global, value: &Value) -> Result<RequestLine, LineCause>
     ensures { Gives result (Requests.members_of_request (view value.now)) }
 {
-    let base = members::number(value, "base", 0, 1_000_000)?;
-    let session = members::number(value, "session", 0, 15)?;
+    let base = members::number(value, "base", 0, MAX_VERSION)?;
+    let session = members::number(value, "session", 0, MAX_SESSION)?;
     let batch = edits(alloc, value)?;
     Ok(RequestLine {
         base,
@@ -110,7 +111,7 @@ fn named(alloc: Global, name: &str, value: &Value) -> Result<Edit, LineCause>
 fn insert(alloc: Global, value: &Value) -> Result<Edit, LineCause>
     ensures { Gives result (insert_at (view value.now)) }
 {
-    let after = members::number(value, "after", 0, 999_999_999)?;
+    let after = members::number(value, "after", 0, MAX_ID)?;
     let op = op(alloc, value)?;
     Ok(Edit::Insert { after, op })
 }
@@ -119,7 +120,7 @@ fn insert(alloc: Global, value: &Value) -> Result<Edit, LineCause>
 fn remove(value: &Value) -> Result<Edit, LineCause>
     ensures { Gives result (remove_at (view value.now)) }
 {
-    let id = members::number(value, "id", 1, 999_999_999)?;
+    let id = members::number(value, "id", 1, MAX_ID)?;
     Ok(Edit::Remove { id })
 }
 
@@ -127,7 +128,7 @@ fn remove(value: &Value) -> Result<Edit, LineCause>
 fn change(alloc: Global, value: &Value) -> Result<Edit, LineCause>
     ensures { Gives result (change_at (view value.now)) }
 {
-    let id = members::number(value, "id", 1, 999_999_999)?;
+    let id = members::number(value, "id", 1, MAX_ID)?;
     let op = op(alloc, value)?;
     Ok(Edit::Change { id, op })
 }

@@ -5,10 +5,11 @@ ghost use Rattle.trace_reader.specs.Scripts.{is_divider, joined, after_request, 
 ghost use Rattle.trace_reader.specs.Scripts as Scripts;
 
 use crate::fault::{LineCause, LineFault};
-use crate::lines::{MAX_LINE, cut_line, is_blank, json};
+use crate::lines::{cut_line, is_blank, json};
 use crate::request::{RequestLine, read_request};
 use crate::trace::read_line;
 use std::alloc::Global;
+use trace_types::limits::MAX_LINE;
 use trace_types::sequence::Sequence;
 use trace_types::trace::Trace;
 

@@ -2,6 +2,7 @@ use crate::{fault_line, read_script, read_trace, write_line, write_trace};
 use std::fmt::Write;
 use std::test::Fail;
 use trace_types::edits::Edit;
+use trace_types::limits::MAX_LINE;
 
 // What is said of a text: its fault's line, or `read`.
 fn told(rt: &HostRuntime, text: &[u8]) -> Result<String, Fail> {
@@ -145,13 +146,13 @@ fn every_operation_is_read(rt: HostRuntime) -> Result<(), Fail> {
 }
 
 #[test]
-fn a_line_has_at_most_4096_bytes(rt: HostRuntime) -> Result<(), Fail> {
+fn the_longest_line(rt: HostRuntime) -> Result<(), Fail> {
     assert_eq!(rt;
-        told(&rt, padded(&rt, 4_096)?.as_slice())?.as_str(),
+        told(&rt, padded(&rt, MAX_LINE)?.as_slice())?.as_str(),
         "read\n"
     );
     assert_eq!(rt;
-        told(&rt, padded(&rt, 4_097)?.as_slice())?.as_str(),
+        told(&rt, padded(&rt, MAX_LINE + 1)?.as_slice())?.as_str(),
         "fault line 1 LineTooLong\n"
     );
     Ok(())

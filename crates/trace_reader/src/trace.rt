@@ -5,9 +5,10 @@ ghost use Rattle.trace_reader.specs.Reading.{after_line, push_cause, IsReadUpTo}
 ghost use Rattle.trace_reader.specs.Reading as Reading;
 
 use crate::fault::{LineCause, LineFault};
-use crate::lines::{MAX_LINE, cut_line, is_blank, json};
+use crate::lines::{cut_line, is_blank, json};
 use crate::op::read_op;
 use std::alloc::Global;
+use trace_types::limits::MAX_LINE;
 use trace_types::ops::{Op, TraceFault};
 use trace_types::trace::Trace;
 

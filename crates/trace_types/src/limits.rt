@@ -1,4 +1,4 @@
-//! The limits of an operation's numbers, as tests.
+//! The limits of a trace and of all that is read, and the tests of an operation's members.
 ghost use Rattle.std.specs.Prelude.{◌≡◌};
 ghost use Rattle.std.specs.List.{list_all};
 ghost use Rattle.trace_types.specs.Limits as Limits;
@@ -8,14 +8,44 @@ use crate::kinds::{Field, Kind};
 /// The greatest number of a handle or a cell.
 pub const MAX_NAME: u32 = 999_999;
 
-/// How many fields an object may have.
+/// The greatest number of an operation, and so of an object.
+pub const MAX_ID: u32 = 999_999_999;
+
+/// The greatest label of a thread.
+pub const MAX_THREAD: u32 = 65_535;
+
+/// How many fields a value may have.
 pub const MAX_FIELDS: usize = 16;
+
+/// The greatest number of a field; the first is 0.
+pub const MAX_INDEX: u32 = MAX_FIELDS as u32 - 1;
+
+/// How many operations a trace may have.
+pub const MAX_OPS: usize = 65_536;
+
+/// How many edits a batch may have.
+pub const MAX_EDITS: usize = 64;
+
+/// How many entries the history of a desk may have.
+pub const MAX_ENTRIES: usize = 1_000_000;
+
+/// The greatest version of a trace: one entry of the history makes at most one.
+pub const MAX_VERSION: u32 = MAX_ENTRIES as u32;
+
+/// The greatest number of a session; the first is 0.
+pub const MAX_SESSION: u32 = 15;
+
+/// How many bytes a line may have, without its newline.
+pub const MAX_LINE: usize = 4_096;
+
+/// How many bytes an input may have.
+pub const MAX_INPUT: usize = 300_000_000;
 
 fn is_field(field: Field) -> bool
     ensures { result ≡ Limits.is_field field }
 {
     match field {
-        Field::Held(h) => h <= MAX_NAME,
+        Field::Held(h) => is_name(h),
         Field::Null => true,
         Field::Me => false,
     }
@@ -25,7 +55,7 @@ fn is_cyclic_field(field: Field) -> bool
     ensures { result ≡ Limits.is_cyclic_field field }
 {
     match field {
-        Field::Held(h) => h <= MAX_NAME,
+        Field::Held(h) => is_name(h),
         Field::Null | Field::Me => true,
     }
 }
@@ -46,6 +76,12 @@ fn is_name(h: u32) -> bool
     ensures { result ≡ Limits.is_name h }
 {
     h <= MAX_NAME
+}
+
+fn is_index(i: u32) -> bool
+    ensures { result ≡ Limits.is_index i }
+{
+    i <= MAX_INDEX
 }
 
 fn is_perhaps_name(h: Option<u32>) -> bool
@@ -81,9 +117,9 @@ pub fn is_kind(kind: &Kind) -> bool
         Kind::MakeMut { h } => is_name(*h),
         Kind::Counts { h } => is_name(*h),
         Kind::PtrEq { a, b } => is_name(*a) && is_name(*b),
-        Kind::Set { h, i, from } => is_name(*h) && *i <= 15 && is_name(*from),
-        Kind::Take { h, i, to } => is_name(*h) && *i <= 15 && is_name(*to),
-        Kind::Get { h, i, to } => is_name(*h) && *i <= 15 && is_name(*to),
+        Kind::Set { h, i, from } => is_name(*h) && is_index(*i) && is_name(*from),
+        Kind::Take { h, i, to } => is_name(*h) && is_index(*i) && is_name(*to),
+        Kind::Get { h, i, to } => is_name(*h) && is_index(*i) && is_name(*to),
         Kind::CellNew { c, from } => is_name(*c) && is_name(*from),
         Kind::CellLoad { c, to } => is_name(*c) && is_name(*to),
         Kind::CellSwap { c, from, to } => is_name(*c) && is_name(*from) && is_perhaps_name(*to),

@@ -1,17 +1,14 @@
 //! A trace: operations with distinct numbers, in the order of the traced program.
 ghost use Rattle.std.specs.Prelude.{◌≡◌, ◌<◌, ◌++◌, [], ◌∷◌, length, slice_get, Ok, OnOk, OnErr, IfErr};
 ghost use Rattle.std.specs.Option.{option_copied};
-ghost use Rattle.trace_types.specs.Limits.{max_ops};
 ghost use Rattle.trace_types.specs.Trace.{IsTrace, place_of, is_taken, IsNew, pushed, IsPushFault};
 
+use crate::limits::MAX_OPS;
 use crate::ops::{Op, TraceFault};
 use crate::places;
 use std::alloc::{AllocError, Global};
 use std::collections::BTreeMap;
 use std::marker::Model;
-
-/// How many operations a trace may have.
-pub const MAX_OPS: usize = 65_536;
 
 /// Operations with distinct numbers, in order, at most `MAX_OPS`. Contracts see the list of the operations.
 #[derive(Drop)]
@@ -103,7 +100,7 @@ impl Trace {
     // Adds an operation at the end.
     fn append(&mut self, op: Op) -> Result<(), AllocError>
         requires new { IsNew op.id self.old }
-        requires room { length self.old < max_ops }
+        requires room { length self.old < MAX_OPS }
         ensures ok { OnOk result (self.new ≡ self.old ++ op ∷ []) }
         ensures unchanged { OnErr result (self.new ≡ self.old) }
     {

@@ -1,6 +1,7 @@
 use Rattle.std.proofs.Common.{arith, ap, Err, sym, ◌∙◌, ◌≤◌, length, List, ℕ}
 use Rattle.std.proofs.lemmas.Result.{IfOk-weaker}
-use Rattle.command_serve.specs.Serve.{Due, max_input, exit_of}
+use Rattle.trace_types.specs.declared.limits.TheConstants.{MAX_INPUT}
+use Rattle.command_serve.specs.Serve.{Due, exit_of}
 use Rattle.command_serve.proofs.Served.{IsInput-whole, IsInput-long, due-long, due-short, read-short, read-long}
 use Rattle.command_serve.proofs.serve.answered.Goals as goal
 
@@ -11,7 +12,7 @@ pub returns-in-Ok-clause-ok : goal.returns-in-Ok-clause-ok
 returns-in-Ok-clause-ok g c =
     let read = c.in-Ok.ensures.ok in
     let same = c.as_slice.ensures.value in
-    let short : length c.in-Ok.input.items ≤ max_input = omega (arith, ap length same, c.as_slice.ensures.len, read.2) in
+    let short : length c.in-Ok.input.items ≤ MAX_INPUT = omega (arith, ap length same, c.as_slice.ensures.len, read.2) in
     let due = ap g.C.Answers.due same ∙ sym (due-short g.C.Answers.due c.in-Ok.input.items short) in
     IfOk-weaker c.answer.result _ _ (λ r h. (
       c.in-Ok.input.items,

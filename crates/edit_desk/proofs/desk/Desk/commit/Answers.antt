@@ -2,6 +2,7 @@ use Rattle.std.proofs.Common.{◌≡◌, ◌+◌, ◌<◌, ◌++◌, ◌∷◌, 
 use Rattle.std.specs.Arc.{arc_value}
 use Rattle.std.proofs.lemmas.List.{map-append, length-map}
 use Rattle.std.proofs.lemmas.List.{length_push}
+use Rattle.trace_types.specs.declared.limits.TheConstants.{MAX_ENTRIES}
 use Rattle.edit_desk.specs.Answers.{Standing, opened, after, LeadsTo}
 use Rattle.edit_desk.specs.Versions.{DeskView, PreparedView, IsDue}
 use Rattle.edit_desk.specs.declared.entries.Entry.{Entry}
@@ -14,7 +15,7 @@ invariant_of-self c =
     let p : PreparedView = record { entry = arc_value c.prepared.inside.entry; next = c.prepared.inside.next } in
     let e : Entry = p.entry in
     let same : c.args.self.now.standing ≡ s = ap (λ (d : DeskView). d.standing) (sym c.self.view_is) in
-    let room : length s.history < 1000000 = subst (λ (x : Standing). length x.history < 1000000) same c.requires.history in
+    let room : length s.history < MAX_ENTRIES = subst (λ (x : Standing). length x.history < MAX_ENTRIES) same c.requires.history in
     let asked : IsDue s c.args.prepared = subst (λ (x : Standing). IsDue x c.args.prepared) same c.requires.due in
     let due : IsDue s p = subst (λ (x : PreparedView). IsDue s x) (sym c.prepared.view_is) asked in
     let now : Standing = record { opening = c.self.inside.opening; trace = c.prepared.inside.next.run.trace; version = c.prepared.inside.next.version; history = map arc_value c.push_reserved.new.self.items } in

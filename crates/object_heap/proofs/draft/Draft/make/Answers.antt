@@ -7,6 +7,7 @@ use Rattle.trace_types.specs.declared.slots.Entry.TheVariants.{Alive}
 use Rattle.trace_types.specs.declared.slots.Change.{Change}
 use Rattle.trace_types.specs.declared.slots.Change.TheVariants.{Make}
 use Rattle.ownership_model.specs.State.{slots_weight}
+use Rattle.trace_types.specs.declared.limits.TheConstants.{MAX_FIELDS}
 use Rattle.object_heap.specs.declared.draft.Draft.{Draft}
 use Rattle.object_heap.specs.Counted.{state_of}
 use Rattle.object_heap.specs.Gains.{CountsMore}
@@ -17,8 +18,8 @@ use Rattle.object_heap.proofs.draft.Draft.make.Goals as goal
 pub hold_all-requires : goal.hold_all-requires
 hold_all-requires c =
     let old = c.args.self.now in
-    let few : length c.as_slice.result.now ≤ 16 = omega (arith, c.requires.fits, ap (λ (l : List Slot). length l) c.as_slice.ensures) in
-    less_room old.counts (length c.as_slice.result.now) 16 few (room old.counts (state_of old) [] c.requires.bounded c.requires.counted (omega arith))
+    let few : length c.as_slice.result.now ≤ MAX_FIELDS = omega (arith, c.requires.fits, ap (λ (l : List Slot). length l) c.as_slice.ensures) in
+    less_room old.counts (length c.as_slice.result.now) MAX_FIELDS few (room old.counts (state_of old) [] c.requires.bounded c.requires.counted (omega arith))
 
 pub returns : goal.returns
 returns c =

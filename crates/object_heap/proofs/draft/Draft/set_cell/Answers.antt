@@ -3,6 +3,7 @@ use Rattle.std.specs.Ordering.{nat_cmp}
 use Rattle.std.specs.FinMap.{FinMap}
 use Rattle.trace_types.specs.declared.slots.Slot.{Slot}
 use Rattle.trace_types.specs.declared.slots.Change.TheVariants.{SetCell}
+use Rattle.trace_types.specs.declared.limits.TheConstants.{MAX_FIELDS}
 use Rattle.object_heap.specs.declared.draft.Draft.{Draft}
 use Rattle.object_heap.specs.Counted.{state_of}
 use Rattle.object_heap.proofs.GainLemmas.{on_ok, lost_in, changes, room, less_room}
@@ -11,7 +12,7 @@ use Rattle.object_heap.proofs.draft.Draft.set_cell.Goals as goal
 pub hold-requires : goal.hold-requires
 hold-requires c =
     let old = c.args.self.now in
-    less_room old.counts 1 16 (omega arith) (room old.counts (state_of old) [] c.requires.bounded c.requires.counted (omega arith))
+    less_room old.counts 1 MAX_FIELDS (omega arith) (room old.counts (state_of old) [] c.requires.bounded c.requires.counted (omega arith))
 
 pub let_go_cell-requires : goal.let_go_cell-requires
 let_go_cell-requires c =

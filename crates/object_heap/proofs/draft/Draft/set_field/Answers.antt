@@ -8,6 +8,7 @@ use Rattle.trace_types.specs.declared.slots.Entry.TheVariants.{Alive}
 use Rattle.trace_types.specs.declared.slots.Change.{Change}
 use Rattle.trace_types.specs.declared.slots.Change.TheVariants.{SetField}
 use Rattle.ownership_model.specs.Changes.{with_field}
+use Rattle.trace_types.specs.declared.limits.TheConstants.{MAX_FIELDS}
 use Rattle.object_heap.specs.declared.draft.Draft.{Draft}
 use Rattle.object_heap.specs.Counted.{state_of}
 use Rattle.object_heap.specs.Gains.{CountsMore}
@@ -18,7 +19,7 @@ use Rattle.object_heap.proofs.draft.Draft.set_field.Goals as goal
 pub hold-requires : goal.hold-requires
 hold-requires c =
     let old = c.args.self.now in
-    less_room old.counts 1 16 (omega arith) (room old.counts (state_of old) [] c.requires.bounded c.requires.counted (omega arith))
+    less_room old.counts 1 MAX_FIELDS (omega arith) (room old.counts (state_of old) [] c.requires.bounded c.requires.counted (omega arith))
 
 pub let_go-requires : goal.let_go-requires
 let_go-requires c =

@@ -1,4 +1,5 @@
 use Rattle.std.proofs.Common.{◌≡◌, ◌<◌, ◌≤◌, ◌∙◌, length, ap, sym, subst, List, false}
+use Rattle.trace_types.specs.declared.limits.TheConstants.{MAX_OPS}
 use Rattle.trace_types.specs.Operation.{Operation}
 use Rattle.trace_types.specs.Trace.{IsTrace, is_taken}
 use Rattle.std.specs.Prelude.{insert}
@@ -15,7 +16,7 @@ invariant_of-self-2 c =
     let op : Operation = c.args.op.now in
     let shift : Shift = Inserted c.args.place op.id in
     let within : c.args.place ≤ length ops = subst (λ os. c.args.place ≤ length os) (sym c.self.view_is) c.requires.within in
-    let room : length ops < 65536 = subst (λ os. length os < 65536) (sym c.self.view_is) c.requires.room in
+    let room : length ops < MAX_OPS = subst (λ os. length os < MAX_OPS) (sym c.self.view_is) c.requires.room in
     let new : is_taken op.id ops ≡ false = ap (is_taken op.id) c.self.view_is ∙ c.requires.new in
     let trace : IsTrace (insert ops c.args.place op) = trace-insert ops c.args.place op within new room c.self.invariant.0 in
     rw (c.in_ok-insert.ensures.ok, c.push_reserved.ensures.items, c.reserve.ensures.items, c.id.ensures.value) (
