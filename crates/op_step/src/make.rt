@@ -3,18 +3,19 @@ ghost use Rattle.std.specs.Prelude.{◌≡◌, IfOk};
 ghost use Rattle.std.specs.FinMap.{get};
 ghost use Rattle.trace_types.specs.declared.kinds.Kind.TheVariants as kind;
 ghost use Rattle.ownership_model.specs.View.{elements_of};
-ghost use Rattle.ownership_model.specs.Table.{new_row};
+ghost use Rattle.ownership_model.specs.Table.{new_row, ending};
 ghost use Rattle.ownership_model.specs.Table as Table;
 ghost use Rattle.ownership_model.specs.Rows.{row_in, Tells};
 
 use crate::wants::{all_held, all_slots, held, unheld};
 use object_heap::Heap;
-use ownership_model::effects::{copy_fields, making};
+use ownership_model::effects::{copy_fields, push_make};
 use ownership_model::questions::bare_in;
 use ownership_model::{Plan, Stop};
 use std::alloc::{AllocError, Global};
 use trace_types::kinds::Field;
 use trace_types::outcomes::Answer;
+use trace_types::sequence::Sequence;
 use trace_types::slots::{Change, Holding, Slot};
 
 /// `Arc::new`, `Arc::new_cyclic`
@@ -24,8 +25,7 @@ pub fn new(alloc: Global, heap: &Heap, id: u32, to: u32, fields: &[Field]) -> Re
     all_held(heap, fields)?;
     all_slots(heap, fields)?;
     unheld(heap, to)?;
-    let made = made_fields(alloc, heap, id, fields)?;
-    let changes = making(alloc, id, fields, made, to)?;
+    let changes = making(alloc, heap, id, fields, to)?;
     Ok(Plan::act(Answer::Made, changes, Vec::new(alloc), Some(id)))
 }
 
@@ -86,4 +86,25 @@ fn slot_of(heap: &Heap, h: u32) -> Slot
         Some(Holding::Slot(slot)) => *slot,
         Some(Holding::Bare(_)) | None => Slot::Nothing,
     }
+}
+
+// The handles of the fields end, and the object comes to be.
+fn making(
+    alloc: Global,
+    heap: &Heap,
+    id: u32,
+    fields: &[Field],
+    to: u32,
+) -> Result<Vec<Change>, AllocError>
+    ensures { IfOk result (λ v. let es = elements_of heap.now fields.now in v.items ≡ ending es (Table.make id (Table.made_fields id es) to)) }
+{
+    let made = made_fields(alloc, heap, id, fields)?;
+    let mut changes = Vec::new(alloc);
+    for field in fields {
+        if let Field::Held(h) = field {
+            changes.push(Change::EndHandle(*h))?;
+        }
+    }
+    push_make(&mut changes, id, Sequence::from_vec(made), to)?;
+    Ok(changes)
 }

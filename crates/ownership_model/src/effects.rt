@@ -1,37 +1,13 @@
 //! What rows do, where it takes more than a line and no state is needed for it.
 ghost use Rattle.std.specs.Prelude.{◌≡◌, ◌++◌, IfOk, OnOk};
-ghost use Rattle.ownership_model.specs.State.{State};
 ghost use Rattle.ownership_model.specs.Release as Release;
-ghost use Rattle.ownership_model.specs.View.{elements_of};
-ghost use Rattle.ownership_model.specs.Table.{ending};
 ghost use Rattle.ownership_model.specs.Table as Table;
 
 use crate::plan::Plan;
 use std::alloc::{AllocError, Global};
-use trace_types::kinds::Field;
 use trace_types::outcomes::{Answer, Event};
 use trace_types::sequence::Sequence;
 use trace_types::slots::{Change, Holding, Item, Slot};
-
-/// The handles among the fields end, whatever they hold; an object comes to be, and a handle holds the `Arc` to it.
-pub fn making(
-    alloc: Global,
-    id: u32,
-    fields: &[Field],
-    made: Vec<Slot>,
-    to: u32,
-) -> Result<Vec<Change>, AllocError>
-    ensures { IfOk result (λ v. (m : State) → v.items ≡ ending (elements_of m fields.now) (Table.make id made.items to)) }
-{
-    let mut changes = Vec::new(alloc);
-    for field in fields {
-        if let Field::Held(h) = field {
-            changes.push(Change::EndHandle(*h))?;
-        }
-    }
-    push_make(&mut changes, id, Sequence::from_vec(made), to)?;
-    Ok(changes)
-}
 
 /// An object comes to be, and a handle holds the `Arc` to it.
 pub fn push_make(

@@ -3,12 +3,12 @@ ghost use Rattle.std.specs.Prelude.{◌≡◌, IfOk};
 ghost use Rattle.std.specs.FinMap as map;
 ghost use Rattle.trace_types.specs.declared.kinds.Kind.TheVariants as kind;
 ghost use Rattle.ownership_model.specs.View.{elements_of};
-ghost use Rattle.ownership_model.specs.Table.{new_row};
+ghost use Rattle.ownership_model.specs.Table.{new_row, ending};
 ghost use Rattle.ownership_model.specs.Table as Table;
 ghost use Rattle.ownership_model.specs.Rows.{row_in, Tells};
 ghost use Rattle.ownership_model.specs.Plain.{state_of};
 
-use crate::effects::{copy_fields, making, push_make};
+use crate::effects::{copy_fields, push_make};
 use crate::plain::state::PlainState;
 use crate::plain::wants::{all_held, all_slots, held, unheld};
 use crate::plan::{Plan, Stop};
@@ -16,6 +16,7 @@ use crate::questions::bare_in;
 use std::alloc::{AllocError, Global};
 use trace_types::kinds::Field;
 use trace_types::outcomes::Answer;
+use trace_types::sequence::Sequence;
 use trace_types::slots::{Change, Holding, Slot};
 
 /// `Arc::new`, `Arc::new_cyclic`
@@ -31,8 +32,7 @@ pub fn new(
     all_held(state, fields)?;
     all_slots(state, fields)?;
     unheld(state, to)?;
-    let made = made_fields(alloc, state, id, fields)?;
-    let changes = making(alloc, id, fields, made, to)?;
+    let changes = making(alloc, state, id, fields, to)?;
     Ok(Plan::act(Answer::Made, changes, Vec::new(alloc), Some(id)))
 }
 
@@ -96,4 +96,25 @@ fn slot_of(state: &PlainState, h: u32) -> Slot
         Some(Holding::Slot(slot)) => *slot,
         Some(Holding::Bare(_)) | None => Slot::Nothing,
     }
+}
+
+// The handles of the fields end, and the object comes to be.
+fn making(
+    alloc: Global,
+    state: &PlainState,
+    id: u32,
+    fields: &[Field],
+    to: u32,
+) -> Result<Vec<Change>, AllocError>
+    ensures { IfOk result (λ v. let es = elements_of (state_of state.now) fields.now in v.items ≡ ending es (Table.make id (Table.made_fields id es) to)) }
+{
+    let made = made_fields(alloc, state, id, fields)?;
+    let mut changes = Vec::new(alloc);
+    for field in fields {
+        if let Field::Held(h) = field {
+            changes.push(Change::EndHandle(*h))?;
+        }
+    }
+    push_make(&mut changes, id, Sequence::from_vec(made), to)?;
+    Ok(changes)
 }

@@ -1,0 +1,11 @@
+use Rattle.std.proofs.Common.{◌≡◌, ◌++◌, drop}
+use Rattle.ownership_model.specs.View.{elements_of}
+use Rattle.ownership_model.specs.Table.{ending, make}
+use Rattle.ownership_model.specs.Plain.{state_of}
+use Rattle.ownership_model.proofs.plain.making.making.Given as goal
+
+-- the changes so far and those that are left are all
+abbrev pub invariant-loop-field : goal.invariant-loop-field
+invariant-loop-field l =
+    l.changes.items ++ ending (elements_of (state_of l.state) (drop l.field-index l.fields)) (make l.id l.made.items l.to)
+    ≡ ending (elements_of (state_of l.fn.state) l.fn.fields) (make l.fn.id l.made.items l.fn.to)
