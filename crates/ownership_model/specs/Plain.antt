@@ -13,7 +13,8 @@ use Rattle.ownership_model.specs.declared.plain.stop.Stop.TheVariants as stop
 abbrev pub state_of : PlainState → State
 state_of s = record { handles = s.handles; cells = s.cells; objects = s.objects }
 
--- A row of the table ends with its plan, or early with a reason. Of want of memory nothing is said.
+-- A row of the table ends with its plan, or early with a reason. Of want of memory nothing is said. (For private functions alone,
+-- from here on.)
 
 -- what a question of the table finds, for whatever rest of the row, or its reason
 abbrev pub Asks : {X : Type 0} → Result X Stop → ((X → Plan) → Plan) → Type 0
