@@ -7,14 +7,14 @@ use Rattle.std.specs.Prelude.{Ok, Err}
 use Rattle.std.proofs.Common.{⊎_elim}
 use Rattle.std.proofs.lemmas.Bool.{cases_lt}
 use Rattle.std.proofs.lemmas.List.Sorted.{searched}
-use Rattle.std.specs.declared.cmp.Ordering.TheVariants.{Less}
-use Rattle.std.specs.Ordering.{nat_cmp}
+use Rattle.std.specs.declared.cmp.Ordering.{Ordering}
+use Rattle.std.specs.declared.cmp.Ordering.TheVariants.{Less, Equal, Greater}
+use Rattle.std.specs.Ordering.{nat_cmp, is_lt}
 use Rattle.std.proofs.lemmas.Bool.Decides.{nat_tests}
 use Rattle.std.proofs.lemmas.Map.Keys.{sorted_head, sorted_tail, below_from_sorted}
 use Rattle.std.specs.FinMap.{get, keys, entries, entries_sorted}
 use Rattle.std.specs.FinMap.Entries.{is_sorted, below_all}
 use Rattle.std.proofs.Math.Dec.{T}
-use Rattle.ownership_model.proofs.TotalLemmas.{first, second, less}
 use Rattle.trace_types.specs.declared.slots.Slot.{Slot}
 use Rattle.trace_types.specs.declared.slots.Slot.TheVariants.{Nothing, Strong, Weak, Dangling}
 use Rattle.trace_types.specs.declared.slots.Entry.{Entry}
@@ -24,7 +24,7 @@ use Rattle.ownership_model.specs.declared.leaks.Leak.{Leak}
 use Rattle.ownership_model.specs.declared.leaks.Holder.{Holder}
 use Rattle.ownership_model.specs.declared.link.Link.TheVariants.{StrongOnly}
 use Rattle.ownership_model.specs.Reach.{IsReach, is_reached}
-use Rattle.ownership_model.proofs.ReachedLemmas.{is_reach}
+use Rattle.ownership_model.proofs.LawsHold.{reach}
 use Rattle.ownership_model.specs.Leaks.{holds, fields_holding, entry_holding, holders_in, leaks_in, leaked_in, holders_of}
 use Rattle.leak_report.specs.HolderPass.{with_holders, unheld, leak_names}
 
@@ -153,6 +153,19 @@ pub names-unheld : (os : List ℕ) → leak_names (unheld os) ≡ os
 names-unheld [] = refl
 names-unheld (o ∷ os) = ap (λ xs. o ∷ xs) (names-unheld os)
 
+first : (a b : Bool) → T (a && b) → T a
+first true b p = tt
+first false b p = p
+
+second : (a b : Bool) → T (a && b) → T b
+second true b p = p
+second false b p = absurd p
+
+less : (o : Ordering) → T (is_lt o) → o ≡ Less
+less Less p = refl
+less Equal p = absurd p
+less Greater p = absurd p
+
 above_keys : (k : ℕ) (es : List (ℕ × Entry)) → T (below_all nat_cmp k es) → AllByRecursion (λ y. nat_cmp k y ≡ Less) (map (λ (e : ℕ × Entry). e.0) es)
 above_keys k [] h = tt
 above_keys k (e ∷ es) h = (less _ (first _ _ h), above_keys k es (second _ _ h))
@@ -235,6 +248,6 @@ in_range o n os ls same sorted search =
 -- all that is found, by what each part of the search gave
 pub found_leaks : (k : ℕ → Bool) (m : State) (os xs names : List ℕ) (start ls : List Leak) → IsReach StrongOnly m k → os ≡ keys m.objects → xs ≡ keys m.objects
     → names ≡ leaked_in k m os → start ≡ unheld names → ls ≡ with_holders (λ o. holders_in m xs o) start → ls ≡ leaks_in (λ o. is_reached StrongOnly m o) m (keys m.objects)
-found_leaks k m os xs names start ls reach all again is from then' =
+found_leaks k m os xs names start ls is_reach all again is from then' =
     then' ∙ ap (λ ys. with_holders (λ o. holders_in m ys o) start) again ∙ ap (with_holders (λ o. holders_in m (keys m.objects) o)) (from ∙ ap unheld (is ∙ ap (leaked_in k m) all))
-    ∙ all_holders k (λ o. is_reached StrongOnly m o) m (is_reach StrongOnly m k reach)
+    ∙ all_holders k (λ o. is_reached StrongOnly m o) m (reach.only StrongOnly m k is_reach)

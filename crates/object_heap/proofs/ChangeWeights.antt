@@ -6,7 +6,7 @@ use Rattle.trace_types.specs.declared.slots.Entry.{Entry}
 use Rattle.trace_types.specs.declared.slots.Entry.TheVariants.{Alive, Husk}
 use Rattle.trace_types.specs.declared.slots.Change.{Change}
 use Rattle.trace_types.specs.declared.slots.Change.TheVariants.{SetHandle, EndHandle, SetCell, EndCell, SetField, Make, TurnHusk}
-use Rattle.ownership_model.proofs.TotalLemmas.{weight_at}
+use Rattle.ownership_model.proofs.Counting.{weight_at}
 use Rattle.ownership_model.specs.State.{State, slots_weight, holding_weight, entry_weight}
 
 -- what one field weighs, if there is such a field

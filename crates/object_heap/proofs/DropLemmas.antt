@@ -12,18 +12,25 @@ use Rattle.trace_types.specs.declared.slots.Entry.TheVariants.{Alive, Husk}
 use Rattle.trace_types.specs.declared.slots.Item.{Item}
 use Rattle.trace_types.specs.declared.slots.Item.TheVariants as item
 use Rattle.trace_types.specs.declared.outcomes.Event.{Event}
-use Rattle.ownership_model.proofs.TotalLemmas.{weight_at}
+use Rattle.ownership_model.specs.Falling.{CascadesTo}
+use Rattle.ownership_model.proofs.LawsHold.{in_turn, cascade}
+use Rattle.ownership_model.proofs.Counting.{weight_at, total-set, total-cut, items_weight-drops, ends-drops, self_strong, self_weak, other_strong, other_weak, same_number}
 use Rattle.ownership_model.specs.State.{State, strong, weak, ends, weight, names_alike, entry_weight, IsSound, IsSoundAt}
 use Rattle.ownership_model.specs.Release.{Fate, Stays, Goes, fate, fall, is_husk, left_by, drop_first, Becomes, Released, after, release, work}
-use Rattle.ownership_model.proofs.ReleaseLemmas.{either, release-nil, release-cons, work_drops}
-use Rattle.ownership_model.proofs.CountLemmas.{total-set, total-cut, items_weight-drops, ends-drops, self_strong, self_weak, other_strong, other_weak, same_number}
-use Rattle.ownership_model.proofs.DropLemmas.{decide, sound-drop_first}
 use Rattle.object_heap.specs.declared.counters.Counters.{Counters}
 use Rattle.object_heap.specs.declared.draft.Draft.{Draft}
 use Rattle.object_heap.specs.Counted.{counters_at, state_of, IsCounted}
 use Rattle.object_heap.specs.Gains.{IsSetAt}
 use Rattle.object_heap.specs.Drops.{DropsFirst}
 use Rattle.object_heap.proofs.GainLemmas.{chosen}
+
+-- whichever way a test goes
+decide : (P : Fate → Type 0) (b : Bool) (f g : Fate) → (b ≡ true → P f) → (b ≡ false → P g) → P (if b then f else g)
+decide P true f g p q = p refl
+decide P false f g p q = q refl
+
+either : (P : Fate → Type 0) (b : Bool) (f g : Fate) → P f → P g → P (if b then f else g)
+either P b f g p q = decide P b f g (λ _. p) (λ _. q)
 
 -- what all slots weigh is what those of the rest weigh
 module _ (w : Slot → ℕ) (m : State) (xs : List Item) where
@@ -241,14 +248,14 @@ after-after a b r = ap (λ (es : List Event). record { state = r.state; events =
 module _ (old new : Draft) (x : Item) (xs whole left : List Item) (before told : List Event) (first : whole ≡ x ∷ xs) (dropped : DropsFirst old new x xs left before told) where
   pub sound_next : IsSound (state_of old) whole → IsSound (state_of new) left
   sound_next sound =
-      let now : IsSound (drop_first (state_of old) x xs).state (drop_first (state_of old) x xs).pending = sound-drop_first (state_of old) x xs (subst (λ (p : List Item). IsSound (state_of old) p) first sound) in
+      let now : IsSound (drop_first (state_of old) x xs).state (drop_first (state_of old) x xs).pending = in_turn.sound (state_of old) x xs (subst (λ (p : List Item). IsSound (state_of old) p) first sound) in
       subst (λ (p : List Item). IsSound (state_of new) p) (sym dropped.step.pending) (subst (λ (m : State). IsSound m (drop_first (state_of old) x xs).pending) (sym dropped.step.state) now)
 
   pub work_next : work (state_of new) left < work (state_of old) whole
   work_next =
       let smaller : work (state_of new) left ≡ work (drop_first (state_of old) x xs).state (drop_first (state_of old) x xs).pending = ap (λ (p : List Item). work (state_of new) p) dropped.step.pending ∙ ap (λ (m : State). work m (drop_first (state_of old) x xs).pending) dropped.step.state in
       let larger : work (state_of old) whole ≡ work (state_of old) (x ∷ xs) = ap (λ (p : List Item). work (state_of old) p) first in
-      omega (arith, smaller, larger, work_drops (state_of old) x xs)
+      omega (arith, smaller, larger, in_turn.less (state_of old) x xs)
 
   pub release_next : after told (release (state_of new) left) ≡ after before (release (state_of old) whole)
   release_next =
@@ -257,10 +264,18 @@ module _ (old new : Draft) (x : Item) (xs whole left : List Item) (before told :
       ap (λ (r : Released). after told r) same
       ∙ ap (λ (es : List Event). after es (release d.state d.pending)) dropped.step.events
       ∙ after-after before d.events (release d.state d.pending)
-      ∙ ap (λ (r : Released). after before r) (sym (release-cons (state_of old) x xs) ∙ ap (λ (p : List Item). release (state_of old) p) (sym first))
+      ∙ ap (λ (r : Released). after before r) (sym (in_turn.first (state_of old) x xs) ∙ ap (λ (p : List Item). release (state_of old) p) (sym first))
 
 -- nothing is left
 pub release_end : (m : State) (before told : List Event) (left : List Item) (r : Released) → after told (release m left) ≡ after before r → left ≡ [] → (m ≡ r.state) × (told ≡ before ++ r.events)
 release_end m before told left r is none =
-    let same : after told (record { state = m; events = [] }) ≡ after before r = ap (λ (q : Released). after told q) (sym (release-nil m)) ∙ ap (λ (p : List Item). after told (release m p)) (sym none) ∙ is in
+    let same : after told (record { state = m; events = [] }) ≡ after before r = ap (λ (q : Released). after told q) (sym (in_turn.none m)) ∙ ap (λ (p : List Item). after told (release m p)) (sym none) ∙ is in
     (ap (λ (q : Released). q.state) same, sym (append-nil told) ∙ ap (λ (q : Released). q.events) same)
+
+-- what was released from the same state is the cascade
+pub cascades : (m from end : State) (pending items : List Item) (told : List Event) → IsSound m pending → from ≡ m → items ≡ pending
+    → end ≡ (release from items).state → told ≡ (release from items).events → CascadesTo m end told
+cascades m from end pending items told sound same all state events =
+    let by : release from items ≡ release m pending = ap (λ (n : State). release n items) same ∙ ap (release m) all in
+    subst (λ (n : State). CascadesTo m n told) (sym (state ∙ ap (λ (r : Released). r.state) by))
+    (subst (λ (es : List Event). CascadesTo m (release m pending).state es) (sym (events ∙ ap (λ (r : Released). r.events) by)) (cascade.cascades m pending sound))

@@ -18,11 +18,8 @@ use Rattle.ownership_model.specs.Totals.{total}
 use Rattle.ownership_model.specs.State.{State, ends, weight, names_alike, slots_weight, holding_weight, entry_weight}
 use Rattle.ownership_model.specs.Changes.{changed, changed_by, with_field, HasField, CanBeDone, CanChange}
 use Rattle.ownership_model.specs.Bounds.{IsBounded, ChangeFits, ChangesFit}
-use Rattle.ownership_model.proofs.TotalLemmas.{weight_at, total-insert, total-remove}
-use Rattle.ownership_model.proofs.CountLemmas.{total-set, self_strong, self_weak, other_strong, other_weak, same_number}
-use Rattle.ownership_model.proofs.MapLemmas.{get_inserted, get_removed}
-use Rattle.ownership_model.proofs.LimitLemmas.{change_bounded}
-use Rattle.ownership_model.proofs.BoundLemmas.{strong-le, weak-le, names_alike-le}
+use Rattle.ownership_model.proofs.LawsHold.{bounds}
+use Rattle.ownership_model.proofs.Counting.{weight_at, total-insert, total-remove, total-set, self_strong, self_weak, other_strong, other_weak, same_number, get_inserted, get_removed, names_alike-le}
 use Rattle.object_heap.specs.declared.counters.Counters.{Counters}
 use Rattle.object_heap.specs.declared.draft.Draft.{Draft}
 use Rattle.object_heap.specs.Counted.{counters_at, state_of, IsCounted}
@@ -175,8 +172,8 @@ ends-le o (item.End q ∷ p) = ends_one (q == o) (ends o p) (length p) (ends-le 
 -- the limits leave room in the counters
 pub room : (counts : FinMap nat_cmp Counters) (m : State) (p : List Item) → IsBounded m → IsCounted counts m p → length p < 2 ^ 63 → HasRoom counts MAX_FIELDS
 room counts m p bounded counted short = record {
-  strong_fits = λ o. omega (arith, counted.strong_is o, strong-le m p o bounded);
-  weak_fits = λ o. omega (arith, counted.weak_is o, weak-le m p o bounded);
+  strong_fits = λ o. omega (arith, counted.strong_is o, (bounds.counts m p o bounded).0);
+  weak_fits = λ o. omega (arith, counted.weak_is o, (bounds.counts m p o bounded).1);
   ends_fit = λ o. omega (arith, counted.ends_is o, ends-le o p);
 }
 
@@ -281,7 +278,7 @@ module _ (m n : State) (changes : List Change) (i : ℕ) (x : Change) (within : 
   fits_next fits = (subst (λ (cs : List Change). ChangesFit cs) first_change fits).1
 
   pub bounded_next : IsBounded m → CanChange m (drop i changes) → ChangesFit (drop i changes) → IsBounded n
-  bounded_next bounded can fits = subst (λ (k : State). IsBounded k) (sym made) (change_bounded m x bounded (fits_first fits) (can_first can))
+  bounded_next bounded can fits = subst (λ (k : State). IsBounded k) (sym made) (bounds.changes m (x ∷ []) bounded (fits_first fits, tt) (can_first can, tt))
 
   pub changed_next : changed n (drop (i + 1) changes) ≡ changed m (drop i changes)
   changed_next = ap (λ (k : State). changed k (drop (i + 1) changes)) made ∙ sym (ap (λ (cs : List Change). changed m cs) first_change)

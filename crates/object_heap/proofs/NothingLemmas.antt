@@ -9,8 +9,7 @@ use Rattle.trace_types.specs.declared.slots.Entry.{Entry}
 use Rattle.ownership_model.specs.Totals.{total, total_in}
 use Rattle.ownership_model.specs.State.{State, nothing_held, weight, holding_weight, entry_weight, names_alike, IsSound}
 use Rattle.ownership_model.specs.Bounds.{IsBounded}
-use Rattle.ownership_model.proofs.LimitLemmas.{nothing_bounded}
-use Rattle.ownership_model.proofs.ReplayLemmas.{nothing_sound}
+use Rattle.ownership_model.proofs.LawsHold.{soundness, bounds}
 use Rattle.object_heap.specs.declared.counters.Counters.{Counters}
 use Rattle.object_heap.specs.declared.draft.Draft.{Draft}
 use Rattle.object_heap.specs.Counted.{counters_at, state_of, IsCounted, IsKept}
@@ -41,7 +40,7 @@ counted_nothing = record {
 -- a draft of nothing is that of a heap
 pub kept_nothing : (d : Draft) → state_of d ≡ nothing_held → d.counts ≡ empty → IsKept d
 kept_nothing d held none = record {
-  sound = subst (λ (m : State). IsSound m []) (sym held) nothing_sound;
-  bounded = subst (λ (m : State). IsBounded m) (sym held) nothing_bounded;
+  sound = subst (λ (m : State). IsSound m []) (sym held) soundness.start;
+  bounded = subst (λ (m : State). IsBounded m) (sym held) bounds.start;
   counted = subst (λ (counts : FinMap nat_cmp Counters). IsCounted counts (state_of d) []) (sym none) (subst (λ (m : State). IsCounted empty m []) (sym held) counted_nothing);
 }

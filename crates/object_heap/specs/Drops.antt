@@ -1,4 +1,4 @@
--- One item of a heap was dropped.
+-- One item of a heap was dropped (for private functions alone).
 use Rattle.std.specs.Prelude.{List}
 use Rattle.trace_types.specs.declared.slots.Item.{Item}
 use Rattle.trace_types.specs.declared.outcomes.Event.{Event}

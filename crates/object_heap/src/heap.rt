@@ -6,6 +6,7 @@ ghost use Rattle.ownership_model.specs.State.{nothing_held, strong, weak, IsSoun
 ghost use Rattle.ownership_model.specs.Bounds.{IsBounded, ChangesFit};
 ghost use Rattle.ownership_model.specs.Changes.{changed, CanChange};
 ghost use Rattle.ownership_model.specs.Release.{release};
+ghost use Rattle.ownership_model.specs.Falling.{CascadesTo};
 
 use crate::counters::counters_of;
 use crate::draft::Draft;
@@ -143,6 +144,7 @@ impl Heap {
         requires sound { IsSound (changed self.now changes.now) pending.now }
         ensures state { IfOk result (λ r. r.0 ≡ (release (changed self.now changes.now) pending.now).state) }
         ensures events { IfOk result (λ r. r.1 ≡ (release (changed self.now changes.now) pending.now).events) }
+        ensures cascade { IfOk result (λ r. CascadesTo (changed self.now changes.now) r.0 r.1) }
     {
         self.share()?.released(alloc, changes, pending)
     }
@@ -159,6 +161,7 @@ impl Heap {
         requires sound { IsSound (changed self changes.now) pending.now }
         ensures state { IfOk result (λ r. r.0 ≡ (release (changed self changes.now) pending.now).state) }
         ensures events { IfOk result (λ r. r.1 ≡ (release (changed self changes.now) pending.now).events) }
+        ensures cascade { IfOk result (λ r. CascadesTo (changed self changes.now) r.0 r.1) }
     {
         let Heap { mut draft } = self;
         draft.apply(alloc, changes)?;

@@ -30,7 +30,7 @@ use Rattle.ownership_model.specs.Step.{step, carried_out, end_from, AreNew}
 use Rattle.ownership_model.specs.Laws.{BoundsHold}
 use Rattle.ownership_model.proofs.Twins.{IfThere}
 use Rattle.ownership_model.proofs.WalkLemmas as walk
-use Rattle.ownership_model.proofs.BoundLemmas.{standing_weight-le}
+use Rattle.ownership_model.proofs.BoundLemmas.{standing_weight-le, strong-le, weak-le}
 use Rattle.ownership_model.proofs.LimitLemmas.{length-slice_set, nothing_bounded, changed_bounded, release_bounded}
 use Rattle.ownership_model.proofs.CarryLemmas.{row_carriable, step_sound}
 
@@ -266,5 +266,6 @@ bounds_hold = record {
   rows = row_fits;
   steps = step_bounded;
   replays = λ m ops. end_bounded ops m;
-  counts = λ w m light. standing_weight-le w light m;
+  weights = λ w m light. standing_weight-le w light m;
+  counts = λ m pending o bounded. (strong-le m pending o bounded, weak-le m pending o bounded);
 }

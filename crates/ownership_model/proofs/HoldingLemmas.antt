@@ -11,7 +11,7 @@ use Rattle.ownership_model.specs.State.{State}
 use Rattle.ownership_model.specs.declared.leaks.Holder.{Holder}
 use Rattle.ownership_model.specs.Reach.{has}
 use Rattle.ownership_model.specs.Leaks.{holds, fields_holding, entry_holding, holders_in}
-use Rattle.ownership_model.proofs.ReachLemmas.{has_as_any}
+use Rattle.ownership_model.proofs.Searching.{has_as_any}
 use Rattle.ownership_model.proofs.LeakLemmas.{and_right}
 use Rattle.ownership_model.specs.ReachLaws.{has_holder, HoldsAt, HoldersHold}
 

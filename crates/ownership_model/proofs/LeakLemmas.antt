@@ -1,19 +1,23 @@
 -- The laws of reach, leaks and holders.
 use Rattle.std.proofs.Common.{◌≡◌, ℕ, List, [], ◌∷◌, refl, ◌∙◌, sym, arith, Bool, true, false}
-use Rattle.std.specs.Prelude.{◌&&◌, not, Option, Some, None, filter, is_some}
+use Rattle.std.specs.Prelude.{◌↔◌, ◌&&◌, not, Option, Some, None, filter, is_some}
 use Rattle.std.proofs.lemmas.Bool.Decides.{nat_tests}
 use Rattle.std.specs.FinMap.{get, keys, contains_key-keys}
 use Rattle.trace_types.specs.declared.slots.Entry.{Entry}
-use Rattle.ownership_model.specs.State.{is_alive}
+use Rattle.ownership_model.specs.State.{State, is_alive}
+use Rattle.ownership_model.specs.declared.link.Link.{Link}
 use Rattle.ownership_model.specs.declared.link.Link.TheVariants.{StrongOnly}
-use Rattle.ownership_model.specs.Reach.{is_reached, has}
+use Rattle.ownership_model.specs.Reach.{Reaches, IsReach, is_reached, has}
 use Rattle.ownership_model.specs.Leaks.{leaked_in}
 use Rattle.ownership_model.specs.ReachLaws.{ReachIsLeast, LeakedAreUnreached}
-use Rattle.ownership_model.proofs.ReachLemmas.{has_as_any}
-use Rattle.ownership_model.proofs.ReachedLemmas.{reached, has_reached}
+use Rattle.ownership_model.proofs.Searching.{has_as_any}
+use Rattle.ownership_model.proofs.ReachedLemmas.{reached, has_reached, is_reach}
 
-pub least : ReachIsLeast
+least : (by : Link) (m : State) (o : ℕ) → (is_reached by m o ≡ true) ↔ Reaches by m o
 least by m o = (λ h. (reached by m).reached o h, λ r. has_reached by m (λ q. is_reached by m q) (reached by m) o r)
+
+pub reach_holds : ReachIsLeast
+reach_holds = record { reached = least; only = is_reach }
 
 has-filter : (o : ℕ) (p : ℕ → Bool) (xs : List ℕ) → has o (filter p xs) ≡ (p o && has o xs)
 has-filter o p [] = grind arith

@@ -5,7 +5,7 @@ use Rattle.std.specs.Ordering.{nat_cmp}
 use Rattle.std.specs.FinMap.{FinMap, get, keys, contains_key-keys}
 use Rattle.std.proofs.lemmas.Bool.Decides.{nat_tests}
 use Rattle.ownership_model.specs.Reach.{has}
-use Rattle.ownership_model.proofs.ReachLemmas.{has-append, has_as_any, either, or_left, or_right}
+use Rattle.ownership_model.proofs.Searching.{has-append, has_as_any, either, or_left, or_right}
 
 -- the set has all names of a list
 abbrev pub HasAll : (ℕ → Bool) → List ℕ → Type 0

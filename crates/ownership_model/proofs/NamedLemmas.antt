@@ -16,7 +16,7 @@ use Rattle.ownership_model.specs.declared.link.Link.TheVariants.{StrongOnly}
 use Rattle.ownership_model.specs.Reach.{has, named, slots_names, holding_names, cell_names, entry_names, handle_names, all_cell_names, root_names}
 use Rattle.ownership_model.proofs.TotalLemmas.{weight_at, total-zero}
 use Rattle.ownership_model.proofs.CountLemmas.{total-cut}
-use Rattle.ownership_model.proofs.ReachLemmas.{has-append}
+use Rattle.ownership_model.proofs.Searching.{has-append}
 use Rattle.ownership_model.proofs.NameLemmas.{all_of_each, at_each_key, all_but, but_all}
 
 -- a number is nothing just where the test fails

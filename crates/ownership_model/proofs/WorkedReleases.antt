@@ -1,4 +1,4 @@
--- Worked releases: what becomes of objects, found by computation.
+-- Worked releases: what becomes of objects, found by computation. For the tests of the layers above too, which make these changes.
 use Rattle.std.proofs.Common.{refl, arith, zero, suc}
 use Rattle.std.specs.Prelude.{◌≡◌, List, [], ◌∷◌}
 use Rattle.trace_types.specs.declared.slots.Slot.TheVariants.{Strong, Weak}

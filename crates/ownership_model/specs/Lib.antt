@@ -11,11 +11,10 @@ pub mod Rows
 pub mod Step
 pub mod Carry
 pub mod Agrees
-pub mod Laws
 pub mod Patch
 pub mod Cascade
 pub mod Reach
-pub mod Searching
 pub mod Leaks
 pub mod Falling
+pub mod Laws
 pub mod ReachLaws

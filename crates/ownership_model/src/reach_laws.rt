@@ -1,5 +1,5 @@
-//! The laws of reach, leaks and holders, and of what a release destroys, each the contract of a function that does nothing.
-ghost use Rattle.ownership_model.specs.ReachLaws.{ReachIsLeast, LeakedAreUnreached, HoldersHold, DestroyedAreLeast};
+//! The laws of reach, leaks and holders, each the contract of a function that does nothing.
+ghost use Rattle.ownership_model.specs.ReachLaws.{ReachIsLeast, LeakedAreUnreached, HoldersHold};
 
 /// What counts as reached is the least set with what roots name and what fields of its members name.
 pub fn reach_is_least()
@@ -14,9 +14,4 @@ pub fn leaked_are_unreached()
 /// The holders of an object are all fields of values that are alive and name it by a strong slot.
 pub fn holders_hold()
     ensures { HoldersHold }
-{}
-
-/// Dropping what is pending destroys the least set of objects whose strong slots are all pending or in fields of its members.
-pub fn destroyed_are_least()
-    ensures { DestroyedAreLeast }
 {}

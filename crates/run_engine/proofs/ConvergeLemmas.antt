@@ -12,7 +12,7 @@ use Rattle.ownership_model.specs.Step.{end_from}
 use Rattle.run_engine.specs.Segments.{trace_of, mark_here, marks_from, AreReplayFrom, AreFull, BeginsMarked, IsRun, IsReached, all_marks}
 use Rattle.run_engine.specs.HeadAndTail.{ShareEnd}
 use Rattle.run_engine.specs.Bounds.{AgreesAt, StepsAtMost}
-use Rattle.ownership_model.proofs.ReplayLemmas.{end_from-append}
+use Rattle.ownership_model.proofs.LawsHold.{appends}
 use Rattle.run_engine.proofs.SegmentLemmas.{trace_of-append, AreReplayFrom-append, AreReplayFrom-back, length-trace_of-next}
 use Rattle.run_engine.proofs.ListingLemmas.{around}
 use Rattle.run_engine.proofs.PieceLemmas.{AreFull-append, AreFull-back}
@@ -106,8 +106,8 @@ IsSpliced-stop old end ops a b i at s segments heap run shared lt is marked plac
         full = AreFull-append segments (drop i old) h.full (AreFull-back (take i old) (drop i old) (subst AreFull (sym (take-append-drop i old)) run.full));
         begins = BeginsMarked-joined segments (drop i old) h.begins begins;
         state = run.state ∙ ap (end_from nothing_held) (ap trace_of (sym (take-append-drop i old)) ∙ trace_of-append (take i old) (drop i old))
-            ∙ end_from-append (trace_of (take i old)) (trace_of (drop i old)) nothing_held ∙ ap (λ m. end_from m (trace_of (drop i old))) here
-            ∙ sym (end_from-append (trace_of segments) (trace_of (drop i old)) nothing_held) ∙ ap (end_from nothing_held) (sym (trace_of-append segments (drop i old)));
+            ∙ appends.end nothing_held (trace_of (take i old)) (trace_of (drop i old)) ∙ ap (λ m. end_from m (trace_of (drop i old))) here
+            ∙ sym (appends.end nothing_held (trace_of segments) (trace_of (drop i old))) ∙ ap (end_from nothing_held) (sym (trace_of-append segments (drop i old)));
       };
       trace = trace;
     }

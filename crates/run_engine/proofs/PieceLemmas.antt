@@ -10,7 +10,7 @@ use Rattle.run_engine.specs.SegmentView.{SegmentView}
 use Rattle.trace_types.specs.declared.outcomes.Outcome.{Outcome}
 use Rattle.ownership_model.specs.Step.{end_from, outcomes_from, AreNew}
 use Rattle.run_engine.specs.Segments.{ops_of, trace_of, mark_here, marks_from, IsSegmentFrom, AreReplayFrom, AreFull, BeginsMarked, IsRun, IsReached, IsPiece}
-use Rattle.ownership_model.proofs.ReplayLemmas.{end_from-append, new_front, new_rest}
+use Rattle.ownership_model.proofs.LawsHold.{appends}
 use Rattle.run_engine.proofs.ListingLemmas.{around, take-shorter}
 use Rattle.run_engine.proofs.SegmentLemmas.{trace_of-append, marks_from-append, AreReplayFrom-append, AreReplayFrom-front, AreReplayFrom-back}
 
@@ -58,7 +58,7 @@ stretch-piece a b c s end heap after ops len run mark bare same fits is =
       replay = subst (λ n. AreReplayFrom n (s ∷ b)) (sym e) here;
       full = full;
       begins = subst (λ o. IsTrue (is_some o)) (sym mark) refl;
-      state = is ∙ ap (end_from nothing_held) (trace_of-append a (s ∷ b)) ∙ end_from-append (trace_of a) (trace_of (s ∷ b)) nothing_held ∙ ap (λ xs. end_from m xs) same ∙ ap (λ n. end_from n (take len ops)) (sym e);
+      state = is ∙ ap (end_from nothing_held) (trace_of-append a (s ∷ b)) ∙ appends.end nothing_held (trace_of a) (trace_of (s ∷ b)) ∙ ap (λ xs. end_from m xs) same ∙ ap (λ n. end_from n (take len ops)) (sym e);
       marks = λ at. ap (λ o. mark_here at o ++ marks_from (at + length (ops_of s)) b) mark ∙ ap (λ ps. at ∷ ps) (bare (at + length (ops_of s)));
     }
 
@@ -136,7 +136,7 @@ IsReached-next ops at to len segments more heap end h le within piece =
       replay = AreReplayFrom-append nothing_held segments more h.replay (subst (λ m. AreReplayFrom m more) here piece.replay);
       full = AreFull-append segments more h.full piece.full;
       begins = BeginsMarked-append segments more h.begins piece.begins;
-      state = piece.state ∙ ap (end_from heap) cut ∙ ap (λ m. end_from m (take len (drop at ops))) h.state ∙ sym (end_from-append (take at ops) (take len (drop at ops)) nothing_held) ∙ ap (end_from nothing_held) (sym (take-add at len ops));
+      state = piece.state ∙ ap (end_from heap) cut ∙ ap (λ m. end_from m (take len (drop at ops))) h.state ∙ sym (appends.end nothing_held (take at ops) (take len (drop at ops))) ∙ ap (end_from nothing_held) (sym (take-add at len ops));
     }
 
 pub mark-is : (old : List SegmentView) (i : ℕ) (s : SegmentView) (n : State) → AreReplayFrom nothing_held old → i < length old → s ≡ get_or old i s → Some n ≡ s.mark → n ≡ end_from nothing_held (trace_of (take i old))
@@ -162,14 +162,14 @@ IsPiece-of-more start end ops n m len segments le h =
 pub new-slice_range : (ops : List Operation) (heap : State) (at to : ℕ) → AreNew nothing_held ops → heap ≡ end_from nothing_held (take at ops) → AreNew heap (slice_range ops at to)
 new-slice_range ops heap at to new is =
     let m : State = end_from nothing_held (take at ops) in
-    let rest : AreNew m (drop at ops) = new_rest (take at ops) (drop at ops) nothing_held (subst (AreNew nothing_held) (sym (take-append-drop at ops)) new) in
-    let first : AreNew m (slice_range ops at to) = new_front (slice_range ops at to) (drop (to - at) (drop at ops)) m (subst (AreNew m) (sym (take-append-drop (to - at) (drop at ops))) rest) in
+    let rest : AreNew m (drop at ops) = appends.new_rest nothing_held (take at ops) (drop at ops) (subst (AreNew nothing_held) (sym (take-append-drop at ops)) new) in
+    let first : AreNew m (slice_range ops at to) = appends.new_front m (slice_range ops at to) (drop (to - at) (drop at ops)) (subst (AreNew m) (sym (take-append-drop (to - at) (drop at ops))) rest) in
     subst (λ n. AreNew n (slice_range ops at to)) (sym is) first
 
 -- and so are the first of them
 pub new-first : (heap : State) (ops : List Operation) (n m : ℕ) → n ≤ m → AreNew heap (take m ops) → AreNew heap (take n ops)
 new-first heap ops n m le new =
-    subst (AreNew heap) (take-shorter n m ops le) (new_front (take n (take m ops)) (drop n (take m ops)) heap (subst (AreNew heap) (sym (take-append-drop n (take m ops))) new))
+    subst (AreNew heap) (take-shorter n m ops le) (appends.new_front heap (take n (take m ops)) (drop n (take m ops)) (subst (AreNew heap) (sym (take-append-drop n (take m ops))) new))
 
 -- one segment is a piece
 pub IsPiece-one : (start end : State) (ops : List Operation) (outcomes : List Outcome) → 0 < length ops → outcomes ≡ outcomes_from start ops → end ≡ end_from start ops

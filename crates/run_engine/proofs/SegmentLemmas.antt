@@ -7,7 +7,7 @@ use Rattle.ownership_model.specs.State.{State}
 use Rattle.run_engine.specs.SegmentView.{SegmentView}
 use Rattle.ownership_model.specs.Step.{end_from, outcomes_from}
 use Rattle.run_engine.specs.Segments.{ops_of, trace_of, mark_here, marks_from, AreReplayFrom, outcomes_in, without_mark}
-use Rattle.ownership_model.proofs.ReplayLemmas.{end_from-append, outcomes_from-append}
+use Rattle.ownership_model.proofs.LawsHold.{appends}
 
 pub trace_of-append : (a b : List SegmentView) → trace_of (a ++ b) ≡ trace_of a ++ trace_of b
 trace_of-append [] b = refl
@@ -23,7 +23,7 @@ marks_from-append at (s ∷ a) b =
 pub AreReplayFrom-append : (m : State) (a b : List SegmentView) → AreReplayFrom m a → AreReplayFrom (end_from m (trace_of a)) b → AreReplayFrom m (a ++ b)
 AreReplayFrom-append m [] b h k = k
 AreReplayFrom-append m (s ∷ a) b h k =
-    (h.0, AreReplayFrom-append (end_from m (ops_of s)) a b h.1 (subst (λ n. AreReplayFrom n b) (end_from-append (ops_of s) (trace_of a) m) k))
+    (h.0, AreReplayFrom-append (end_from m (ops_of s)) a b h.1 (subst (λ n. AreReplayFrom n b) (appends.end m (ops_of s) (trace_of a)) k))
 
 pub AreReplayFrom-front : (m : State) (a b : List SegmentView) → AreReplayFrom m (a ++ b) → AreReplayFrom m a
 AreReplayFrom-front m [] b h = tt
@@ -31,14 +31,14 @@ AreReplayFrom-front m (s ∷ a) b h = (h.0, AreReplayFrom-front (end_from m (ops
 
 pub AreReplayFrom-back : (m : State) (a b : List SegmentView) → AreReplayFrom m (a ++ b) → AreReplayFrom (end_from m (trace_of a)) b
 AreReplayFrom-back m [] b h = h
-AreReplayFrom-back m (s ∷ a) b h = subst (λ n. AreReplayFrom n b) (sym (end_from-append (ops_of s) (trace_of a) m)) (AreReplayFrom-back (end_from m (ops_of s)) a b h.1)
+AreReplayFrom-back m (s ∷ a) b h = subst (λ n. AreReplayFrom n b) (sym (appends.end m (ops_of s) (trace_of a))) (AreReplayFrom-back (end_from m (ops_of s)) a b h.1)
 
 pub outcomes_in-replay : (m : State) (segments : List SegmentView) → AreReplayFrom m segments → outcomes_in segments ≡ outcomes_from m (trace_of segments)
 outcomes_in-replay m [] h = refl
 outcomes_in-replay m (s ∷ segments) h =
     ap (λ os. os ++ outcomes_in segments) h.0.outcomes
     ∙ ap (λ os. outcomes_from m (ops_of s) ++ os) (outcomes_in-replay (end_from m (ops_of s)) segments h.1)
-    ∙ sym (outcomes_from-append (ops_of s) (trace_of segments) m)
+    ∙ sym (appends.outcomes m (ops_of s) (trace_of segments))
 
 slice_get-append_left : {X : Type 0} (xs ys : List X) (i : ℕ) → i < length xs → slice_get (xs ++ ys) i ≡ slice_get xs i
 slice_get-append_left [] ys i h = absurd (omega arith)

@@ -3,7 +3,7 @@ use Rattle.std.specs.List.{list_any}
 use Rattle.std.specs.Ordering.{nat_cmp, is_eq}
 use Rattle.std.specs.BTreeSet.{contains}
 use Rattle.ownership_model.specs.Reach.{field_names, entry_names}
-use Rattle.ownership_model.proofs.ReachLemmas.{visit_start, visit_new, takes_last, grows_behind, work_falls, was_new, Joins, joins_from_update}
+use Rattle.ownership_model.proofs.Searching.{visit_start, visit_new, takes_last, grows_behind, work_falls, was_new, Joins, joins_from_update}
 use Rattle.object_heap.proofs.reach.reach.Goals as goal
 
 pub loop-object-init : goal.loop-object-init

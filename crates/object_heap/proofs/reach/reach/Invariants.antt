@@ -2,8 +2,7 @@ use Rattle.std.proofs.Common.{◌+◌, length}
 use Rattle.std.specs.Ordering.{nat_cmp}
 use Rattle.std.specs.FinMap.{keys}
 use Rattle.std.specs.BTreeSet.{contains}
-use Rattle.ownership_model.specs.Reach.{unseen}
-use Rattle.ownership_model.specs.Searching.{IsVisiting}
+use Rattle.ownership_model.proofs.Searching.{unseen, IsVisiting}
 use Rattle.object_heap.proofs.reach.reach.Given as goal
 
 abbrev pub invariant-loop-object : goal.invariant-loop-object

@@ -3,20 +3,19 @@ use Rattle.ownership_model.specs.Carry.{IsCarriable}
 use Rattle.ownership_model.specs.Bounds.{PlanFits}
 use Rattle.ownership_model.specs.Step.{Stepped}
 use Rattle.ownership_model.specs.declared.plan.Plan.{Plan}
-use Rattle.ownership_model.proofs.CarryLemmas.{row_carriable}
-use Rattle.ownership_model.proofs.FitLemmas.{row_fits}
+use Rattle.ownership_model.proofs.LawsHold.{soundness, bounds}
 use Rattle.op_step.proofs.StepLemmas.{carried_out-step}
 use Rattle.op_step.proofs.carry.stepped.Goals as goal
 
 pub carry_out-requires-clause-carriable : goal.carry_out-requires-clause-carriable
 carry_out-requires-clause-carriable c =
     subst (λ (p : Plan). IsCarriable c.args.heap p) (sym c.in_ok-planned.ensures)
-    (row_carriable c.args.heap c.args.op.now c.see_kept.ensures.sound c.requires)
+    (soundness.rows c.args.heap c.args.op.now c.see_kept.ensures.sound c.requires)
 
 pub carry_out-requires-clause-fits : goal.carry_out-requires-clause-fits
 carry_out-requires-clause-fits c =
     subst (λ (p : Plan). PlanFits p) (sym c.in_ok-planned.ensures)
-    (row_fits c.args.heap c.args.op.now c.see_kept.ensures.bounded c.id.ensures.within)
+    (bounds.rows c.args.heap c.args.op.now c.see_kept.ensures.bounded c.id.ensures.within)
 
 pub returns-clause-state : goal.returns-clause-state
 returns-clause-state c =

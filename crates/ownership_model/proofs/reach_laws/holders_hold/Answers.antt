@@ -1,5 +1,5 @@
-use Rattle.ownership_model.proofs.HoldingLemmas.{hold}
+use Rattle.ownership_model.proofs.LawsHold.{holders}
 use Rattle.ownership_model.proofs.reach_laws.holders_hold.Goals as goal
 
 pub returns : goal.returns
-returns c = hold
+returns c = holders

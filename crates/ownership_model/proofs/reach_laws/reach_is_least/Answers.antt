@@ -1,5 +1,5 @@
-use Rattle.ownership_model.proofs.LeakLemmas.{least}
+use Rattle.ownership_model.proofs.LawsHold.{reach}
 use Rattle.ownership_model.proofs.reach_laws.reach_is_least.Goals as goal
 
 pub returns : goal.returns
-returns c = least
+returns c = reach

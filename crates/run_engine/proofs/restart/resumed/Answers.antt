@@ -1,5 +1,5 @@
 use Rattle.std.proofs.Common.{◌≡◌, ◌-◌, length, take, sym, subst}
-use Rattle.ownership_model.proofs.ReplayLemmas.{distinct_new}
+use Rattle.ownership_model.proofs.LawsHold.{soundness}
 use Rattle.run_engine.specs.Segments.{all_marks}
 use Rattle.run_engine.specs.Bounds.{StepsAtMost}
 use Rattle.run_engine.specs.Steps.{AreStepped}
@@ -15,7 +15,7 @@ converge-requires-clause-front c =
     c.requires.run c.in_ok-front.ensures.kept c.in_ok-front.ensures.segments (subst (λ t. take c.head-first.result t ≡ take c.head-first.result c.args.ops.now) c.requires.old c.head-first.ensures.same) c.head-first.ensures.within
 
 pub converge-requires-clause-new : goal.converge-requires-clause-new
-converge-requires-clause-new c = distinct_new c.args.ops.now c.requires.trace.distinct
+converge-requires-clause-new c = soundness.are_new c.args.ops.now c.requires.trace.distinct
 
 pub converge-requires-clause-shared : goal.converge-requires-clause-shared
 converge-requires-clause-shared c =

@@ -6,7 +6,7 @@ use Rattle.trace_types.specs.declared.slots.Entry.{Entry}
 use Rattle.trace_types.specs.declared.slots.Entry.TheVariants.{Alive}
 use Rattle.trace_types.specs.declared.slots.Change.{Change}
 use Rattle.trace_types.specs.declared.slots.Change.TheVariants.{TurnHusk}
-use Rattle.ownership_model.proofs.TotalLemmas.{weight_at}
+use Rattle.ownership_model.proofs.Counting.{weight_at}
 use Rattle.ownership_model.specs.State.{slots_weight, entry_weight}
 use Rattle.object_heap.specs.declared.draft.Draft.{Draft}
 use Rattle.object_heap.specs.Counted.{state_of}

@@ -1,7 +1,7 @@
 use Rattle.std.proofs.Common.{length, ap, subst, sym, ◌∙◌, arith}
 use Rattle.ownership_model.specs.State.{nothing_held}
 use Rattle.ownership_model.specs.Step.{AreNew}
-use Rattle.ownership_model.proofs.ReplayLemmas.{distinct_new}
+use Rattle.ownership_model.proofs.LawsHold.{soundness}
 use Rattle.run_engine.proofs.LoadLemmas.{IsLoaded-none, IsLoaded-next}
 use Rattle.run_engine.proofs.PieceLemmas.{new-slice_range}
 use Rattle.run_engine.proofs.run.Run.load.Goals as goal
@@ -12,7 +12,7 @@ loop-front-init c = rw (c.new.ensures.items, c.empty.ensures) (IsLoaded-none c.a
 pub stepped-requires-clause-new : goal.stepped-requires-clause-new
 stepped-requires-clause-new c =
     let ops = c.as_slice-ops.result.now in
-    let new : AreNew nothing_held c.as_slice-ops.result.now = subst (AreNew nothing_held) (sym c.as_slice-ops.ensures.value) (distinct_new c.args.trace.now c.as_slice-ops.ensures.is_trace.distinct) in
+    let new : AreNew nothing_held c.as_slice-ops.result.now = subst (AreNew nothing_held) (sym c.as_slice-ops.ensures.value) (soundness.are_new c.args.trace.now c.as_slice-ops.ensures.is_trace.distinct) in
     rw c.in_ok-copies.ensures (new-slice_range c.as_slice-ops.result.now c.loop-front.front.heap c.loop-front.front.at _ new c.loop-front.invariant.front.state)
 
 pub loop-front-preserved : goal.loop-front-preserved

@@ -1,6 +1,7 @@
--- How a search visits one object more.
+-- A search for what is reached: what holds at each step of it, and why it ends. For the layers above too: `object_heap::reach`
+-- is such a search.
 use Rattle.std.proofs.Common.{◌≡◌, ℕ, ◌+◌, ◌<◌, ◌≤◌, List, [], ◌∷◌, ◌++◌, length, length-append, refl, ap, ◌∙◌, sym, subst, arith, Bool, true, false, cond}
-use Rattle.std.specs.Prelude.{not, Option, Some, None, ◌==◌, ◌||◌, is_some}
+use Rattle.std.specs.Prelude.{not, Option, Some, None, ◌==◌, ◌||◌, if◌then◌else◌, is_some}
 use Rattle.std.specs.List.{list_any}
 use Rattle.std.proofs.lemmas.Bool.Decides.{nat_tests}
 use Rattle.std.specs.Ordering.{nat_cmp, eq_by_cmp, is_eq}
@@ -8,8 +9,19 @@ use Rattle.std.specs.FinMap.{get, keys, contains_key-keys}
 use Rattle.trace_types.specs.declared.slots.Entry.{Entry}
 use Rattle.ownership_model.specs.State.{State}
 use Rattle.ownership_model.specs.declared.link.Link.{Link}
-use Rattle.ownership_model.specs.Reach.{root_names, field_names, entry_names, has, Reaches, Reaches.by_root, Reaches.by_field, IsReach, unseen}
-use Rattle.ownership_model.specs.Searching.{IsVisiting}
+use Rattle.ownership_model.specs.Reach.{root_names, field_names, entry_names, has, Reaches, Reaches.by_root, Reaches.by_field, IsReach}
+
+-- how many names stand in fields of objects that were not visited
+abbrev pub unseen : Link → State → (ℕ → Bool) → List ℕ → ℕ
+unseen by m k [] = 0
+unseen by m k (p ∷ ps) = (if k p then 0 else length (field_names by m p)) + unseen by m k ps
+
+-- a search that has visited k and has still to visit todo
+pub record IsVisiting (by : Link) (m : State) (k : ℕ → Bool) (todo : List ℕ) : Type 0 where
+  pub roots : (o : ℕ) → has o (root_names by m) ≡ true → (k o || has o todo) ≡ true
+  pub fields : (p : ℕ) (o : ℕ) → k p ≡ true → has o (field_names by m p) ≡ true → (k o || has o todo) ≡ true
+  pub visited : (o : ℕ) → k o ≡ true → Reaches by m o
+  pub waiting : (o : ℕ) → has o todo ≡ true → Reaches by m o
 
 pub has-append : (o : ℕ) (xs ys : List ℕ) → has o (xs ++ ys) ≡ (has o xs || has o ys)
 has-append o [] ys = refl
@@ -66,16 +78,7 @@ takes_last o todo rest is q = grind (arith, nat_tests, is, has-append)
 pub grows_behind : (rest names next : List ℕ) → next ≡ rest ++ names → Grows rest names next
 grows_behind rest names next is q = grind (arith, nat_tests, is, has-append)
 
--- the object taken off todo was visited before
-pub visit_old : (by : Link) (m : State) (k j : ℕ → Bool) (o : ℕ) (todo rest : List ℕ) → IsVisiting by m k todo → Takes o todo rest → k o ≡ true → ((q : ℕ) → j q ≡ k q) → IsVisiting by m j rest
-visit_old by m k j o todo rest v takes old same = record {
-  roots = λ q h. grind (arith, nat_tests, same q, same o, old, v.roots q h, takes q);
-  fields = λ p q h n. grind (arith, nat_tests, same p, same q, same o, old, v.fields p q (sym (same p) ∙ h) n, takes q);
-  visited = λ q h. v.visited q (sym (same q) ∙ h);
-  waiting = λ q h. v.waiting q (takes q ∙ or_right (q == o) (has q rest) h);
-}
-
--- it is new: what its fields name waits from now on
+-- the object taken off todo is new: what its fields name waits from now on
 pub visit_new : (by : Link) (m : State) (k j : ℕ → Bool) (o : ℕ) (todo rest next : List ℕ) → IsVisiting by m k todo → Takes o todo rest → Joins o k j → Grows rest (field_names by m o) next → IsVisiting by m j next
 visit_new by m k j o todo rest next v takes joins grows =
     let here : has o todo ≡ true = grind (arith, nat_tests, takes o) in

@@ -1,0 +1,58 @@
+-- The laws, each as the contract of its function in `laws` or `reach_laws` has it. For the layers above: their proofs cite a law by
+-- its name here.
+use Rattle.std.proofs.Common.{arith}
+use Rattle.ownership_model.specs.Laws.{AgreementHolds, SoundnessHolds, ReleasesInTurn, CascadeHolds, BoundsHold, AppendsHold}
+use Rattle.ownership_model.specs.ReachLaws.{ReachIsLeast, LeakedAreUnreached, HoldersHold}
+use Rattle.ownership_model.proofs.ReleaseLemmas.{release-nil, release-cons, work_drops}
+use Rattle.ownership_model.proofs.DropLemmas.{sound-drop_first, sound-release}
+use Rattle.ownership_model.proofs.CascadeLemmas.{course, freed_exactly}
+use Rattle.ownership_model.proofs.LeastLemmas.{kept_roots, destroyed}
+use Rattle.ownership_model.proofs.CarryLemmas.{row_carriable, step_sound}
+use Rattle.ownership_model.proofs.JoinedLemmas as joined
+use Rattle.ownership_model.proofs.ReplayLemmas.{appends_hold, nothing_sound, nothing_taken, distinct_new}
+use Rattle.ownership_model.proofs.FitLemmas.{bounds_hold}
+use Rattle.ownership_model.proofs.LeakLemmas.{reach_holds, unreached}
+use Rattle.ownership_model.proofs.HoldingLemmas.{hold}
+
+pub agreement : AgreementHolds
+agreement = joined.agreement_holds
+
+pub soundness : SoundnessHolds
+soundness = record {
+  start = nothing_sound;
+  unused = nothing_taken;
+  are_new = distinct_new;
+  rows = row_carriable;
+  steps = step_sound;
+  replays = joined.replays;
+}
+
+pub in_turn : ReleasesInTurn
+in_turn = record { none = release-nil; first = release-cons; sound = sound-drop_first; less = λ m x rest. omega (arith, work_drops m x rest) }
+
+pub cascade : CascadeHolds
+cascade = record {
+  sound = sound-release;
+  cascades = λ m pending sound. record {
+    handles = (kept_roots m pending).0;
+    cells = (kept_roots m pending).1;
+    destroyed = destroyed m pending sound;
+    courses = λ o. course m pending o sound;
+    freed = λ o. freed_exactly m pending o sound;
+  };
+}
+
+pub bounds : BoundsHold
+bounds = bounds_hold
+
+pub appends : AppendsHold
+appends = appends_hold
+
+pub reach : ReachIsLeast
+reach = reach_holds
+
+pub leaked : LeakedAreUnreached
+leaked = unreached
+
+pub holders : HoldersHold
+holders = hold
