@@ -88,7 +88,7 @@ returns-then-same-clause-marks c =
     subst (λ x. AreLaid (all_marks c.args.old.now) (marks_from 0 c.args.front.segments.items) c.args.front.at x (marks_from 0 c.in_ok-front.front.segments.items)) there (c.in_ok-front.ensures.marks _ _ c.loop-i.invariant.laid) in
     rw (c.in_ok-segments.ensures, take-rest c.loop-i.i c.args.old.now)
     (AreMarksOf-stop c.args.old.now c.in_ok-front.front.segments.items c.args.ops.now (marks_from 0 c.args.front.segments.items) c.args.a c.args.b c.loop-i.i c.loop-i.at c.args.front.at c.index-old-i.result
-    c.requires.shared c.loop-i-test.true c.index-old-i.is c.in-Some.mark.now (sym c.in-Some.ensures) c.loop-i.invariant.beside.place c.if-at-a.true
+    c.requires.run.full c.requires.shared c.loop-i-test.true c.index-old-i.is c.in-Some.mark.now (sym c.in-Some.ensures) c.loop-i.invariant.beside.place c.if-at-a.true
     (agreed c) (least-agreeing _ _ _ _ _ _ _ _ _ _ _ _ c.loop-i.invariant.beside)
     (IsReached-length _ _ _ _ c.in_ok-front.ensures.front ∙ there) ((spliced-raw c).trace) laid)
 
