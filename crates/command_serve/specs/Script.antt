@@ -8,7 +8,7 @@ use Rattle.trace_reader.specs.declared.script.Script.{Script}
 use Rattle.trace_reader.specs.FaultText.{fault_text}
 use Rattle.trace_reader.specs.Scripts.{read_script}
 use Rattle.trace_reader.specs.Writing.{lines_text}
-use Rattle.run_engine.specs.declared.faults.RunFault.{RunFault}
+use Rattle.run_engine.specs.declared.faults.Refusal.{Refusal}
 use Rattle.run_engine.specs.Edited.{edited_by}
 use Rattle.edit_desk.specs.declared.entries.Request.{Request}
 use Rattle.edit_desk.specs.declared.replies.Reply.{Reply}
@@ -52,9 +52,9 @@ only_batch [] = []
 only_batch (line ∷ lines) = line.batch
 
 -- the canonical lines of the edited trace and its report, or the line of the refusal
-abbrev pub whatif_edited : Result (List Operation) RunFault → Due
+abbrev pub whatif_edited : Result (List Operation) Refusal → Due
 whatif_edited (Ok ops) = record { text = lines_text ops ++ codes "--\n" ++ report_of_replay ops; is_fault = false }
-whatif_edited (Err fault) = record { text = reply_text (Refused fault) ++ 10 ∷ []; is_fault = true }
+whatif_edited (Err why) = record { text = reply_text (Refused why) ++ 10 ∷ []; is_fault = true }
 
 abbrev pub whatif_answer : Result Script LineFault → Due
 whatif_answer (Ok script) = whatif_edited (edited_by script.trace (only_batch script.requests))

@@ -25,6 +25,14 @@ too_long = record { text = codes "fault input TooLong\n"; is_fault = true }
 unfoldable pub due_of : (List ℕ → Due) → List ℕ → Due
 due_of answer input = if is_too_long input then too_long else answer input
 
+-- all of what is due was written, with the exit that tells so; or a front of it, where the sink failed or memory ran out
+abbrev pub IsAnswered : Due → Option (List ℕ) → Option (List ℕ) → Exit → Type 0
+IsAnswered due held held' Fine = (Fine ≡ exit_of due) × Appends held held' due.text
+IsAnswered due held held' Trace = (Trace ≡ exit_of due) × Appends held held' due.text
+IsAnswered due held held' Usage = ⊥
+IsAnswered due held held' Device = AppendsFront held held' due.text
+IsAnswered due held held' Memory = AppendsFront held held' due.text
+
 -- an input was read until a read gave no bytes, or until one byte more than is allowed
 abbrev pub IsRead : Option (List ℕ) → Option (List ℕ) → List ℕ → Type 0
 IsRead left left' input = (length input ≤ MAX_INPUT → IsAtEnd left')

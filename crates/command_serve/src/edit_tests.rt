@@ -1,9 +1,11 @@
 //! What `whatif` and `script` write.
 use crate::exits::Exit;
 use crate::script::serve_script;
+use crate::tests::many_nulls;
 use crate::whatif::serve_whatif;
 use std::alloc::Global;
 use std::process::Abort;
+use std::test::Fail;
 use trace_types::devices::{StdSink, StdSource};
 
 const ONE_NEW: &str = "1 new made #1 1/0
@@ -106,4 +108,19 @@ fn script_tells_the_fault(rt: HostRuntime) {
     let input = b"{\"id\":1,\"t\":0,\"op\":\"new\",\"to\":0,\"fields\":[]}\n--\n{\"base\":0}\n";
     let text = "fault line 3 Missing\n";
     expect(&rt, script(rt.alloc(), input), Exit::Trace, text);
+}
+
+#[test]
+fn full_trace_takes_no_operation_more(rt: HostRuntime) -> Result<(), Fail> {
+    let alloc = rt.alloc();
+    let mut input = many_nulls(alloc, 65_536)?;
+    input.push_str(
+        "--\n{\"base\":0,\"session\":0,\"edits\":[{\"edit\":\"insert\",\"after\":0,\"op\":{\"id\":65537,\"t\":0,\"op\":\"null\",\"to\":0}}]}\n",
+    )?;
+    let (exit, output) = script(alloc, input.as_bytes());
+    assert!(rt; exit == Exit::Fine);
+    let reply = b"refused TooMany 0\n";
+    let (front, _report) = output.as_slice().split_at(reply.len().min(output.len()));
+    assert!(rt; front == reply.as_slice());
+    Ok(())
 }

@@ -3,17 +3,18 @@ ghost use Rattle.std.specs.Prelude.{◌≡◌, ◌≢◌, ℕ, ◌+◌, ◌≤�
 ghost use Rattle.std.specs.Io.KnownBytes.{Consumes, IsAtEnd};
 
 use std::alloc::Global;
+use thiserror::Error;
 use trace_types::devices::Source;
 use trace_types::limits::MAX_INPUT;
 
 /// Why an input can't be had.
-#[derive(Clone, Copy, Debug, PartialEq, Eq)]
+#[derive(Clone, Copy, Debug, PartialEq, Eq, Error)]
 pub enum InputFault {
-    /// It has more than `MAX_INPUT` bytes.
+    #[error("the input has more than {MAX_INPUT} bytes")]
     TooLong,
-    /// A read failed.
+    #[error("a read failed")]
     Device,
-    /// Out of memory.
+    #[error("out of memory")]
     Memory,
 }
 

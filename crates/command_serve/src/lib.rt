@@ -1,6 +1,7 @@
 //! What each command reads, and what it writes.
 #![tactic(auto)]
 
+pub mod commands;
 #[cfg(test)]
 mod edit_tests;
 pub mod exits;

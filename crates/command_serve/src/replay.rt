@@ -1,17 +1,24 @@
 //! The command `replay`: a trace in, its report out.
-ghost use Rattle.std.specs.Prelude.{◌≡◌, ◌≢◌, ◌⊎◌, true, IfOk, IfErr};
-ghost use Rattle.command_serve.specs.Serve.{Serves, exit_of};
-ghost use Rattle.command_serve.specs.Replay.{replay_due, report_of_replay};
+ghost use Rattle.std.specs.Prelude.{◌≡◌, ◌≢◌, ◌⊎◌, ◌++◌, ◌∷◌, [], true, Ok, IfOk, IfErr, OnOk};
+ghost use Rattle.ownership_model.specs.State.{nothing_held};
+ghost use Rattle.ownership_model.specs.Step.{outcomes_from, end_from};
+ghost use Rattle.trace_reader.specs.FaultText.{fault_text};
+ghost use Rattle.command_serve.specs.Serve.{Serves, IsAnswered};
+ghost use Rattle.command_serve.specs.Replay.{replay_due, answer_of, report_of_replay};
 
 use crate::exits::Exit;
-use crate::serve::{Answers, serve};
+use crate::serve::{Answers, serve, write_text};
 use leak_report::report::report;
 use leak_report::text::text_of;
+use leak_report::write::{WriteFault, write_report};
+use object_heap::heap::Heap;
 use op_step::meter::Meter;
+use op_step::replay::replay;
 use run_engine::run::Run;
 use std::alloc::{AllocError, Global};
-use trace_reader::{LineCause, fault_line, read_trace};
+use trace_reader::{LineCause, LineFault, fault_line, read_trace};
 use trace_types::devices::{Sink, Source};
+use trace_types::outcomes::Outcome;
 use trace_types::trace::Trace;
 
 /// Reads a trace, and writes the report of its replay, or the line that tells the first fault.
@@ -30,30 +37,55 @@ impl Answers for Replay {
 
     ghost due = { replay_due };
 
-    fn answer(alloc: Global, input: &[u8]) -> Result<(Vec<u8>, Exit), Exit> {
-        answer_to(alloc, input)
+    fn answer<K: Sink>(alloc: Global, input: &[u8], sink: &mut K) -> Exit {
+        answer_to(alloc, input, sink)
     }
 }
 
-// The text that is due for an input, with the exit.
+// Writes what is due for an input.
 #[tactic(auto, unfolding(crate::specs::Replay::replay_due))]
-fn answer_to(alloc: Global, input: &[u8]) -> Result<(Vec<u8>, Exit), Exit>
-    ensures ok { IfOk result (λ r. (r.0.items ≡ (replay_due input.now).text) × (r.1 ≡ exit_of (replay_due input.now))) }
-    ensures err { IfErr result (λ e. e ≡ Exit.Memory) }
+fn answer_to<K: Sink>(alloc: Global, input: &[u8], sink: &mut K) -> Exit
+    ensures answered { IsAnswered (replay_due input.now) (K.held sink.old) (K.held sink.new) result }
+    ensures device { result ≡ Exit.Device → K.failed sink.new ≡ true }
+    ensures other { result ≢ Exit.Device → K.failed sink.new ≡ K.failed sink.old }
 {
     match read_trace(alloc, input) {
-        Ok(trace) => {
-            let text = report_on(alloc, &trace).map_err(|_| Exit::Memory)?;
-            Ok((text, Exit::Fine))
-        }
-        Err(fault) => {
-            if fault.cause == LineCause::Memory {
-                return Err(Exit::Memory);
-            }
-            let line = fault_line(alloc, &fault).map_err(|_| Exit::Memory)?;
-            Ok((line.into_bytes(), Exit::Trace))
-        }
+        Ok(trace) => report_to(alloc, &trace, sink),
+        Err(fault) => write_text(sink, told(alloc, &fault)),
     }
+}
+
+// Writes the report of a trace's replay.
+fn report_to<K: Sink>(alloc: Global, trace: &Trace, sink: &mut K) -> Exit
+    ensures answered { IsAnswered (answer_of (Ok trace.now)) (K.held sink.old) (K.held sink.new) result }
+    ensures device { result ≡ Exit.Device → K.failed sink.new ≡ true }
+    ensures other { result ≢ Exit.Device → K.failed sink.new ≡ K.failed sink.old }
+{
+    let mut meter = Meter::new();
+    let Ok((outcomes, end)) = replay(alloc, trace, &mut meter) else {
+        return Exit::Memory;
+    };
+    let Ok(report) = report(alloc, trace, outcomes.as_slice(), &end) else {
+        return Exit::Memory;
+    };
+    match write_report(alloc, sink, &report) {
+        Ok(()) => Exit::Fine,
+        Err(WriteFault::Device) => Exit::Device,
+        Err(WriteFault::Memory) => Exit::Memory,
+    }
+}
+
+// The line that tells a fault of the input, with the exit.
+fn told(alloc: Global, fault: &LineFault) -> Result<(Vec<u8>, Exit), Exit>
+    ensures cause { OnOk result (fault.now.cause ≢ LineCause.Memory) }
+    ensures ok { IfOk result (λ t. (t.0.items ≡ fault_text fault.now ++ 10 ∷ []) × (t.1 ≡ Exit.Trace)) }
+    ensures err { IfErr result (λ e. e ≡ Exit.Memory) }
+{
+    if fault.cause == LineCause::Memory {
+        return Err(Exit::Memory);
+    }
+    let line = fault_line(alloc, fault).map_err(|_| Exit::Memory)?;
+    Ok((line.into_bytes(), Exit::Trace))
 }
 
 /// The text of the report of a trace's replay.
@@ -61,8 +93,23 @@ pub fn report_on(alloc: Global, trace: &Trace) -> Result<Vec<u8>, AllocError>
     ensures { IfOk result (λ text. text.items ≡ report_of_replay trace.now) }
 {
     let mut meter = Meter::new();
-    let run = Run::load(alloc, trace, &mut meter)?;
-    text_on(alloc, trace, &run)
+    let (outcomes, end) = replay(alloc, trace, &mut meter)?;
+    text_with(alloc, trace, outcomes.as_slice(), &end)
+}
+
+// The text of the report of a trace's replay, by its outcomes and its end.
+fn text_with(
+    alloc: Global,
+    trace: &Trace,
+    outcomes: &[Outcome],
+    end: &Heap,
+) -> Result<Vec<u8>, AllocError>
+    requires outcomes { outcomes.now ≡ outcomes_from nothing_held trace.now }
+    requires end { end.now ≡ end_from nothing_held trace.now }
+    ensures { IfOk result (λ text. text.items ≡ report_of_replay trace.now) }
+{
+    let report = report(alloc, trace, outcomes, end)?;
+    Ok(text_of(alloc, &report)?.into_bytes())
 }
 
 /// The text of the report of a run.
@@ -70,15 +117,6 @@ pub fn report_on_run(alloc: Global, run: &Run) -> Result<Vec<u8>, AllocError>
     ensures { IfOk result (λ text. text.items ≡ report_of_replay run.now.trace) }
 {
     let trace = run.trace(alloc)?;
-    text_on(alloc, &trace, run)
-}
-
-// The text of the report of a run of this trace.
-fn text_on(alloc: Global, trace: &Trace, run: &Run) -> Result<Vec<u8>, AllocError>
-    requires { run.now.trace ≡ trace.now }
-    ensures { IfOk result (λ text. text.items ≡ report_of_replay trace.now) }
-{
     let outcomes = run.outcomes(alloc)?;
-    let report = report(alloc, trace, outcomes.as_slice(), run.end())?;
-    Ok(text_of(alloc, &report)?.into_bytes())
+    text_with(alloc, &trace, outcomes.as_slice(), run.end())
 }

@@ -7,7 +7,7 @@ ghost use Rattle.command_serve.specs.Script.{script_due, script_text, replies_te
 
 use crate::exits::Exit;
 use crate::replay::report_on_run;
-use crate::serve::{Answers, serve};
+use crate::serve::{Answers, serve, write_text};
 use edit_desk::desk::Desk;
 use edit_desk::entries::Request;
 use edit_desk::replies::push_reply;
@@ -32,8 +32,8 @@ impl Answers for Replies {
 
     ghost due = { script_due };
 
-    fn answer(alloc: Global, input: &[u8]) -> Result<(Vec<u8>, Exit), Exit> {
-        answer_to(alloc, input)
+    fn answer<K: Sink>(alloc: Global, input: &[u8], sink: &mut K) -> Exit {
+        write_text(sink, answer_to(alloc, input))
     }
 }
 

@@ -231,7 +231,8 @@ fn a_source_that_never_ends(rt: HostRuntime) {
     assert!(rt; output.as_slice() == b"fault input TooLong\n".as_slice());
 }
 
-fn many_nulls(alloc: Global, count: u32) -> Result<String, AllocError> {
+/// A trace of so many operations, one line each.
+pub fn many_nulls(alloc: Global, count: u32) -> Result<String, AllocError> {
     let mut text = String::new(alloc);
     for id in 1..count.saturating_add(1) {
         let to = id % (MAX_NAME + 1);

@@ -11,10 +11,10 @@ ghost use Rattle.command_serve.specs.Script as Script;
 
 use crate::exits::Exit;
 use crate::replay::report_on;
-use crate::serve::{Answers, serve};
+use crate::serve::{Answers, serve, write_text};
 use edit_desk::replies::{Reply, push_reply};
 use run_engine::edits::apply;
-use run_engine::faults::RunFault;
+use run_engine::faults::Refusal;
 use std::alloc::{AllocError, Global};
 use trace_reader::{LineCause, RequestLine, fault_line, read_script, write_trace};
 use trace_types::devices::{Sink, Source};
@@ -39,8 +39,8 @@ impl Answers for Whatif {
 
     ghost due = { whatif_due };
 
-    fn answer(alloc: Global, input: &[u8]) -> Result<(Vec<u8>, Exit), Exit> {
-        answer_to(alloc, input)
+    fn answer<K: Sink>(alloc: Global, input: &[u8], sink: &mut K) -> Exit {
+        write_text(sink, answer_to(alloc, input))
     }
 }
 
@@ -85,11 +85,13 @@ fn edited(alloc: Global, trace: &Trace, batch: &Batch) -> Result<(Vec<u8>, Exit)
             let text = told(alloc, &edited).map_err(|_| Exit::Memory)?;
             Ok((text, Exit::Fine))
         }
-        Err(RunFault::Memory) => Err(Exit::Memory),
-        Err(fault) => {
-            let line = refusal(alloc, fault).map_err(|_| Exit::Memory)?;
-            Ok((line, Exit::Trace))
-        }
+        Err(fault) => match fault.refusal() {
+            Some(why) => {
+                let line = refusal(alloc, why).map_err(|_| Exit::Memory)?;
+                Ok((line, Exit::Trace))
+            }
+            None => Err(Exit::Memory),
+        },
     }
 }
 
@@ -104,10 +106,10 @@ fn told(alloc: Global, trace: &Trace) -> Result<Vec<u8>, AllocError>
     Ok(text)
 }
 
-fn refusal(alloc: Global, fault: RunFault) -> Result<Vec<u8>, AllocError>
-    ensures { IfOk result (λ text. text.items ≡ reply_text (Refused fault) ++ 10 ∷ []) }
+fn refusal(alloc: Global, why: Refusal) -> Result<Vec<u8>, AllocError>
+    ensures { IfOk result (λ text. text.items ≡ reply_text (Refused why) ++ 10 ∷ []) }
 {
     let mut text = String::new(alloc);
-    push_reply(&mut text, Reply::Refused(fault))?;
+    push_reply(&mut text, Reply::Refused(why))?;
     Ok(text.into_bytes())
 }

@@ -9,6 +9,7 @@ ghost use Rattle.clap.specs.Values.{kind_of};
 use clap::ArgMatches;
 use clap::error::ErrorKind;
 use std::alloc::{AllocError, Global};
+use thiserror::Error;
 
 /// What the program is to do.
 #[derive(Clone, Copy, Debug, PartialEq, Eq)]
@@ -22,11 +23,12 @@ pub enum Command {
 }
 
 /// Why the words name no command.
-#[derive(Debug, Drop)]
+#[derive(Debug, Drop, Error)]
 pub enum WordsFault {
     /// The words are none that the program takes, or ask for help: the error's text is what is to be shown.
+    #[error("{0}")]
     Usage(clap::Error),
-    /// Out of memory.
+    #[error("out of memory")]
     Memory,
 }
 

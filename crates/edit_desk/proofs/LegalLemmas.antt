@@ -4,7 +4,7 @@ use Rattle.std.specs.Prelude.{◌==◌, nat_le, if◌then◌else◌, Result, Ok,
 use Rattle.std.proofs.lemmas.Bool.Decides.{nat_tests}
 use Rattle.trace_types.specs.Operation.{Operation}
 use Rattle.trace_types.specs.declared.limits.TheConstants.{MAX_ENTRIES}
-use Rattle.run_engine.specs.declared.faults.RunFault.{RunFault}
+use Rattle.run_engine.specs.declared.faults.Refusal.{Refusal}
 use Rattle.run_engine.specs.Edited.{edited_by}
 use Rattle.edit_desk.specs.declared.replies.Reply.{Reply}
 use Rattle.edit_desk.specs.declared.replies.Reply.TheVariants.{Stale, HistoryFull}
@@ -13,7 +13,7 @@ use Rattle.edit_desk.specs.declared.entries.Entry.{Entry}
 use Rattle.edit_desk.specs.Answers.{Standing, settled, reply_to, after_reply, after, LeadsTo}
 
 -- the reply by what it depends on
-abbrev chosen : Bool → Bool → ℕ → Result (List Operation) RunFault → Reply
+abbrev chosen : Bool → Bool → ℕ → Result (List Operation) Refusal → Reply
 chosen full same v x = if full then HistoryFull else (if same then settled v x else Stale v)
 
 -- an entry that was answered rightly leads one step further
@@ -22,18 +22,18 @@ pub appended : (s : Standing) (es : List Entry) (end : Standing) (e : Entry) →
 appended s [] end e is reply = (reply ∙ ap (λ (x : Standing). reply_to x e.request) (sym is), ap (λ (x : Standing). after x e.session e.request) is)
 appended s (x ∷ es) end e leads reply = (leads.0, appended (after s x.session x.request) es end e leads.1 reply)
 
-stored : (s : Standing) (e : Entry) (full same : Bool) (x : Result (List Operation) RunFault) → full ≡ false
+stored : (s : Standing) (e : Entry) (full same : Bool) (x : Result (List Operation) Refusal) → full ≡ false
     → (after_reply s e (chosen full same s.version x)).history ≡ s.history ++ e ∷ []
 stored s e true same x is = absurd cc
 stored s e false true (Ok ops) is = refl
-stored s e false true (Err fault) is = refl
+stored s e false true (Err why) is = refl
 stored s e false false x is = refl
 
-one_more : (s : Standing) (e : Entry) (full same : Bool) (x : Result (List Operation) RunFault)
+one_more : (s : Standing) (e : Entry) (full same : Bool) (x : Result (List Operation) Refusal)
     → (after_reply s e (chosen full same s.version x)).version ≤ s.version + 1
 one_more s e true same x = omega arith
 one_more s e false true (Ok ops) = omega arith
-one_more s e false true (Err fault) = omega arith
+one_more s e false true (Err why) = omega arith
 one_more s e false false x = omega arith
 
 is_room : (n : ℕ) → n < MAX_ENTRIES → nat_le MAX_ENTRIES n ≡ false

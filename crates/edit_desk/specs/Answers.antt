@@ -2,7 +2,7 @@
 use Rattle.std.specs.Prelude.{◌≡◌, ℕ, ◌+◌, ◌==◌, List, [], ◌∷◌, ◌++◌, length, nat_le, if◌then◌else◌, Result, Ok, Err}
 use Rattle.trace_types.specs.Operation.{Operation}
 use Rattle.trace_types.specs.declared.limits.TheConstants.{MAX_ENTRIES}
-use Rattle.run_engine.specs.declared.faults.RunFault.{RunFault}
+use Rattle.run_engine.specs.declared.faults.Refusal.{Refusal}
 use Rattle.run_engine.specs.Edited.{edited_by}
 use Rattle.edit_desk.specs.declared.replies.Reply.{Reply}
 use Rattle.edit_desk.specs.declared.replies.Reply.TheVariants.{Accepted, Stale, Refused, HistoryFull}
@@ -22,9 +22,9 @@ abbrev pub opened : List Operation → Standing
 opened trace = record { opening = trace; trace = trace; version = 0; history = [] }
 
 -- the reply to edits of the version that stands, by what they make of its trace
-abbrev pub settled : ℕ → Result (List Operation) RunFault → Reply
+abbrev pub settled : ℕ → Result (List Operation) Refusal → Reply
 settled version (Ok ops) = Accepted (version + 1)
-settled version (Err fault) = Refused fault
+settled version (Err why) = Refused why
 
 -- the reply to a request that a history has room for, by the version and the trace that stand
 abbrev pub reply_with_room : ℕ → List Operation → Request → Reply
@@ -35,29 +35,29 @@ abbrev pub reply_to : Standing → Request → Reply
 reply_to s r = if nat_le MAX_ENTRIES (length s.history) then HistoryFull else reply_with_room s.version s.trace r
 
 -- the edited trace, or the one that stands where the edits are refused
-abbrev pub edited_or : List Operation → Result (List Operation) RunFault → List Operation
+abbrev pub edited_or : List Operation → Result (List Operation) Refusal → List Operation
 edited_or trace (Ok ops) = ops
-edited_or trace (Err fault) = trace
+edited_or trace (Err why) = trace
 
 -- the trace after a reply: an accepted request alone changes it
 abbrev pub next_trace : List Operation → Request → Reply → List Operation
 next_trace trace r (Accepted version) = edited_or trace (edited_by trace r.batch)
 next_trace trace r (Stale version) = trace
-next_trace trace r (Refused fault) = trace
+next_trace trace r (Refused why) = trace
 next_trace trace r HistoryFull = trace
 
 -- the version after a reply
 abbrev pub next_version : ℕ → Reply → ℕ
 next_version now (Accepted version) = version
 next_version now (Stale version) = now
-next_version now (Refused fault) = now
+next_version now (Refused why) = now
 next_version now HistoryFull = now
 
 -- the history after a reply: each request that is answered otherwise than by HistoryFull is stored
 abbrev pub next_history : List Entry → Entry → Reply → List Entry
 next_history history e (Accepted version) = history ++ e ∷ []
 next_history history e (Stale version) = history ++ e ∷ []
-next_history history e (Refused fault) = history ++ e ∷ []
+next_history history e (Refused why) = history ++ e ∷ []
 next_history history e HistoryFull = history
 
 -- what stands after a reply

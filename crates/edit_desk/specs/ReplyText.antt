@@ -1,27 +1,25 @@
 -- The text of a reply (profile of this project).
 use Rattle.std.specs.Prelude.{ℕ, List, ◌++◌, codes, decimal}
-use Rattle.run_engine.specs.declared.faults.RunFault.{RunFault}
-use Rattle.run_engine.specs.declared.faults.RunFault.TheVariants as fault
+use Rattle.run_engine.specs.declared.faults.Refusal.{Refusal}
+use Rattle.run_engine.specs.declared.faults.Refusal.TheVariants.{NoSuchOp, IdTaken, TooMany, EmptyBatch, TooManyEdits}
 use Rattle.edit_desk.specs.declared.replies.Reply.{Reply}
 use Rattle.edit_desk.specs.declared.replies.Reply.TheVariants.{Accepted, Stale, Refused, HistoryFull}
 
--- no reply has the cause Memory
-abbrev pub cause_text : RunFault → List ℕ
-cause_text (fault.NoSuchOp edit) = codes "NoSuchOp"
-cause_text (fault.IdTaken edit) = codes "IdTaken"
-cause_text (fault.TooMany edit) = codes "TooMany"
-cause_text fault.EmptyBatch = codes "EmptyBatch"
-cause_text fault.TooManyEdits = codes "TooManyEdits"
-cause_text fault.Memory = codes "Memory"
+-- the cause of a refusal
+abbrev pub cause_text : Refusal → List ℕ
+cause_text (NoSuchOp edit) = codes "NoSuchOp"
+cause_text (IdTaken edit) = codes "IdTaken"
+cause_text (TooMany edit) = codes "TooMany"
+cause_text EmptyBatch = codes "EmptyBatch"
+cause_text TooManyEdits = codes "TooManyEdits"
 
 -- the index of the edit that is refused, from 0; 0 where it is the batch
-abbrev pub edit_index : RunFault → ℕ
-edit_index (fault.NoSuchOp edit) = edit
-edit_index (fault.IdTaken edit) = edit
-edit_index (fault.TooMany edit) = edit
-edit_index fault.EmptyBatch = 0
-edit_index fault.TooManyEdits = 0
-edit_index fault.Memory = 0
+abbrev pub edit_index : Refusal → ℕ
+edit_index (NoSuchOp edit) = edit
+edit_index (IdTaken edit) = edit
+edit_index (TooMany edit) = edit
+edit_index EmptyBatch = 0
+edit_index TooManyEdits = 0
 
 -- the line of a reply, without its newline
 abbrev pub reply_text : Reply → List ℕ

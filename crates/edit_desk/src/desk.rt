@@ -11,10 +11,9 @@ ghost use Rattle.op_step.specs.Meter.{raised};
 
 use crate::entries::{Entry, Request};
 use crate::prepared::Prepared;
-use crate::published::Published;
+use crate::published::{Published, what_if};
 use crate::replies::Reply;
 use op_step::meter::Meter;
-use run_engine::faults::RunFault;
 use run_engine::run::Run;
 use std::alloc::{AllocError, Global};
 use std::marker::Model;
@@ -126,6 +125,8 @@ impl Desk {
         request: Request,
     ) -> Result<Reply, AllocError>
         ensures reply { IfOk result (λ r. r ≡ reply_to self.old.standing request) }
+        // A full history is told without memory.
+        ensures room { OnErr result (length self.old.standing.history < max_entries) }
         ensures after { OnOk result (self.new.standing ≡ after self.old.standing session request) }
         ensures unchanged { OnErr result (self.new.standing ≡ self.old.standing) }
         ensures run { OnOk result (let next : RunView = record { trace = self.new.standing.trace; marks = self.new.marks } in IsNextRun self.old.standing.trace self.old.marks next) }
@@ -135,6 +136,7 @@ impl Desk {
         ensures full { MAX_ENTRIES ≤ length self.old.standing.history → self.new.meter ≡ self.old.meter }
         ensures stale { request.base ≢ self.old.standing.version → self.new.meter ≡ self.old.meter }
         ensures refused { IsErr (edited_by self.old.standing.trace request.batch) → self.new.meter ≡ self.old.meter }
+        ensures never_less { self.old.meter ≤ self.new.meter }
     {
         if self.history.len() >= MAX_ENTRIES {
             return Ok(Reply::HistoryFull);
@@ -162,6 +164,7 @@ impl Desk {
         ensures stepped { OnOk result (request.base ≡ self.old.standing.version → StepsAtLeast self.old.standing.trace self.old.marks request.batch self.old.meter self.new.meter) }
         ensures stale { request.base ≢ self.old.standing.version → self.new.meter ≡ self.old.meter }
         ensures refused { IsErr (edited_by self.old.standing.trace request.batch) → self.new.meter ≡ self.old.meter }
+        ensures never_less { self.old.meter ≤ self.new.meter }
     {
         let (reply, next) = settle(alloc, &self.published, &request, &mut self.meter)?;
         self.history.reserve(1)?;
@@ -206,17 +209,20 @@ fn settle(
     ensures stepped { OnOk result (request.now.base ≡ published.now.version → StepsAtLeast published.now.run.trace published.now.run.marks request.now.batch meter.old meter.new) }
     ensures stale { request.now.base ≢ published.now.version → meter.new ≡ meter.old }
     ensures refused { IsErr (edited_by published.now.run.trace request.now.batch) → meter.new ≡ meter.old }
+    ensures never_less { meter.old ≤ meter.new }
 {
     let version = published.version();
     if request.base != version {
         return Ok((Reply::Stale(version), published.share()?));
     }
-    match published.run().edited(alloc, &request.batch, meter) {
+    match what_if(alloc, published, &request.batch, meter) {
         Ok(run) => {
             let next = Published::new(alloc, version + 1, run)?;
             Ok((Reply::Accepted(version + 1), next))
         }
-        Err(RunFault::Memory) => Err(AllocError),
-        Err(fault) => Ok((Reply::Refused(fault), published.share()?)),
+        Err(fault) => match fault.refusal() {
+            Some(why) => Ok((Reply::Refused(why), published.share()?)),
+            None => Err(AllocError),
+        },
     }
 }

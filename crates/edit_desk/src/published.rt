@@ -1,10 +1,10 @@
 //! A version of the trace, with its run.
-ghost use Rattle.std.specs.Prelude.{◌≡◌, ◌⊎◌, IfOk, IfErr, IsErr, Ok, Err};
-ghost use Rattle.run_engine.specs.Edited.{edited_by};
+ghost use Rattle.std.specs.Prelude.{◌≡◌, ◌<◌, ◌≤◌, length, IfOk, IfErr, IsErr, Ok, Err};
+ghost use Rattle.run_engine.specs.Edited.{edited_by, IsFaultOf};
 ghost use Rattle.run_engine.specs.NewMarks.{AreMarksAfter};
 ghost use Rattle.run_engine.specs.Steps.{AreSteppedFrom};
 ghost use Rattle.edit_desk.specs.Versions.{ReplaysWithin};
-ghost use Rattle.run_engine.specs.declared.faults.RunFault.TheVariants.{Memory};
+ghost use Rattle.run_engine.specs.declared.faults.RunFault.TheVariants.{EmptyBatch, TooManyEdits};
 ghost use Rattle.trace_reader.specs.Writing.{lines_text};
 
 use op_step::meter::Meter;
@@ -76,10 +76,13 @@ pub fn what_if(
 ) -> Result<Run, RunFault>
     ensures trace { IfOk result (λ r. edited_by published.now.run.trace batch.now ≡ Ok r.trace) }
     ensures marks { IfOk result (λ r. AreMarksAfter published.now.run r) }
-    ensures fault { IfErr result (λ e. (e ≡ Memory) ⊎ (edited_by published.now.run.trace batch.now ≡ Err e)) }
+    ensures fault { IfErr result (IsFaultOf (edited_by published.now.run.trace batch.now)) }
+    ensures empty { length batch.now ≡ 0 → result ≡ Err EmptyBatch }
+    ensures too_many { 64 < length batch.now → result ≡ Err TooManyEdits }
     ensures bound { ReplaysWithin published.now.run.trace published.now.run.marks batch.now meter.old meter.new }
     ensures stepped { IfOk result (λ r. AreSteppedFrom published.now.run.trace r.trace published.now.run.marks meter.old meter.new) }
     ensures refused { IsErr (edited_by published.now.run.trace batch.now) → meter.new ≡ meter.old }
+    ensures never_less { meter.old ≤ meter.new }
 {
     published.run.edited(alloc, batch, meter)
 }

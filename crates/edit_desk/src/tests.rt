@@ -5,7 +5,7 @@ use crate::entries::Request;
 use crate::published::{export, what_if};
 use crate::replies::{Reply, push_reply};
 use op_step::meter::Meter;
-use run_engine::faults::RunFault;
+use run_engine::faults::Refusal;
 use std::test::Fail;
 use trace_types::edits::{Batch, Edit};
 use trace_types::kinds::Kind;
@@ -38,13 +38,13 @@ fn desk_replies(rt: HostRuntime) -> Result<(), Fail> {
     let mut desk = opened(&rt)?;
     let batch = removal(&rt, 1, 0)?;
     let reply = desk.answer(alloc, 0, Request { base: 0, batch })?;
-    assert_eq!(rt; reply, Reply::Refused(RunFault::EmptyBatch));
+    assert_eq!(rt; reply, Reply::Refused(Refusal::EmptyBatch));
     let batch = removal(&rt, 1, 65)?;
     let reply = desk.answer(alloc, 0, Request { base: 0, batch })?;
-    assert_eq!(rt; reply, Reply::Refused(RunFault::TooManyEdits));
+    assert_eq!(rt; reply, Reply::Refused(Refusal::TooManyEdits));
     let batch = removal(&rt, 1, 2)?;
     let reply = desk.answer(alloc, 0, Request { base: 0, batch })?;
-    assert_eq!(rt; reply, Reply::Refused(RunFault::NoSuchOp(1)));
+    assert_eq!(rt; reply, Reply::Refused(Refusal::NoSuchOp(1)));
     let batch = removal(&rt, 1, 1)?;
     let reply = desk.answer(alloc, 3, Request { base: 5, batch })?;
     assert_eq!(rt; reply, Reply::Stale(0));
@@ -58,7 +58,7 @@ fn desk_replies(rt: HostRuntime) -> Result<(), Fail> {
     assert_eq!(rt; last.session, 3);
     let mut text = String::new(alloc);
     push_reply(&mut text, reply)?;
-    push_reply(&mut text, Reply::Refused(RunFault::NoSuchOp(1)))?;
+    push_reply(&mut text, Reply::Refused(Refusal::NoSuchOp(1)))?;
     assert!(rt; text.as_str() == "accepted 1\nrefused NoSuchOp 1\n");
     Ok(())
 }
@@ -71,9 +71,13 @@ fn prepared_request_counts_when_committed(rt: HostRuntime) -> Result<(), Fail> {
     let prepared = desk.prepare(alloc, 2, Request { base: 0, batch })?;
     assert_eq!(rt; prepared.published().version(), 1);
     assert_eq!(rt; prepared.published().run().len(), 0);
+    assert_eq!(rt; prepared.entry().session, 2);
+    assert_eq!(rt; prepared.entry().reply, Reply::Accepted(1));
     assert_eq!(rt; desk.version(), 0);
     assert_eq!(rt; desk.len(), 0);
     assert_eq!(rt; desk.commit(prepared), Reply::Accepted(1));
+    // The operation of the opening trace; its removal replays none.
+    assert_eq!(rt; desk.meter().count(), 1);
     assert_eq!(rt; desk.version(), 1);
     assert_eq!(rt; desk.published().run().len(), 0);
     assert_eq!(rt; desk.opening().len(), 1);

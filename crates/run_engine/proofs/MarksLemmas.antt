@@ -1,56 +1,58 @@
 -- The checkpoints of an edited trace.
-use Rattle.std.proofs.Common.{IsTrue, IfSome, is_some, add-zero, suc, true, false}
+use Rattle.std.proofs.Common.{IsTrue, IfSome, is_some, add-zero, zero, suc, Bool, true, false, cond, nat_lt, le-ltb, lt-ltb}
 use Rattle.run_engine.proofs.SegmentLemmas.{trace_of-append}
 use Rattle.std.proofs.Common.{◌≡◌, ℕ, ◌+◌, ◌-◌, ◌<◌, ◌≤◌, List, [], ◌∷◌, ◌++◌, length, take, drop, get_or, refl, ap, sym, subst, ◌∙◌, arith, append_assoc, length-append, take-append-drop}
-use Rattle.std.specs.Prelude.{Some, None, Option, map, Contains}
+use Rattle.std.specs.Prelude.{Some, None, Option, map, filter, Contains}
 use Rattle.std.proofs.lemmas.List.{append-nil, take_more, map-append, length-take, drop-drop}
 use mathlib.Core.Logic.{⊎_elim, inl, inr}
-use Rattle.std.proofs.lemmas.List.Elements.{Contains-append_cases}
+use Rattle.std.proofs.lemmas.List.Elements.{Contains-append_cases, Contains-append_right, filter-append}
 use Rattle.ownership_model.specs.State.{State}
-use Rattle.std.specs.List.{AllByRecursion}
 use Rattle.trace_types.specs.Operation.{Operation}
 use Rattle.run_engine.specs.SegmentView.{SegmentView}
 use Rattle.run_engine.specs.Segments.{ops_of, trace_of, mark_here, marks_from, all_marks, AreFull, BeginsMarked, IsRun, IsRestart, IsReached, IsPiece}
 use Rattle.run_engine.specs.HeadAndTail.{ShareEnd, AreShared}
 use Rattle.run_engine.specs.Bounds.{AgreesAt}
-use Rattle.run_engine.specs.NewMarks.{places, past, IsGap, AreNeighbours, AreLaid, AreMarksOf, AreMarksAfter}
-use Rattle.run_engine.proofs.SegmentLemmas.{marks_from-append}
+use Rattle.run_engine.specs.NewMarks.{IsGap, AreNeighbours, LeadTo, AreLaid, AreMarksOf, AreMarksAfter}
+use Rattle.run_engine.proofs.SegmentLemmas.{marks_from-append, length-trace_of-next}
 use Rattle.run_engine.proofs.ListingLemmas.{around}
-use Rattle.run_engine.proofs.PieceLemmas.{AreFull-front, mark-is}
+use Rattle.run_engine.proofs.PieceLemmas.{AreFull-front, AreFull-back, mark-is}
 use Rattle.std.proofs.Math.Seq.{take-append_seam, drop-append_seam}
 use Rattle.ownership_model.specs.State.{nothing_held}
 use Rattle.ownership_model.specs.Step.{end_from}
 use Rattle.run_engine.specs.Steps.{IsOldStretch, AreRising}
-use Rattle.run_engine.proofs.PlaceLemmas.{marks-at, place-within, Contains-none, Contains-one, mark_here-place, marks_from-least}
+use Rattle.run_engine.proofs.PlaceLemmas.{marks-at, mark-there, end-mark, all-within, place-within, Contains-none, Contains-one, mark_here-place, marks_from-least}
 use Rattle.run_engine.proofs.ConvergeLemmas.{ShareEnd-length}
 
-places-append : (r : ℕ) (gaps : List ℕ) (g : ℕ) → places r (gaps ++ g ∷ []) ≡ places r gaps ++ past r gaps ∷ []
-places-append r [] g = refl
-places-append r (h ∷ gaps) g = ap (λ ps. r ∷ ps) (places-append (r + h) gaps g)
+-- a test that no position passes, and one that each passes
+none-pass : (test : ℕ → Bool) (ps : List ℕ) → ((p : ℕ) → Contains ps p → test p ≡ false) → filter test ps ≡ []
+none-pass test [] h = refl
+none-pass test (p ∷ ps) h =
+    ap (λ b. cond b (p ∷ filter test ps) (filter test ps)) (h p (zero, omega arith, refl)) ∙ none-pass test ps (λ q k. h q (Contains-append_right (p ∷ []) ps q k))
 
-past-append : (r : ℕ) (gaps : List ℕ) (g : ℕ) → past r (gaps ++ g ∷ []) ≡ past r gaps + g
-past-append r [] g = refl
-past-append r (h ∷ gaps) g = past-append (r + h) gaps g
+all-pass : (test : ℕ → Bool) (ps : List ℕ) → ((p : ℕ) → Contains ps p → test p ≡ true) → filter test ps ≡ ps
+all-pass test [] h = refl
+all-pass test (p ∷ ps) h =
+    ap (λ b. cond b (p ∷ filter test ps) (filter test ps)) (h p (zero, omega arith, refl)) ∙ ap (λ qs. p ∷ qs) (all-pass test ps (λ q k. h q (Contains-append_right (p ∷ []) ps q k)))
 
-AllByRecursion-append : (P : ℕ → Type 0) (gaps : List ℕ) (g : ℕ) → AllByRecursion P gaps → P g → AllByRecursion P (gaps ++ g ∷ [])
-AllByRecursion-append P [] g h k = (k, tt)
-AllByRecursion-append P (x ∷ gaps) g h k = (h.0, AllByRecursion-append P gaps g h.1 k)
+LeadTo-append : (old : List ℕ) (r : ℕ) (fresh : List ℕ) (at len : ℕ) → LeadTo old r fresh at → IsGap old len → LeadTo old r (fresh ++ (at + len) ∷ []) (at + len)
+LeadTo-append old r [] at len h gap = let e : at + len - r ≡ len = omega (arith, h) in (subst (IsGap old) (sym e) gap, refl)
+LeadTo-append old r (p ∷ ps) at len h gap = (h.0, LeadTo-append old p ps at len h.1 gap)
 
 pub AreLaid-none : (old kept : List ℕ) (r : ℕ) → AreLaid old kept r r kept
-AreLaid-none old kept r = record { gaps = []; laid = sym (append-nil kept); reach = refl; some = tt }
+AreLaid-none old kept r = record { fresh = []; laid = refl; lead = refl }
 
 pub AreLaid-next : (ops rest : List Operation) (old kept : List ℕ) (r at len : ℕ) (segments more : List SegmentView) (heap end : State)
     → IsReached ops at segments heap → IsPiece heap rest more end len → IsGap old len → AreLaid old kept r at (marks_from 0 segments) → AreLaid old kept r (at + len) (marks_from 0 (segments ++ more))
 AreLaid-next ops rest old kept r at len segments more heap end h piece gap laid =
     let within = h.within in
     let long : length (trace_of segments) ≡ at = ap length h.trace ∙ omega (arith, length-take at ops) in
-    let place : 0 + length (trace_of segments) ≡ past r laid.gaps = omega (arith, laid.reach) in
+    let place : 0 + length (trace_of segments) ≡ at = omega arith in
     record {
-      gaps = laid.gaps ++ len ∷ [];
-      laid = marks_from-append 0 segments more ∙ ap (λ ps. ps ++ marks_from (0 + length (trace_of segments)) more) laid.laid ∙ ap (λ ps. (kept ++ places r laid.gaps) ++ ps) (piece.marks (0 + length (trace_of segments)) ∙ ap (λ p. p ∷ []) place)
-          ∙ append_assoc kept (places r laid.gaps) ((past r laid.gaps) ∷ []) ∙ ap (λ ps. kept ++ ps) (sym (places-append r laid.gaps len));
-      reach = past-append r laid.gaps len ∙ ap (λ n. n + len) laid.reach;
-      some = AllByRecursion-append (IsGap old) laid.gaps len laid.some gap;
+      fresh = laid.fresh ++ (at + len) ∷ [];
+      laid = ap (λ ps. ps ++ (at + len) ∷ [])
+          (marks_from-append 0 segments more ∙ ap (λ ps. marks_from 0 segments ++ ps) (piece.marks (0 + length (trace_of segments)) ∙ ap (λ p. p ∷ []) place) ∙ laid.laid)
+          ∙ append_assoc kept (r ∷ laid.fresh) ((at + len) ∷ []);
+      lead = LeadTo-append old r laid.fresh at len laid.lead gap;
     }
 
 -- segments that begin elsewhere
@@ -65,66 +67,6 @@ marks_from-moved a b at (s ∷ segments) le =
     here-moved a b at None rest = refl
     here-moved a b at (Some m) rest = refl
 
--- after a stop at the segment i, which begins at `at`
-pub AreMarksOf-stop : (old segments : List SegmentView) (ops : List Operation) (kept : List ℕ) (a b i at r : ℕ) (s : SegmentView)
-    → ShareEnd (trace_of old) ops a b → i < length old → s ≡ get_or old i s → (m : State) → s.mark ≡ Some m → length (trace_of (take i old)) ≡ at → a ≤ at
-    → AgreesAt (trace_of old) ops a b at → ((p : ℕ) → Contains (all_marks old) p → a ≤ p → AgreesAt (trace_of old) ops a b p → at ≤ p)
-    → length (trace_of segments) ≡ at - a + b → trace_of (segments ++ drop i old) ≡ ops → AreLaid (all_marks old) kept r (at - a + b) (marks_from 0 segments)
-    → AreMarksOf (trace_of old) ops kept (all_marks old) (all_marks (segments ++ drop i old)) r a b
-AreMarksOf-stop old segments ops kept a b i at r s shared lt is m mark place behind agrees first long trace laid =
-    let n : ℕ = length (trace_of old) in
-    let later : List ℕ = marks_from (at + length (ops_of s)) (drop (i + 1) old) ++ n ∷ [] in
-    let list : marks_from at (drop i old) ++ n ∷ [] ≡ at ∷ later =
-    ap (λ ss. marks_from at ss ++ n ∷ []) (around old i s lt is) ∙ ap (λ o. (mark_here at o ++ marks_from (at + length (ops_of s)) (drop (i + 1) old)) ++ n ∷ []) mark in
-    let zero_front : 0 + length (trace_of segments) ≡ at - a + b = omega arith in
-    let fits : at ≤ n = place-within old i at place in
-    let across = ShareEnd-length (trace_of old) ops a b shared in
-    let last : length (trace_of (segments ++ drop i old)) ≡ n - a + b = ap length trace ∙ omega (arith, shared.old_within, shared.within) in
-    record {
-      before = marks_from 0 (take i old);
-      after = later;
-      gaps = laid.gaps;
-      stop = at;
-      old_is = marks-at old i at s m lt is mark place;
-      behind = behind;
-      agrees = inl agrees;
-      first = first;
-      new_is = ap (λ l. marks_from 0 (segments ++ drop i old) ++ l ∷ []) last
-          ∙ ap (λ ps. ps ++ (n - a + b) ∷ []) (marks_from-append 0 segments (drop i old) ∙ ap (λ p. marks_from 0 segments ++ marks_from p (drop i old)) zero_front)
-          ∙ append_assoc (marks_from 0 segments) (marks_from (at - a + b) (drop i old)) ((n - a + b) ∷ [])
-          ∙ ap (λ ps. marks_from 0 segments ++ (ps ++ (n - a + b) ∷ [])) (marks_from-moved a b at (drop i old) behind)
-          ∙ ap (λ ps. marks_from 0 segments ++ ps) (sym (map-append (λ p. p - a + b) (marks_from at (drop i old)) (n ∷ [])) ∙ ap (map (λ p. p - a + b)) list)
-          ∙ ap (λ ps. ps ++ map (λ p. p - a + b) (at ∷ later)) laid.laid
-          ∙ append_assoc kept (places r laid.gaps) (map (λ p. p - a + b) (at ∷ later));
-      reach = laid.reach;
-      some = laid.some;
-    }
-
--- with no stop
-pub AreMarksOf-end : (old segments : List SegmentView) (ops : List Operation) (kept : List ℕ) (a b r : ℕ)
-    → ShareEnd (trace_of old) ops a b → ((p : ℕ) → Contains (all_marks old) p → a ≤ p → AgreesAt (trace_of old) ops a b p → length (trace_of old) ≤ p)
-    → trace_of segments ≡ ops → AreLaid (all_marks old) kept r (length ops) (marks_from 0 segments) → AreMarksOf (trace_of old) ops kept (all_marks old) (all_marks segments) r a b
-AreMarksOf-end old segments ops kept a b r shared first trace laid =
-    let n : ℕ = length (trace_of old) in
-    let across = ShareEnd-length (trace_of old) ops a b shared in
-    let last : length ops ≡ n - a + b = omega (arith, shared.old_within, shared.within) in
-    record {
-      before = marks_from 0 old;
-      after = [];
-      gaps = laid.gaps;
-      stop = n;
-      old_is = refl;
-      behind = shared.old_within;
-      agrees = inr refl;
-      first = first;
-      new_is = ap (λ l. marks_from 0 segments ++ l ∷ []) (ap length trace ∙ last) ∙ ap (λ ps. ps ++ (n - a + b) ∷ []) laid.laid ∙ append_assoc kept (places r laid.gaps) ((n - a + b) ∷ []);
-      reach = laid.reach ∙ last;
-      some = laid.some;
-    }
-
-pub IsReached-length : (ops : List Operation) (at : ℕ) (segments : List SegmentView) (heap : State) → IsReached ops at segments heap → length (trace_of segments) ≡ at
-IsReached-length ops at segments heap h = let within = h.within in ap length h.trace ∙ omega (arith, length-take at ops)
-
 -- the checkpoints of segments that are not empty are before their end
 marks_from-below : (at : ℕ) (segments : List SegmentView) (p : ℕ) → AreFull segments → Contains (marks_from at segments) p → p < at + length (trace_of segments)
 marks_from-below at [] p full h = absurd (Contains-none p h)
@@ -136,30 +78,120 @@ marks_from-below at (s ∷ segments) p full h =
     (λ later. let lt : p < at + length (ops_of s) + length (trace_of segments) = marks_from-below (at + length (ops_of s)) segments p full.1 later in omega arith)
     (Contains-append_cases (mark_here at s.mark) (marks_from (at + length (ops_of s)) segments) p h)
 
+-- the checkpoints from a position on
+after-least : (at n : ℕ) (segments : List SegmentView) (p : ℕ) → at ≤ n → Contains (marks_from at segments ++ n ∷ []) p → at ≤ p
+after-least at n segments p fits h =
+    ⊎_elim (λ x. marks_from-least at segments p x) (λ x. let e : n ≡ p = Contains-one n p x in omega arith) (Contains-append_cases (marks_from at segments) (n ∷ []) p h)
+
+-- those behind the checkpoint of the segment i, which begins at `at`
+above-stop : (old : List SegmentView) (i at : ℕ) (s : SegmentView) (m : State) → AreFull old → i < length old → s ≡ get_or old i s → s.mark ≡ Some m → length (trace_of (take i old)) ≡ at
+    → filter (λ p. nat_lt at p) (all_marks old) ≡ marks_from (at + length (ops_of s)) (drop (i + 1) old) ++ length (trace_of old) ∷ []
+above-stop old i at s m full lt is mark place =
+    let n : ℕ = length (trace_of old) in
+    let test : ℕ → Bool = λ p. nat_lt at p in
+    let later : List ℕ = marks_from (at + length (ops_of s)) (drop (i + 1) old) ++ n ∷ [] in
+    let whole : AreFull (take i old ++ drop i old) = subst AreFull (sym (take-append-drop i old)) full in
+    let front : AreFull (take i old) = AreFull-front (take i old) (drop i old) whole in
+    let back : AreFull (s ∷ drop (i + 1) old) = subst AreFull (around old i s lt is) (AreFull-back (take i old) (drop i old) whole) in
+    let some : 0 < length (ops_of s) = back.0 in
+    let fits : at + length (ops_of s) ≤ n = place-within old (i + 1) (at + length (ops_of s)) (length-trace_of-next old i s lt is ∙ ap (λ x. x + length (ops_of s)) place) in
+    ap (filter test) (marks-at old i at s m lt is mark place)
+    ∙ filter-append test (marks_from 0 (take i old)) (at ∷ later)
+    ∙ ap (λ ps. ps ++ filter test (at ∷ later)) (none-pass test (marks_from 0 (take i old))
+    (λ p k. let before : p < 0 + length (trace_of (take i old)) = marks_from-below 0 (take i old) p front k in let le : p ≤ at = omega arith in le-ltb at p le))
+    ∙ ap (λ b. cond b (at ∷ filter test later) (filter test later)) (le-ltb at at (omega arith))
+    ∙ all-pass test later (λ p k. let least : at + length (ops_of s) ≤ p = after-least (at + length (ops_of s)) n (drop (i + 1) old) p fits k in let less : at < p = omega arith in lt-ltb at p less)
+
+-- none is behind the end
+above-end : (old : List SegmentView) → filter (λ p. nat_lt (length (trace_of old)) p) (all_marks old) ≡ []
+above-end old = none-pass (λ p. nat_lt (length (trace_of old)) p) (all_marks old) (λ p k. le-ltb (length (trace_of old)) p (all-within old p (length (trace_of old)) k (omega arith)))
+
+-- after a stop at the segment i, which begins at `at`
+pub AreMarksOf-stop : (old segments : List SegmentView) (ops : List Operation) (kept : List ℕ) (a b i at r : ℕ) (s : SegmentView)
+    → AreFull old → ShareEnd (trace_of old) ops a b → i < length old → s ≡ get_or old i s → (m : State) → s.mark ≡ Some m → length (trace_of (take i old)) ≡ at → a ≤ at
+    → AgreesAt (trace_of old) ops a b at → ((p : ℕ) → Contains (all_marks old) p → a ≤ p → AgreesAt (trace_of old) ops a b p → at ≤ p)
+    → length (trace_of segments) ≡ at - a + b → trace_of (segments ++ drop i old) ≡ ops → AreLaid (all_marks old) kept r (at - a + b) (marks_from 0 segments)
+    → AreMarksOf (trace_of old) ops kept (all_marks old) (all_marks (segments ++ drop i old)) r a b
+AreMarksOf-stop old segments ops kept a b i at r s full shared lt is m mark place behind agrees first long trace laid =
+    let n : ℕ = length (trace_of old) in
+    let later : List ℕ = marks_from (at + length (ops_of s)) (drop (i + 1) old) ++ n ∷ [] in
+    let moved : List ℕ → List ℕ = map (λ p. p - a + b) in
+    let list : marks_from at (drop i old) ++ n ∷ [] ≡ at ∷ later =
+    ap (λ ss. marks_from at ss ++ n ∷ []) (around old i s lt is) ∙ ap (λ o. (mark_here at o ++ marks_from (at + length (ops_of s)) (drop (i + 1) old)) ++ n ∷ []) mark in
+    let zero_front : 0 + length (trace_of segments) ≡ at - a + b = omega arith in
+    let fits : at ≤ n = place-within old i at place in
+    let across = ShareEnd-length (trace_of old) ops a b shared in
+    let last : length (trace_of (segments ++ drop i old)) ≡ n - a + b = ap length trace ∙ omega (arith, shared.old_within, shared.within) in
+    record {
+      stop = at;
+      fresh = laid.fresh;
+      stop_is = record { mark = mark-there old i at s m lt is mark place; behind = behind; agrees = inl agrees; first = first };
+      lead = laid.lead;
+      new_is = ap (λ l. marks_from 0 (segments ++ drop i old) ++ l ∷ []) last
+          ∙ ap (λ ps. ps ++ (n - a + b) ∷ []) (marks_from-append 0 segments (drop i old) ∙ ap (λ p. marks_from 0 segments ++ marks_from p (drop i old)) zero_front)
+          ∙ append_assoc (marks_from 0 segments) (marks_from (at - a + b) (drop i old)) ((n - a + b) ∷ [])
+          ∙ ap (λ ps. marks_from 0 segments ++ (ps ++ (n - a + b) ∷ [])) (marks_from-moved a b at (drop i old) behind)
+          ∙ ap (λ ps. marks_from 0 segments ++ ps) (sym (map-append (λ p. p - a + b) (marks_from at (drop i old)) (n ∷ [])) ∙ ap moved list)
+          ∙ sym (append_assoc (marks_from 0 segments) ((at - a + b) ∷ []) (moved later))
+          ∙ ap (λ ps. ps ++ moved later) laid.laid
+          ∙ append_assoc kept (r ∷ laid.fresh) (moved later)
+          ∙ ap (λ ps. kept ++ r ∷ (laid.fresh ++ moved ps)) (sym (above-stop old i at s m full lt is mark place));
+    }
+
+-- with no stop
+pub AreMarksOf-end : (old segments : List SegmentView) (ops : List Operation) (kept : List ℕ) (a b r : ℕ)
+    → ShareEnd (trace_of old) ops a b → ((p : ℕ) → Contains (all_marks old) p → a ≤ p → AgreesAt (trace_of old) ops a b p → length (trace_of old) ≤ p)
+    → trace_of segments ≡ ops → AreLaid (all_marks old) kept r (length ops) (marks_from 0 segments) → AreMarksOf (trace_of old) ops kept (all_marks old) (all_marks segments) r a b
+AreMarksOf-end old segments ops kept a b r shared first trace laid =
+    let n : ℕ = length (trace_of old) in
+    let moved : List ℕ → List ℕ = map (λ p. p - a + b) in
+    let across = ShareEnd-length (trace_of old) ops a b shared in
+    let last : length ops ≡ n - a + b = omega (arith, shared.old_within, shared.within) in
+    record {
+      stop = n;
+      fresh = laid.fresh;
+      stop_is = record { mark = end-mark old; behind = shared.old_within; agrees = inr refl; first = first };
+      lead = subst (LeadTo (all_marks old) r laid.fresh) last laid.lead;
+      new_is = ap (λ l. marks_from 0 segments ++ l ∷ []) (ap length trace) ∙ laid.laid
+          ∙ ap (λ ps. kept ++ r ∷ ps) (sym (append-nil laid.fresh)) ∙ ap (λ ps. kept ++ r ∷ (laid.fresh ++ moved ps)) (sym (above-end old));
+    }
+
+pub IsReached-length : (ops : List Operation) (at : ℕ) (segments : List SegmentView) (heap : State) → IsReached ops at segments heap → length (trace_of segments) ≡ at
+IsReached-length ops at segments heap h = let within = h.within in ap length h.trace ∙ omega (arith, length-take at ops)
+
+-- the checkpoints before the restart, where the segment i begins
+below-restart : (segments : List SegmentView) (i at : ℕ) → AreFull segments → length (trace_of (take i segments)) ≡ at → filter (λ p. nat_lt p at) (all_marks segments) ≡ marks_from 0 (take i segments)
+below-restart segments i at full stands =
+    let n : ℕ = length (trace_of segments) in
+    let test : ℕ → Bool = λ p. nat_lt p at in
+    let place : 0 + length (trace_of (take i segments)) ≡ at = omega (arith, stands) in
+    let fits : at ≤ n = place-within segments i at stands in
+    let front : AreFull (take i segments) = AreFull-front (take i segments) (drop i segments) (subst AreFull (sym (take-append-drop i segments)) full) in
+    let rest : List ℕ = marks_from at (drop i segments) ++ n ∷ [] in
+    ap (filter test)
+    (ap (λ ss. marks_from 0 ss ++ n ∷ []) (sym (take-append-drop i segments)) ∙ ap (λ ps. ps ++ n ∷ []) (marks_from-append 0 (take i segments) (drop i segments))
+    ∙ append_assoc (marks_from 0 (take i segments)) (marks_from (0 + length (trace_of (take i segments))) (drop i segments)) (n ∷ [])
+    ∙ ap (λ p. marks_from 0 (take i segments) ++ (marks_from p (drop i segments) ++ n ∷ [])) place)
+    ∙ filter-append test (marks_from 0 (take i segments)) rest
+    ∙ ap (λ ps. ps ++ filter test rest) (all-pass test (marks_from 0 (take i segments))
+    (λ p k. let before : p < 0 + length (trace_of (take i segments)) = marks_from-below 0 (take i segments) p front k in let less : p < at = omega arith in lt-ltb p at less))
+    ∙ ap (λ ps. marks_from 0 (take i segments) ++ ps) (none-pass test rest (λ p k. le-ltb p at (after-least at n (drop i segments) p fits k)))
+    ∙ append-nil (marks_from 0 (take i segments))
+
 pub AreMarksAfter-restart : (segments front : List SegmentView) (end heap : State) (ops : List Operation) (new : List ℕ) (head tail i at : ℕ)
     → IsRun segments end → IsRestart segments head i at heap → front ≡ take i segments → AreShared (trace_of segments) ops head tail
     → AreMarksOf (trace_of segments) ops (marks_from 0 front) (all_marks segments) new at (length (trace_of segments) - tail) (length ops - tail)
     → AreMarksAfter (record { trace = trace_of segments; marks = all_marks segments }) (record { trace = ops; marks = new })
-AreMarksAfter-restart segments front end heap ops new head tail i at run h is shared marks =
-    let n : ℕ = length (trace_of segments) in
-    let place : 0 + length (trace_of (take i segments)) ≡ at = omega (arith, h.place) in
-    let fits : at ≤ n = place-within segments i at h.place in
-    let full : AreFull (take i segments) = AreFull-front (take i segments) (drop i segments) (subst AreFull (sym (take-append-drop i segments)) run.full) in
-    record {
-      head = head;
-      tail = tail;
-      shared = shared;
-      kept = marks_from 0 (take i segments);
-      behind = marks_from at (drop i segments) ++ n ∷ [];
-      restart = at;
-      old_is = ap (λ ss. marks_from 0 ss ++ n ∷ []) (sym (take-append-drop i segments)) ∙ ap (λ ps. ps ++ n ∷ []) (marks_from-append 0 (take i segments) (drop i segments))
-          ∙ append_assoc (marks_from 0 (take i segments)) (marks_from (0 + length (trace_of (take i segments))) (drop i segments)) (n ∷ [])
-          ∙ ap (λ p. marks_from 0 (take i segments) ++ (marks_from p (drop i segments) ++ n ∷ [])) place;
-      kept_before = λ p k. let lt : p < 0 + length (trace_of (take i segments)) = marks_from-below 0 (take i segments) p full k in omega arith;
-      others_behind = λ p k. ⊎_elim (λ x. marks_from-least at (drop i segments) p x) (λ x. let e : n ≡ p = Contains-one n p x in omega arith) (Contains-append_cases (marks_from at (drop i segments)) (n ∷ []) p k);
-      greatest = h.greatest;
-      laid = subst (λ ss. AreMarksOf (trace_of segments) ops (marks_from 0 ss) (all_marks segments) new at (n - tail) (length ops - tail)) is marks;
-    }
+unfolding AreMarksAfter
+AreMarksAfter-restart segments front end heap ops new head tail i at run h is shared marks = (
+  head,
+  tail,
+  at,
+  shared,
+  h.greatest,
+  subst (λ kept. AreMarksOf (trace_of segments) ops kept (all_marks segments) new at (length (trace_of segments) - tail) (length ops - tail))
+      (ap (marks_from 0) is ∙ sym (below-restart segments i at run.full h.place)) marks,
+)
 
 abbrev pub first-mark : (at : ℕ) (c : List SegmentView) → BeginsMarked c → List ℕ
 first-mark at [] h = []

@@ -1,21 +1,10 @@
 -- The checkpoints of an edited trace.
-use Rattle.std.specs.Prelude.{◌≡◌, ℕ, ◌+◌, ◌-◌, ◌<◌, ◌≤◌, List, [], ◌∷◌, ◌++◌, map, length, Contains, ◌⊎◌}
-use Rattle.std.specs.List.{AllByRecursion}
+use Rattle.std.specs.Prelude.{◌≡◌, ℕ, ◌+◌, ◌-◌, ◌<◌, ◌≤◌, List, [], ◌∷◌, ◌++◌, map, filter, nat_lt, length, Contains, ◌⊎◌}
 use Rattle.trace_types.specs.Operation.{Operation}
 use Rattle.run_engine.specs.HeadAndTail.{AreShared}
 use Rattle.run_engine.specs.Marks.{IsGreatest}
 use Rattle.run_engine.specs.Bounds.{AgreesAt}
 use Rattle.run_engine.specs.RunView.{RunView}
-
--- r, and then after each gap but the last the next place
-abbrev pub places : ℕ → List ℕ → List ℕ
-places r [] = []
-places r (g ∷ gaps) = r ∷ places (r + g) gaps
-
--- the place after the last gap
-abbrev pub past : ℕ → List ℕ → ℕ
-past r [] = r
-past r (g ∷ gaps) = past (r + g) gaps
 
 -- g is how far two neighbouring checkpoints are apart
 pub record AreNeighbours (marks : List ℕ) (g : ℕ) : Type 0 where
@@ -24,44 +13,39 @@ pub record AreNeighbours (marks : List ℕ) (g : ℕ) : Type 0 where
   pub at : ℕ
   pub marks_are : marks ≡ before ++ at ∷ (at + g) ∷ after
 
--- a gap of the new checkpoints: up to 64, or as far as an old stretch is long
+-- how far a new checkpoint is behind the one before it: up to 64, or as far as an old stretch is long
 pub record IsGap (old : List ℕ) (g : ℕ) : Type 0 where
   pub some : 0 < g
   pub small : (g ≤ 64) ⊎ AreNeighbours old g
 
--- the kept checkpoints, and behind them new ones from r on, as far as `at`
-pub record AreLaid (old kept : List ℕ) (r at : ℕ) (marks : List ℕ) : Type 0 where
-  pub gaps : List ℕ
-  pub laid : marks ≡ kept ++ places r gaps
-  pub reach : past r gaps ≡ at
-  pub some : AllByRecursion (IsGap old) gaps
+-- the positions lead from r to `to`, each a gap behind the one before it
+abbrev pub LeadTo : List ℕ → ℕ → List ℕ → ℕ → Type 0
+LeadTo old r [] to = r ≡ to
+LeadTo old r (p ∷ ps) to = IsGap old (p - r) × LeadTo old p ps to
 
--- the kept checkpoints, new ones from r on, and the old ones from the stop on, moved. The stop is the first old one at or behind a
--- where the states agree, or the end
-pub record AreMarksOf (trace ops : List Operation) (kept old new : List ℕ) (r a b : ℕ) : Type 0 where
-  pub before : List ℕ
-  pub after : List ℕ
-  pub gaps : List ℕ
-  pub stop : ℕ
-  pub old_is : old ≡ before ++ stop ∷ after
+-- the kept checkpoints, then r, and new ones behind it as far as `at`, where one is due
+pub record AreLaid (old kept : List ℕ) (r at : ℕ) (marks : List ℕ) : Type 0 where
+  pub fresh : List ℕ
+  pub laid : marks ++ at ∷ [] ≡ kept ++ r ∷ fresh
+  pub lead : LeadTo old r fresh at
+
+-- the stop: the first old checkpoint at or behind a where the states agree, or the end
+pub record IsStop (trace ops : List Operation) (old : List ℕ) (a b stop : ℕ) : Type 0 where
+  pub mark : Contains old stop
   pub behind : a ≤ stop
   pub agrees : AgreesAt trace ops a b stop ⊎ (stop ≡ length trace)
   pub first : (p : ℕ) → Contains old p → a ≤ p → AgreesAt trace ops a b p → stop ≤ p
-  pub new_is : new ≡ kept ++ (places r gaps ++ map (λ p. p - a + b) (stop ∷ after))
-  pub reach : past r gaps ≡ stop - a + b
-  pub some : AllByRecursion (IsGap old) gaps
 
--- the checkpoints of the run of an edited trace: from the restart on, the greatest old one at or before the head, those
--- before it are kept
-pub record AreMarksAfter (old new : RunView) : Type 0 where
-  pub head : ℕ
-  pub tail : ℕ
-  pub shared : AreShared old.trace new.trace head tail
-  pub kept : List ℕ
-  pub behind : List ℕ
-  pub restart : ℕ
-  pub old_is : old.marks ≡ kept ++ behind
-  pub kept_before : (p : ℕ) → Contains kept p → p < restart
-  pub others_behind : (p : ℕ) → Contains behind p → restart ≤ p
-  pub greatest : IsGreatest old.marks head restart
-  pub laid : AreMarksOf old.trace new.trace kept old.marks new.marks restart (length old.trace - tail) (length new.trace - tail)
+-- the kept checkpoints, then r, new ones behind it as far as the stop, and the old ones behind the stop, moved
+pub record AreMarksOf (trace ops : List Operation) (kept old new : List ℕ) (r a b : ℕ) : Type 0 where
+  pub stop : ℕ
+  pub fresh : List ℕ
+  pub stop_is : IsStop trace ops old a b stop
+  pub lead : LeadTo old r fresh (stop - a + b)
+  pub new_is : new ≡ kept ++ r ∷ (fresh ++ map (λ p. p - a + b) (filter (λ p. nat_lt stop p) old))
+
+-- the checkpoints of the run of an edited trace: r is the greatest old one at or before the head, and those before it are kept
+unfoldable pub AreMarksAfter : RunView → RunView → Type 0
+AreMarksAfter old new =
+    (head : ℕ) × (tail : ℕ) × (r : ℕ) × AreShared old.trace new.trace head tail × IsGreatest old.marks head r
+    × AreMarksOf old.trace new.trace (filter (λ p. nat_lt p r) old.marks) old.marks new.marks r (length old.trace - tail) (length new.trace - tail)

@@ -43,6 +43,7 @@ fn next_piece(
     ensures gap { IfOk result (λ p. IsGap (all_marks old.now) p.len) }
     ensures steps { IfOk result (λ p. meter.new ≤ meter.old + p.len) }
     ensures taken { IfOk result (λ p. AreTaken (trace_of old.now) (all_marks old.now) heap.now (slice_range ops.now at to) p.len meter.old meter.new) }
+    ensures never_less { meter.old ≤ meter.new }
     ensures rise { meter.new + at ≤ meter.old + to }
 {
     let found = old_stretch(alloc, old, end, heap, ops, at, to)?;
@@ -86,6 +87,7 @@ fn advance(
     requires new { AreNew nothing_held ops.now }
     ensures front { IfOk result (λ f. IsReached ops.now f.at f.segments.items f.heap) }
     ensures there { IfOk result (λ f. f.at ≡ to) }
+    ensures never_less { meter.old ≤ meter.new }
     ensures rise { meter.new + front.at ≤ meter.old + to }
     ensures stepped { (r before : ℕ) → HaveStepped (trace_of old.now) ops.now (all_marks old.now) r front.at before meter.old → IfOk result (λ f. HaveStepped (trace_of old.now) ops.now (all_marks old.now) r f.at before meter.new) }
     ensures marks { (kept : List ℕ) (r : ℕ) → AreLaid (all_marks old.now) kept r front.at (marks_from 0 front.segments.items) → IfOk result (λ f. AreLaid (all_marks old.now) kept r f.at (marks_from 0 f.segments.items)) }
@@ -130,6 +132,7 @@ pub fn converge(
     ensures marks { IfOk result (λ r. AreMarksOf (trace_of old.now) ops.now (marks_from 0 front.segments.items) (all_marks old.now) (all_marks r.0.items) front.at a b) }
     ensures bound { StepsAtMost (trace_of old.now) ops.now a b (all_marks old.now) front.at meter.old meter.new }
     ensures stepped { IfOk result (λ _. AreStepped (trace_of old.now) ops.now a b (all_marks old.now) front.at meter.old meter.new) }
+    ensures never_less { meter.old ≤ meter.new }
 {
     let mut front = front;
     let mut at = 0;

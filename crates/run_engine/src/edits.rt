@@ -2,7 +2,7 @@
 ghost use Rattle.std.specs.Prelude.{◌≡◌, ◌<◌, ◌≤◌, length, ◌⊎◌, IfOk, OnOk, IfErr, IfSome, Ok, Err};
 ghost use Rattle.trace_types.specs.Trace.{IsTrace, place_of};
 ghost use Rattle.run_engine.specs.declared.faults.RunFault.TheVariants.{EmptyBatch, TooManyEdits, Memory};
-ghost use Rattle.run_engine.specs.Edited.{place_after, inserted, removed, changed, edited_one, edited_by};
+ghost use Rattle.run_engine.specs.Edited.{place_after, inserted, removed, changed, edited_one, edited_by, IsFaultOf};
 
 use crate::editing::Editing;
 use crate::faults::RunFault;
@@ -17,7 +17,7 @@ use trace_types::trace::Trace;
 /// order, each on the result of those before it.
 pub fn apply(alloc: Global, trace: &Trace, batch: &Batch) -> Result<Trace, RunFault>
     ensures ok { IfOk result (λ t. edited_by trace.now batch.now ≡ Ok t) }
-    ensures fault { IfErr result (λ e. (e ≡ Memory) ⊎ (edited_by trace.now batch.now ≡ Err e)) }
+    ensures fault { IfErr result (IsFaultOf (edited_by trace.now batch.now)) }
     ensures empty { length batch.now ≡ 0 → result ≡ Err EmptyBatch }
     ensures too_many { MAX_EDITS < length batch.now → result ≡ Err TooManyEdits }
 {
@@ -61,7 +61,7 @@ pub(crate) fn edited<'a>(
     requires some { 0 < length batch.now }
     requires few { length batch.now ≤ MAX_EDITS }
     ensures ok { IfOk result (λ r. edited_by ops.entry batch.now ≡ Ok r) }
-    ensures fault { IfErr result (λ e. (e ≡ Memory) ⊎ (edited_by ops.entry batch.now ≡ Err e)) }
+    ensures fault { IfErr result (IsFaultOf (edited_by ops.entry batch.now)) }
     ensures trace { IfOk result (λ r. IsTrace r) }
 {
     let Ok(mut editing) = Editing::new(alloc, ops, batch) else {
@@ -75,7 +75,7 @@ pub(crate) fn edited<'a>(
 
 fn edit_one<'a>(ops: &mut Editing<'a>, edit: &'a Edit, index: u64) -> Result<(), RunFault>
     ensures ok { OnOk result (edited_one index ops.old edit.now ≡ Ok ops.new) }
-    ensures fault { IfErr result (λ e. (e ≡ Memory) ⊎ (edited_one index ops.old edit.now ≡ Err e)) }
+    ensures fault { IfErr result (IsFaultOf (edited_one index ops.old edit.now)) }
 {
     match edit {
         Edit::Insert { after, op } => insert(ops, *after, op, index),
@@ -86,7 +86,7 @@ fn edit_one<'a>(ops: &mut Editing<'a>, edit: &'a Edit, index: u64) -> Result<(),
 
 fn insert<'a>(ops: &mut Editing<'a>, after: u32, op: &'a Op, index: u64) -> Result<(), RunFault>
     ensures ok { OnOk result (inserted index ops.old op.now (place_after after ops.old) ≡ Ok ops.new) }
-    ensures fault { IfErr result (λ e. (e ≡ Memory) ⊎ (inserted index ops.old op.now (place_after after ops.old) ≡ Err e)) }
+    ensures fault { IfErr result (IsFaultOf (inserted index ops.old op.now (place_after after ops.old))) }
 {
     let Some(place) = place_after(ops, after) else {
         return Err(RunFault::NoSuchOp(index));
@@ -105,7 +105,7 @@ fn insert<'a>(ops: &mut Editing<'a>, after: u32, op: &'a Op, index: u64) -> Resu
 
 fn remove(ops: &mut Editing, id: u32, index: u64) -> Result<(), RunFault>
     ensures ok { OnOk result (removed index ops.old (place_of id ops.old) ≡ Ok ops.new) }
-    ensures fault { IfErr result (λ e. (e ≡ Memory) ⊎ (removed index ops.old (place_of id ops.old) ≡ Err e)) }
+    ensures fault { IfErr result (IsFaultOf (removed index ops.old (place_of id ops.old))) }
 {
     let Some(place) = ops.place(id) else {
         return Err(RunFault::NoSuchOp(index));
@@ -118,7 +118,7 @@ fn remove(ops: &mut Editing, id: u32, index: u64) -> Result<(), RunFault>
 
 fn change<'a>(ops: &mut Editing<'a>, id: u32, op: &'a Op, index: u64) -> Result<(), RunFault>
     ensures ok { OnOk result (changed index ops.old id op.now (place_of id ops.old) ≡ Ok ops.new) }
-    ensures fault { IfErr result (λ e. (e ≡ Memory) ⊎ (changed index ops.old id op.now (place_of id ops.old) ≡ Err e)) }
+    ensures fault { IfErr result (IsFaultOf (changed index ops.old id op.now (place_of id ops.old))) }
 {
     let Some(place) = ops.place(id) else {
         return Err(RunFault::NoSuchOp(index));

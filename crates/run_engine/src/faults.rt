@@ -1,7 +1,22 @@
 //! Why a batch of edits is refused.
+ghost use Rattle.std.specs.Prelude.{◌≡◌};
+ghost use Rattle.run_engine.specs.Edited.{refusal_of};
+
 use thiserror::Error;
 
 /// Why a batch of edits is refused. The first three have the edit's index, from 0.
+///
+/// The size of the batch is tried first. Then the edits are tried in order.
+#[derive(Clone, Copy, Debug, PartialEq, Eq)]
+pub enum Refusal {
+    NoSuchOp(u64),
+    IdTaken(u64),
+    TooMany(u64),
+    EmptyBatch,
+    TooManyEdits,
+}
+
+/// Why a batch of edits is not made: it is refused, or memory ran out. The first three have the edit's index, from 0.
 ///
 /// The size of the batch is tried first, which takes no memory. Then the edits are tried in order.
 #[derive(Clone, Copy, Debug, PartialEq, Eq, Error)]
@@ -18,4 +33,20 @@ pub enum RunFault {
     TooManyEdits,
     #[error("out of memory")]
     Memory,
+}
+
+impl RunFault {
+    /// The refusal that it tells; none where memory ran out.
+    pub fn refusal(&self) -> Option<Refusal>
+        ensures { result ≡ refusal_of self.now }
+    {
+        match self {
+            RunFault::NoSuchOp(edit) => Some(Refusal::NoSuchOp(*edit)),
+            RunFault::IdTaken(edit) => Some(Refusal::IdTaken(*edit)),
+            RunFault::TooMany(edit) => Some(Refusal::TooMany(*edit)),
+            RunFault::EmptyBatch => Some(Refusal::EmptyBatch),
+            RunFault::TooManyEdits => Some(Refusal::TooManyEdits),
+            RunFault::Memory => None,
+        }
+    }
 }

@@ -35,6 +35,7 @@ pub fn stepped(
     ensures piece { IfOk result (λ p. IsPiece heap.now ops.items p.segments.items p.end p.len) }
     ensures whole { IfOk result (λ p. p.len ≡ length ops.items) }
     ensures count { IfOk result (λ p. meter.new ≡ raised meter.old p.len) }
+    ensures never_less { meter.old ≤ meter.new }
     ensures rise { meter.new ≤ meter.old + length ops.items }
 {
     let (outcomes, end) = replay_from(alloc, heap.share()?, &ops, meter)?;
@@ -60,6 +61,7 @@ pub fn stepped_up_to(
     ensures piece { IfOk result (λ p. IsPiece heap.now (slice_range ops.now at to) p.segments.items p.end p.len) }
     ensures short { IfOk result (λ p. p.len ≤ 64) }
     ensures count { IfOk result (λ p. meter.new ≡ raised meter.old p.len) }
+    ensures never_less { meter.old ≤ meter.new }
     ensures rise { meter.new + at ≤ meter.old + to }
 {
     let len = (to - at).min(STRIDE);

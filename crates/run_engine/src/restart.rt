@@ -91,6 +91,7 @@ pub fn resumed(
     ensures marks { IfOk result (λ r. AreMarksAfter (record { trace = old.now; marks = all_marks segments.now }) (record { trace = ops.now; marks = all_marks r.0.items })) }
     ensures bound { StepsAtMostFrom old.now ops.now (all_marks segments.now) meter.old meter.new }
     ensures stepped { IfOk result (λ _. AreSteppedFrom old.now ops.now (all_marks segments.now) meter.old meter.new) }
+    ensures never_less { meter.old ≤ meter.new }
 {
     let first = head(old, ops);
     let last = tail(old, ops, first);

@@ -1,13 +1,13 @@
 //! A run of a trace.
-ghost use Rattle.std.specs.Prelude.{◌≡◌, ◌+◌, ◌<◌, ◌≤◌, List, Contains, length, slice_get, take, IfOk, IfErr, IfSome, IsTrue, IsErr, ◌↔◌, ◌⊎◌, if◌then◌else◌, Ok, Err};
+ghost use Rattle.std.specs.Prelude.{◌≡◌, ◌+◌, ◌<◌, ◌≤◌, List, Contains, length, slice_get, take, IfOk, IfErr, IfSome, IsTrue, IsErr, ◌↔◌, if◌then◌else◌, Ok, Err};
 ghost use Rattle.std.specs.Option.{option_copied};
 ghost use Rattle.trace_types.specs.Operation.{Operation};
 ghost use Rattle.trace_types.specs.Trace.{IsTrace};
 ghost use Rattle.ownership_model.specs.State.{nothing_held};
 ghost use Rattle.ownership_model.specs.Step.{end_from, outcomes_from};
 ghost use Rattle.op_step.specs.Meter.{raised};
-ghost use Rattle.run_engine.specs.declared.faults.RunFault.TheVariants.{EmptyBatch, TooManyEdits, Memory};
-ghost use Rattle.run_engine.specs.Edited.{edited_by};
+ghost use Rattle.run_engine.specs.declared.faults.RunFault.TheVariants.{EmptyBatch, TooManyEdits};
+ghost use Rattle.run_engine.specs.Edited.{edited_by, IsFaultOf};
 ghost use Rattle.run_engine.specs.Segments.{without, IsInner};
 ghost use Rattle.run_engine.specs.Marks.{load_marks};
 ghost use Rattle.run_engine.specs.Bounds.{StepsAtMostFrom};
@@ -66,6 +66,7 @@ impl Run {
         ensures trace { IfOk result (λ r. r.trace ≡ trace.now) }
         ensures marks { IfOk result (λ r. r.marks ≡ load_marks (length trace.now)) }
         ensures count { IfOk result (λ r. meter.new ≡ raised meter.old (length trace.now)) }
+        ensures never_less { meter.old ≤ meter.new }
         ensures rise { meter.new ≤ meter.old + length trace.now }
     {
         let ops = trace.as_slice();
@@ -96,12 +97,13 @@ impl Run {
     pub fn edited(&self, alloc: Global, batch: &Batch, meter: &mut Meter) -> Result<Run, RunFault>
         ensures trace { IfOk result (λ r. edited_by self.now.trace batch.now ≡ Ok r.trace) }
         ensures marks { IfOk result (λ r. AreMarksAfter self.now r) }
-        ensures fault { IfErr result (λ e. (e ≡ Memory) ⊎ (edited_by self.now.trace batch.now ≡ Err e)) }
+        ensures fault { IfErr result (IsFaultOf (edited_by self.now.trace batch.now)) }
         ensures empty { length batch.now ≡ 0 → result ≡ Err EmptyBatch }
         ensures too_many { MAX_EDITS < length batch.now → result ≡ Err TooManyEdits }
         ensures bound { (ops : List Operation) → edited_by self.now.trace batch.now ≡ Ok ops → StepsAtMostFrom self.now.trace ops self.now.marks meter.old meter.new }
         ensures stepped { IfOk result (λ r. AreSteppedFrom self.now.trace r.trace self.now.marks meter.old meter.new) }
         ensures refused { IsErr (edited_by self.now.trace batch.now) → meter.new ≡ meter.old }
+        ensures never_less { meter.old ≤ meter.new }
     {
         try_size(batch.len())?;
         let Ok(old) = ops_in(alloc, &self.segments) else {
@@ -131,6 +133,7 @@ impl Run {
         ensures marks { IfOk result (λ r. AreMarksAfter self.now r) }
         ensures bound { StepsAtMostFrom self.now.trace ops.now self.now.marks meter.old meter.new }
         ensures stepped { IfOk result (λ _. AreSteppedFrom self.now.trace ops.now self.now.marks meter.old meter.new) }
+        ensures never_less { meter.old ≤ meter.new }
     {
         let (segments, end) = resumed(alloc, &self.segments, &self.end, old, ops, meter)?;
         Ok(Run { segments, end })

@@ -1,5 +1,5 @@
 //! A trace with the requests that follow it.
-ghost use Rattle.std.specs.Prelude.{◌≡◌, ◌≢◌, ◌<◌, ◌+◌, ◌^◌, [], length, true, false, Ok, Err, IfOk, IfErr, OnOk};
+ghost use Rattle.std.specs.Prelude.{◌≡◌, ◌≢◌, ◌<◌, ◌≤◌, ◌+◌, ◌^◌, [], length, true, false, Ok, Err, IfOk, IfErr, OnOk};
 ghost use Rattle.trace_reader.specs.Reading.{lines_of, IsReadUpTo};
 ghost use Rattle.trace_reader.specs.Scripts.{is_divider, joined, after_request, after_requests};
 ghost use Rattle.trace_reader.specs.Scripts as Scripts;
@@ -30,6 +30,7 @@ pub fn read_script(alloc: Global, bytes: &[u8], lone: bool) -> Result<Script, Li
     ensures fault { IfErr result (λ e. e.cause ≢ LineCause.Memory → Scripts.read_script lone bytes.now ≡ Err e) }
     // Where memory runs out, no line before was faulty.
     ensures memory { IfErr result (λ e. IsReadUpTo e.line (Scripts.read_script lone bytes.now)) }
+    ensures line { IfErr result (λ e. (1 ≤ e.line) × (e.line ≤ length (lines_of bytes.now))) }
 {
     let mut trace = Trace::new(alloc);
     let mut rest = bytes;
@@ -70,6 +71,7 @@ fn read_requests(
     ensures ok { IfOk result (λ requests. after_requests lone [] first (lines_of bytes.now) ≡ Ok requests) }
     ensures fault { IfErr result (λ e. e.cause ≢ LineCause.Memory → after_requests lone [] first (lines_of bytes.now) ≡ Err e) }
     ensures memory { IfErr result (λ e. IsReadUpTo e.line (after_requests lone [] first (lines_of bytes.now))) }
+    ensures line { IfErr result (λ e. (first ≤ e.line) × (e.line < first + length (lines_of bytes.now))) }
 {
     let mut requests = Sequence::empty(alloc);
     let mut rest = bytes;

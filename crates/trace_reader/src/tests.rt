@@ -302,7 +302,8 @@ fn a_request_is_read(rt: HostRuntime) -> Result<(), Fail> {
         write!(told, "{base} {session}")?;
         for edit in request.batch.as_slice() {
             told.push_str(", ")?;
-            told.push_str(told_edit(&rt, edit)?.as_str())?;
+            let copy = edit.copy(rt.alloc())?;
+            told.push_str(told_edit(&rt, &copy)?.as_str())?;
         }
     }
     assert_eq!(rt; told.as_str(), "7 3, remove 5, insert 6 8, change 9 10");

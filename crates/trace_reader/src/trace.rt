@@ -1,7 +1,7 @@
 //! A trace of lines.
-ghost use Rattle.std.specs.Prelude.{◌≡◌, ◌≢◌, Ok, Err, IfOk, IfErr, OnOk};
+ghost use Rattle.std.specs.Prelude.{◌≡◌, ◌≢◌, ◌≤◌, length, Ok, Err, IfOk, IfErr, OnOk};
 ghost use Rattle.trace_types.specs.Trace.{pushed};
-ghost use Rattle.trace_reader.specs.Reading.{after_line, push_cause, IsReadUpTo};
+ghost use Rattle.trace_reader.specs.Reading.{after_line, push_cause, lines_of, IsReadUpTo};
 ghost use Rattle.trace_reader.specs.Reading as Reading;
 
 use crate::fault::{LineCause, LineFault};
@@ -20,6 +20,7 @@ pub fn read_trace(alloc: Global, bytes: &[u8]) -> Result<Trace, LineFault>
     ensures fault { IfErr result (λ e. e.cause ≢ LineCause.Memory → Reading.read_trace bytes.now ≡ Err e) }
     // Where memory runs out, no line before was faulty.
     ensures memory { IfErr result (λ e. IsReadUpTo e.line (Reading.read_trace bytes.now)) }
+    ensures line { IfErr result (λ e. (1 ≤ e.line) × (e.line ≤ length (lines_of bytes.now))) }
 {
     let mut trace = Trace::new(alloc);
     let mut rest = bytes;

@@ -1,22 +1,38 @@
-use Rattle.std.proofs.Common.{sym, ◌∙◌, subst}
-use Rattle.std.specs.Io.KnownBytes.{Appends}
-use Rattle.command_serve.specs.Serve.{due_of}
-use Rattle.command_serve.proofs.Served.{served_none, served_all, never_device}
+use Rattle.std.proofs.Common.{◌≡◌, ◌≤◌, length, ap, sym, subst, ◌∙◌, arith, Err, refl, inl, inr}
+use Rattle.command_serve.specs.declared.exits.Exit.TheVariants.{Device, Memory}
+use Rattle.trace_types.specs.declared.limits.TheConstants.{MAX_INPUT}
+use Rattle.command_serve.specs.Serve.{too_long, IsAnswered}
+use Rattle.command_serve.proofs.Served.{IsInput-whole, IsInput-long, due-long, due-short, read-short, read-long, served, served_none}
 use Rattle.command_serve.proofs.serve.serve.Goals as goal
 
-pub returns-in-Err-clause-served : goal.returns-in-Err-clause-served
-returns-in-Err-clause-served g c = served_none g.C.Answers.due _ _ _ c.in-Err.exit _ c.in-Err.ensures.err
-
-pub returns-in-Ok-write_all-clause-served : goal.returns-in-Ok-write_all-clause-served
-returns-in-Ok-write_all-clause-served g c =
-    let made = c.in-Ok.ensures.ok in (
-      made.0,
-      made.1,
-      served_all _ _ _ _ made.0 (due_of g.C.Answers.due made.0) _ made.4 made.2
-          (subst (Appends _ _) (c.as_slice.ensures.value ∙ made.3) c.in-Ok-write_all.ensures.ok),
+pub returns-in-Ok-clause-served : goal.returns-in-Ok-clause-served
+returns-in-Ok-clause-served g c =
+    let read = c.in-Ok.ensures.ok in
+    let same = c.as_slice.ensures.value in
+    let short : length c.in-Ok.input.items ≤ MAX_INPUT = omega (arith, ap length same, c.as_slice.ensures.len, read.2) in
+    let due = ap g.C.Answers.due same ∙ sym (due-short g.C.Answers.due c.in-Ok.input.items short) in (
+      c.in-Ok.input.items,
+      IsInput-whole _ _ _ read.0 read.1,
+      served _ _ _ _ _ _ _ (read-short _ _ _ short read.1)
+          (subst (λ d. IsAnswered d (g.K.Sink.held c.args.sink.now) (g.K.Sink.held c.answer.new.sink) c.answer.result) due c.answer.ensures.answered),
     )
 
-pub returns-in-Ok-write_all-clause-device : goal.returns-in-Ok-write_all-clause-device
-returns-in-Ok-write_all-clause-device g c =
-    let made = c.in-Ok.ensures.ok in
-    λ e. absurd (never_device (due_of g.C.Answers.due made.0) (sym made.4 ∙ e))
+pub returns-in-Err-TooLong-clause-served : goal.returns-in-Err-TooLong-clause-served
+returns-in-Err-TooLong-clause-served g c =
+    let read = c.in-Err-TooLong.ensures.too_long (ap Err c.in-Err-TooLong.field-0-is) in
+    let long = IsInput-long _ _ read.0 read.1 (omega (arith, read.2)) in (
+      long.0,
+      long.1,
+      served _ _ _ _ _ _ _ (read-long _ _ long.0 read.0 long.2 read.1 read.2)
+          (subst (λ d. IsAnswered d (g.K.Sink.held c.args.sink.now) (g.K.Sink.held c.write_text.new.sink) c.write_text.result) (sym (due-long g.C.Answers.due long.0 long.2))
+          (c.write_text.ensures.answered too_long c.too_long.ensures.ok c.too_long.ensures.err)),
+    )
+
+pub returns-in-Err-TooLong-clause-device : goal.returns-in-Err-TooLong-clause-device
+returns-in-Err-TooLong-clause-device g c = λ e. inr (c.write_text.ensures.device too_long c.too_long.ensures.ok c.too_long.ensures.err e)
+
+pub returns-in-Err-Device-clause-served : goal.returns-in-Err-Device-clause-served
+returns-in-Err-Device-clause-served g c = served_none g.C.Answers.due (g.S.Source.left c.args.source.now) (g.S.Source.left c.read_all.new.source) (g.K.Sink.held c.args.sink.now) Device (inr refl)
+
+pub returns-in-Err-Memory-clause-served : goal.returns-in-Err-Memory-clause-served
+returns-in-Err-Memory-clause-served g c = served_none g.C.Answers.due (g.S.Source.left c.args.source.now) (g.S.Source.left c.read_all.new.source) (g.K.Sink.held c.args.sink.now) Memory (inl refl)

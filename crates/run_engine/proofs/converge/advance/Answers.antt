@@ -19,6 +19,7 @@ loop-front-preserved c =
       order = omega arith;
       stepped = λ r before k. HaveStepped-next (trace_of c.args.old.now) c.args.ops.now (all_marks c.args.old.now) c.loop-front.front.heap r c.loop-front.front.at c.args.to c.in_ok-piece.piece.len before c.loop-front.meter _
           c.loop-front.invariant.front.state long c.in_ok-piece.ensures.taken (c.loop-front.invariant.stepped r before k);
+      never_less = omega (arith, c.loop-front.invariant.never_less, c.in_ok-piece.ensures.never_less);
       rise = omega (arith, c.in_ok-piece.ensures.steps);
       laid = λ kept r k. AreLaid-next c.args.ops.now _ _ kept r c.loop-front.front.at c.in_ok-piece.piece.len c.loop-front.front.segments.items c.in_ok-piece.piece.segments.items c.loop-front.front.heap c.in_ok-piece.piece.end c.loop-front.invariant.front piece c.in_ok-piece.ensures.gap (c.loop-front.invariant.laid kept r k);
     })
@@ -27,7 +28,7 @@ pub next_piece-requires-clause-new : goal.next_piece-requires-clause-new
 next_piece-requires-clause-new c = new-slice_range c.args.ops.now c.loop-front.front.heap c.loop-front.front.at c.args.to c.requires.new c.loop-front.invariant.front.state
 
 pub loop-front-init : goal.loop-front-init
-loop-front-init c = record { front = c.requires.front; order = c.requires.order; stepped = λ r before k. k; rise = omega arith; laid = λ kept r k. k }
+loop-front-init c = record { front = c.requires.front; order = c.requires.order; stepped = λ r before k. k; never_less = omega arith; rise = omega arith; laid = λ kept r k. k }
 
 pub returns-clause-stepped : goal.returns-clause-stepped
 returns-clause-stepped c = c.loop-front.invariant.stepped

@@ -88,7 +88,7 @@ returns-then-same-clause-marks c =
     subst (λ x. AreLaid (all_marks c.args.old.now) (marks_from 0 c.args.front.segments.items) c.args.front.at x (marks_from 0 c.in_ok-front.front.segments.items)) there (c.in_ok-front.ensures.marks _ _ c.loop-i.invariant.laid) in
     rw (c.in_ok-segments.ensures, take-rest c.loop-i.i c.args.old.now)
     (AreMarksOf-stop c.args.old.now c.in_ok-front.front.segments.items c.args.ops.now (marks_from 0 c.args.front.segments.items) c.args.a c.args.b c.loop-i.i c.loop-i.at c.args.front.at c.index-old-i.result
-    c.requires.shared c.loop-i-test.true c.index-old-i.is c.in-Some.mark.now (sym c.in-Some.ensures) c.loop-i.invariant.beside.place c.if-at-a.true
+    c.requires.run.full c.requires.shared c.loop-i-test.true c.index-old-i.is c.in-Some.mark.now (sym c.in-Some.ensures) c.loop-i.invariant.beside.place c.if-at-a.true
     (agreed c) (least-agreeing _ _ _ _ _ _ _ _ _ _ _ _ c.loop-i.invariant.beside)
     (IsReached-length _ _ _ _ c.in_ok-front.ensures.front ∙ there) ((spliced-raw c).trace) laid)
 
@@ -119,6 +119,7 @@ pub loop-i-init : goal.loop-i-init
 loop-i-init c = record {
   beside = IsBeside-none c.args.old.now c.args.ops.now c.args.a c.args.b c.args.front.at c.args.meter.now c.args.front.segments.items c.args.front.heap c.requires.front c.requires.order;
   stepped = HaveStepped-none (trace_of c.args.old.now) c.args.ops.now (all_marks c.args.old.now) c.args.front.at c.args.meter.now;
+  never_less = omega arith;
   laid = AreLaid-none (all_marks c.args.old.now) (marks_from 0 c.args.front.segments.items) c.args.front.at;
 }
 
@@ -161,6 +162,7 @@ loop-i-preserved c =
                 let f : w.same.result ≡ false = w.if-same.false in
                 cc);
             stepped = w.in_ok-front.ensures.stepped _ _ c.loop-i.invariant.stepped;
+            never_less = omega (arith, c.loop-i.invariant.never_less, w.advance.ensures.never_less);
             laid = w.in_ok-front.ensures.marks _ _ c.loop-i.invariant.laid;
           })
       | then-at-a+in_default w ↦
@@ -170,6 +172,7 @@ loop-i-preserved c =
                 c.loop-i.front.at c.loop-i.front.segments.items c.loop-i.front.heap c.loop-i.meter c.index-old-i.result c.loop-i.invariant.beside c.loop-i-test.true c.index-old-i.is c.loop-i.invariant.beside.front c.loop-i.invariant.beside.order c.loop-i.invariant.beside.rise
                 (λ marked behind agrees. let f : is_some c.index-old-i.result.mark ≡ false = ap is_some (sym w.in_default.ensures) in cc);
             stepped = c.loop-i.invariant.stepped;
+            never_less = c.loop-i.invariant.never_less;
             laid = c.loop-i.invariant.laid;
           })
       | else-at-a w ↦
@@ -179,6 +182,7 @@ loop-i-preserved c =
                 c.loop-i.front.at c.loop-i.front.segments.items c.loop-i.front.heap c.loop-i.meter c.index-old-i.result c.loop-i.invariant.beside c.loop-i-test.true c.index-old-i.is c.loop-i.invariant.beside.front c.loop-i.invariant.beside.order c.loop-i.invariant.beside.rise
                 (λ marked behind agrees. let lt : c.loop-i.at < c.args.a = w.if-at-a.false in omega arith);
             stepped = c.loop-i.invariant.stepped;
+            never_less = c.loop-i.invariant.never_less;
             laid = c.loop-i.invariant.laid;
           })
     ]

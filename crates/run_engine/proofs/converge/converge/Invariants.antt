@@ -1,3 +1,4 @@
+use Rattle.std.proofs.Common.{◌≤◌}
 use Rattle.run_engine.specs.Segments.{trace_of, marks_from, all_marks}
 use Rattle.run_engine.specs.Steps.{HaveStepped}
 use Rattle.run_engine.specs.NewMarks.{AreLaid}
@@ -8,5 +9,6 @@ abbrev pub invariant-loop-i : goal.invariant-loop-i
 invariant-loop-i l = record {
   beside : IsBeside l.old l.ops l.a l.b l.initial.front.at l.initial.meter l.i l.at l.front.at l.front.segments.items l.front.heap l.meter;
   stepped : HaveStepped (trace_of l.old) l.ops (all_marks l.old) l.initial.front.at l.front.at l.initial.meter l.meter;
+  never_less : l.initial.meter ≤ l.meter;
   laid : AreLaid (all_marks l.old) (marks_from 0 l.initial.front.segments.items) l.initial.front.at l.front.at (marks_from 0 l.front.segments.items);
 }

@@ -7,6 +7,8 @@ abbrev pub invariant-lines : goal.invariant-lines
 invariant-lines l = record {
   reads : after_requests l.lone l.requests l.number (lines_of l.rest) ≡ after_requests l.lone [] l.first (lines_of l.bytes);
   number : l.number + length l.rest ≤ l.first + length l.bytes;
+  line : l.first ≤ l.number;
+  lines : l.number + length (lines_of l.rest) ≡ l.first + length (lines_of l.bytes);
 }
 
 abbrev pub decreases-lines : goal.decreases-lines

@@ -7,6 +7,8 @@ abbrev pub invariant-lines : goal.invariant-lines
 invariant-lines l = record {
   reads : script_from l.lone l.trace l.number (lines_of l.rest) ≡ read_script l.lone l.bytes;
   number : l.number + length l.rest ≤ length l.bytes + 1;
+  line : 1 ≤ l.number;
+  lines : l.number + length (lines_of l.rest) ≡ length (lines_of l.bytes) + 1;
 }
 
 abbrev pub decreases-lines : goal.decreases-lines
