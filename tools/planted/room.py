@@ -16,8 +16,12 @@ SECONDS = 1800
 class Room:
     """Folders for a crate's checks, below one of the run's own. The repository's libraries are read where they stand."""
 
-    def __init__(self, crate, words, at):
-        self.crate, self.words, self.at, self.checks = crate, words, at, []
+    def __init__(self, crate, words, at, with_answers):
+        self.crate, self.words, self.at, self.with_answers = crate, words, at, with_answers
+        # of each check its label, how many edits it judged, its processor seconds and its seconds
+        self.checks = []
+        # the planted function that a line of a file belongs to
+        self.lines = {}
 
     def check(self, label, edits, controls=()):
         """Checks these edits, and returns what the check printed. At most one of them is in place."""

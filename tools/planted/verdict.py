@@ -79,10 +79,15 @@ def of_answer(goal, text):
     return "clause, answer by hand" if kind == "clause" else kind
 
 
+def named(symbol, found):
+    """Returns what the check says of the function whose path ends in the name, if it says anything."""
+    return next((it for name, it in found.items() if name.endswith(f"::{symbol}") and it.verdict), None)
+
+
 def told_of(edit, found):
     """Returns what the check says of the function that the edit is judged by, if it says anything."""
     if not edit.in_place:
-        return next((it for name, it in found.items() if name.endswith(f"::{edit.symbol}") and it.verdict), None)
+        return named(edit.symbol, found)
     function = edit.function
     fits = lambda name: name.endswith(f"::{function.name}") and function.kind in name and function.trait in name
     return next((it for name, it in found.items() if fits(name) and it.verdict), None)
