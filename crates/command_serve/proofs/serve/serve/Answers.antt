@@ -1,4 +1,4 @@
-use Rattle.std.proofs.Common.{◌≡◌, ◌≤◌, length, ap, sym, subst, ◌∙◌, arith, Err, refl, inl, inr}
+use Rattle.std.proofs.Common.{◌≤◌, length, ap, sym, subst, ◌∙◌, arith, Err, refl, inl, inr}
 use Rattle.command_serve.specs.declared.exits.Exit.TheVariants.{Device, Memory}
 use Rattle.command_serve.specs.Serve.{max_input, too_long, IsAnswered}
 use Rattle.command_serve.proofs.Served.{IsInput-whole, IsInput-long, due-long, due-short, read-short, read-long, served, served_none}
