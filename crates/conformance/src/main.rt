@@ -1,4 +1,5 @@
-//! Runs each case of `data/` through the commands, over memory, and prints its name, its exit status and its output.
+//! Runs each case of `data/` through the commands, over memory, and prints its name, its exit status and its output. Replays each
+//! trace as the plain program, too, and tells how many outcomes were the same.
 #![tactic(auto)]
 
 ghost use Rattle.std.specs.Prelude.{◌≢◌};
@@ -8,30 +9,57 @@ use command_serve::exits::Exit;
 use command_serve::replay::serve_replay;
 use command_serve::script::serve_script;
 use command_serve::whatif::serve_whatif;
-use std::alloc::Global;
+use op_step::meter::Meter;
+use op_step::replay::replay;
+use ownership_model::plain::plain_replay;
+use std::alloc::{AllocError, Global};
 use std::fs;
 use std::io::{self, Write};
+use trace_reader::read_script;
 use trace_types::devices::{StdSink, StdSource};
 
 fn main(rt: HostRuntime) -> io::Result<()> {
     let index = fs::read_to_string(&rt, "index")?;
+    let mut told = 0u64;
+    let mut same = 0u64;
     for line in index.lines() {
-        run_case(&rt, line)?;
+        let counts = run_case(&rt, line)?;
+        told = told.saturating_add(counts.0);
+        same = same.saturating_add(counts.1);
     }
-    Ok(())
+    println!(rt; "== of {told} outcomes the plain program gives {same}")
 }
 
-// A line of the index is a command and the file of its input.
-fn run_case(rt: &HostRuntime, line: &str) -> io::Result<()> {
+// A line of the index is a command and the file of its input. Answers how many outcomes its trace has, and how many of these the
+// plain program gives.
+fn run_case(rt: &HostRuntime, line: &str) -> io::Result<(u64, u64)> {
     let Some((command, name)) = line.split_once(' ') else {
-        return println!(rt; "no case: {line}");
+        println!(rt; "no case: {line}")?;
+        return Ok((0, 0));
     };
     let input = fs::read(rt, name)?;
     let mut output = Vec::new(rt.alloc());
     let exit = serve(rt.alloc(), command, input.as_slice(), &mut output);
     let status = exit.status();
     println!(rt; "== {name} {status}")?;
-    io::writer(rt).write_all(output.as_slice())
+    io::writer(rt).write_all(output.as_slice())?;
+    Ok(beside_plain(rt.alloc(), input.as_slice())?)
+}
+
+// How many outcomes the replay of an input's trace has, and how many of these the plain program gives in their places.
+fn beside_plain(alloc: Global, input: &[u8]) -> Result<(u64, u64), AllocError> {
+    let Ok(script) = read_script(alloc, input, false) else {
+        return Ok((0, 0));
+    };
+    let (outcomes, _) = replay(alloc, &script.trace, &mut Meter::new())?;
+    let (plain, _) = plain_replay(alloc, &script.trace)?;
+    let same = outcomes
+        .as_slice()
+        .iter()
+        .zip(plain.as_slice())
+        .filter(|(a, b)| a.same(b))
+        .count();
+    Ok((outcomes.len() as u64, same as u64))
 }
 
 // Runs one command over an input. Its words are never refused.

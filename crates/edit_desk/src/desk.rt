@@ -3,6 +3,7 @@ ghost use Rattle.std.specs.Prelude.{◌≡◌, ◌≢◌, ◌<◌, ◌≤◌, �
 ghost use Rattle.std.specs.Option.{option_copied};
 ghost use Rattle.run_engine.specs.Edited.{edited_by};
 ghost use Rattle.edit_desk.specs.declared.entries.Entry.{Entry};
+ghost use Rattle.edit_desk.specs.declared.replies.Reply.TheVariants.{HistoryFull};
 ghost use Rattle.edit_desk.specs.Answers.{opened, reply_to, after, IsLegal};
 ghost use Rattle.edit_desk.specs.Versions.{IsDue, IsSettled, IsNextRun, ReplaysWithin, StepsAtLeast};
 ghost use Rattle.run_engine.specs.RunView.{RunView};
@@ -89,7 +90,8 @@ impl Desk {
 
     /// How many requests were answered and stored.
     pub fn len(&self) -> usize
-        ensures { result ≡ length self.now.standing.history }
+        ensures length { result ≡ length self.now.standing.history }
+        ensures most { result ≤ 1000000 }
     {
         self.history.len()
     }
@@ -126,7 +128,7 @@ impl Desk {
     ) -> Result<Reply, AllocError>
         ensures reply { IfOk result (λ r. r ≡ reply_to self.old.standing request) }
         // A full history is told without memory.
-        ensures room { OnErr result (length self.old.standing.history < max_entries) }
+        ensures history_full { MAX_ENTRIES ≤ length self.old.standing.history → result ≡ Ok HistoryFull }
         ensures after { OnOk result (self.new.standing ≡ after self.old.standing session request) }
         ensures unchanged { OnErr result (self.new.standing ≡ self.old.standing) }
         ensures run { OnOk result (let next : RunView = record { trace = self.new.standing.trace; marks = self.new.marks } in IsNextRun self.old.standing.trace self.old.marks next) }

@@ -2,6 +2,7 @@
 use crate::chunk_run::run;
 use crate::meter::Meter;
 use crate::replay::replay;
+use crate::step;
 use object_heap::Heap;
 use std::alloc::Global;
 use std::process::Abort;
@@ -452,4 +453,21 @@ fn skips(rt: HostRuntime) -> Result<(), Fail> {
         skipped(Reason::CellHeld(0)),
     ];
     assert_told(&rt, alloc, kinds, told.as_slice())
+}
+
+#[test]
+fn one_new(rt: HostRuntime) -> Result<(), Fail> {
+    let alloc = rt.alloc();
+    let fields = Sequence::empty(alloc);
+    let op = Op::make(1, 0, Kind::New { to: 0, fields })?;
+    let mut meter = Meter::new();
+    let (heap, outcome) = step(alloc, &Heap::empty(), &op, &mut meter)?;
+    assert_eq!(rt; outcome.verdict, Verdict::Did(Answer::Made));
+    assert_eq!(rt; meter.count(), 1);
+    let share = heap.share()?;
+    assert!(rt; share.same(&heap));
+    assert_eq!(rt; share.handles(alloc)?.as_slice(), [0].as_slice());
+    assert_eq!(rt; share.cells(alloc)?.len(), 0);
+    assert_eq!(rt; share.objects(alloc)?.as_slice(), [1].as_slice());
+    Ok(())
 }

@@ -5,9 +5,11 @@ ghost use Rattle.std.specs.Io.KnownBytes.{ReadConsumes, WriteAppends, Appends};
 ghost use Rattle.trace_types.specs.Devices.{Raises, AppendsFront};
 
 use std::io::{Read, Write};
+use thiserror::Error;
 
 /// A device failed.
-#[derive(Clone, Copy, Debug, PartialEq, Eq)]
+#[derive(Clone, Copy, Debug, PartialEq, Eq, Error)]
+#[error("a device failed")]
 pub struct Failed;
 
 /// Where bytes come from.

@@ -1,4 +1,4 @@
-use Rattle.std.proofs.Common.{◌≡◌, ◌≤◌, length, ap, sym, subst, ◌∙◌, arith, Err, refl, inl, inr}
+use Rattle.std.proofs.Common.{◌≤◌, length, ap, sym, subst, ◌∙◌, arith, Err, refl, inl, inr}
 use Rattle.command_serve.specs.declared.exits.Exit.TheVariants.{Device, Memory}
 use Rattle.trace_types.specs.declared.limits.TheConstants.{MAX_INPUT}
 use Rattle.command_serve.specs.Serve.{too_long, IsAnswered}
