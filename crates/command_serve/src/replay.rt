@@ -8,7 +8,7 @@ ghost use Rattle.command_serve.specs.Replay.{replay_due, answer_of, report_of_re
 
 use crate::exits::Exit;
 use crate::serve::{Answers, serve, write_text};
-use leak_report::report::report;
+use leak_report::report::{report, report_of_stretches};
 use leak_report::text::text_of;
 use leak_report::write::{WriteFault, write_report};
 use object_heap::heap::Heap;
@@ -112,11 +112,11 @@ fn text_with(
     Ok(text_of(alloc, &report)?.into_bytes())
 }
 
-/// The text of the report of a run.
+/// The text of the report of a run, whose operations and outcomes are borrowed.
 pub fn report_on_run(alloc: Global, run: &Run) -> Result<Vec<u8>, AllocError>
     ensures { IfOk result (λ text. text.items ≡ report_of_replay run.now.trace) }
 {
-    let trace = run.trace(alloc)?;
-    let outcomes = run.outcomes(alloc)?;
-    text_with(alloc, &trace, outcomes.as_slice(), run.end())
+    let stretches = run.stretches(alloc)?;
+    let report = report_of_stretches(alloc, stretches, run.end())?;
+    Ok(text_of(alloc, &report)?.into_bytes())
 }

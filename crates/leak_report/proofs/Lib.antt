@@ -1,3 +1,4 @@
 mod HolderLemmas
 mod LifeLemmas
 mod LineLemmas
+mod StretchLemmas

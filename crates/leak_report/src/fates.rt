@@ -4,6 +4,7 @@ ghost use Rattle.std.specs.Option.{option_or};
 ghost use Rattle.std.specs.Ordering.{nat_cmp};
 ghost use Rattle.std.specs.BTreeMap.{get};
 ghost use Rattle.std.specs.BTreeSet.{insert_key};
+ghost use Rattle.trace_types.specs.Stretches.{outcomes_of};
 ghost use Rattle.leak_report.specs.Lives.{ending_at, freed_at, numbered, events_of, first_ending, first_freed, made_after};
 ghost use Rattle.leak_report.specs.Lives as definition;
 
@@ -11,6 +12,7 @@ use crate::lives::{Ending, Life};
 use std::alloc::{AllocError, Global};
 use std::collections::{BTreeMap, BTreeSet};
 use trace_types::outcomes::{Answer, Event, Outcome, Verdict};
+use trace_types::stretches::Stretch;
 
 /// The objects that were made, how the value of each ended first, and the operation that first gave up its allocation.
 #[derive(Drop)]
@@ -33,17 +35,29 @@ impl Fates {
     }
 }
 
-/// What all outcomes tell. Goes through the events once.
-pub fn fates_of(alloc: Global, outcomes: &[Outcome]) -> Result<Fates, AllocError>
-    ensures made { IfOk result (λ f. f.made.keys ≡ made_after [] outcomes.now) }
-    ensures endings { IfOk result (λ f. (o : ℕ) → get nat_cmp f.endings o ≡ first_ending o (events_of outcomes.now)) }
-    ensures freed { IfOk result (λ f. (o : ℕ) → get nat_cmp f.freed o ≡ first_freed o (events_of outcomes.now)) }
+/// What the outcomes of all stretches tell. Goes through the events once.
+pub fn fates_of(alloc: Global, stretches: &[Stretch]) -> Result<Fates, AllocError>
+    ensures made { IfOk result (λ f. f.made.keys ≡ made_after [] (outcomes_of stretches.now)) }
+    ensures endings { IfOk result (λ f. (o : ℕ) → get nat_cmp f.endings o ≡ first_ending o (events_of (outcomes_of stretches.now))) }
+    ensures freed { IfOk result (λ f. (o : ℕ) → get nat_cmp f.freed o ≡ first_freed o (events_of (outcomes_of stretches.now))) }
 {
     let mut fates = Fates {
         made: BTreeSet::new(alloc),
         endings: BTreeMap::new(alloc),
         freed: BTreeMap::new(alloc),
     };
+    for stretch in stretches {
+        note_outcomes(&mut fates, stretch.outcomes)?;
+    }
+    Ok(fates)
+}
+
+// Adds what outcomes tell of objects of which nothing was told.
+fn note_outcomes(fates: &mut Fates, outcomes: &[Outcome]) -> Result<(), AllocError>
+    ensures made { OnOk result (fates.new.made.keys ≡ made_after fates.old.made.keys outcomes.now) }
+    ensures endings { OnOk result ((o : ℕ) → get nat_cmp fates.new.endings o ≡ option_or (get nat_cmp fates.old.endings o) (first_ending o (events_of outcomes.now))) }
+    ensures freed { OnOk result ((o : ℕ) → get nat_cmp fates.new.freed o ≡ option_or (get nat_cmp fates.old.freed o) (first_freed o (events_of outcomes.now))) }
+{
     for outcome in outcomes {
         note_made(&mut fates.made, outcome.verdict, outcome.id)?;
         note_events(
@@ -53,7 +67,7 @@ pub fn fates_of(alloc: Global, outcomes: &[Outcome]) -> Result<Fates, AllocError
             outcome.events.as_slice(),
         )?;
     }
-    Ok(fates)
+    Ok(())
 }
 
 // Adds an operation's object to those that were made, if it made one.

@@ -1,14 +1,25 @@
 //! The text of a report's lines: what each operation did.
 ghost use Rattle.std.specs.Prelude.{◌≡◌, ◌++◌, length, string_bytes, OnOk};
+ghost use Rattle.trace_types.specs.Stretches.{ops_of, outcomes_of};
 ghost use Rattle.leak_report.specs.Lines.{line_of, lines_of};
 ghost use Rattle.leak_report.specs.Text.{answer_text, reason_text, verdict_text, event_text, events_text, counts_text, outcome_text, line_text, lines_text};
 
 use std::alloc::AllocError;
 use trace_types::ops::Op;
 use trace_types::outcomes::{Answer, Counts, Event, Outcome, Reason, Verdict};
+use trace_types::stretches::Stretch;
 
-/// Adds a line for each operation.
-pub fn push_lines(text: &mut String, ops: &[Op], outcomes: &[Outcome]) -> Result<(), AllocError>
+/// Adds a line for each operation of each stretch.
+pub fn push_all_lines(text: &mut String, stretches: &[Stretch]) -> Result<(), AllocError>
+    ensures { OnOk result (string_bytes text.new ≡ string_bytes text.old ++ lines_text (lines_of (ops_of stretches.now) (outcomes_of stretches.now))) }
+{
+    for stretch in stretches {
+        push_lines(text, stretch.ops, stretch.outcomes)?;
+    }
+    Ok(())
+}
+
+fn push_lines(text: &mut String, ops: &[Op], outcomes: &[Outcome]) -> Result<(), AllocError>
     requires { length outcomes.now ≡ length ops.now }
     ensures { OnOk result (string_bytes text.new ≡ string_bytes text.old ++ lines_text (lines_of ops.now outcomes.now)) }
 {

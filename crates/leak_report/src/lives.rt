@@ -2,12 +2,13 @@
 ghost use Rattle.std.specs.Prelude.{◌≡◌, IfOk, map};
 ghost use Rattle.std.specs.Ordering.{nat_cmp};
 ghost use Rattle.std.specs.BTreeMap.{get};
+ghost use Rattle.trace_types.specs.Stretches.{outcomes_of};
 ghost use Rattle.leak_report.specs.Lives.{lives_of};
 
 use crate::fates::{Fates, fates_of};
 use std::alloc::{AllocError, Global};
-use trace_types::outcomes::Outcome;
 use trace_types::sequence::Sequence;
+use trace_types::stretches::Stretch;
 
 /// How a value ended, with the number of the operation.
 #[derive(Clone, Copy, Debug, PartialEq, Eq)]
@@ -32,10 +33,10 @@ pub struct Life {
 }
 
 /// The lives of all objects that were made, rising. The events are gone through once.
-pub fn lives(alloc: Global, outcomes: &[Outcome]) -> Result<Sequence<Life>, AllocError>
-    ensures { IfOk result (λ ls. ls ≡ lives_of outcomes.now) }
+pub fn lives(alloc: Global, stretches: &[Stretch]) -> Result<Sequence<Life>, AllocError>
+    ensures { IfOk result (λ ls. ls ≡ lives_of (outcomes_of stretches.now)) }
 {
-    let fates = fates_of(alloc, outcomes)?;
+    let fates = fates_of(alloc, stretches)?;
     let lives = all_lives(alloc, &fates)?;
     Ok(Sequence::from_vec(lives))
 }

@@ -16,6 +16,7 @@ use trace_types::kinds::Kind;
 use trace_types::ops::Op;
 use trace_types::outcomes::{Answer, Counts, Event, Outcome, Reason, Verdict};
 use trace_types::sequence::Sequence;
+use trace_types::stretches::Stretch;
 use trace_types::trace::Trace;
 
 // Operations with the numbers from 1 on, and what they did.
@@ -252,11 +253,14 @@ fn some_leaks(alloc: Global) -> Result<Leaks, Fail> {
 
 fn shown_text(alloc: Global, all: &Replayed, leaks: Leaks) -> Result<String, Fail> {
     let ops = all.trace.as_slice();
-    if all.outcomes.len() != ops.len() {
+    let outcomes = all.outcomes.as_slice();
+    if outcomes.len() != ops.len() {
         return Err(Fail::from("as many outcomes as operations"));
     }
-    let lives = lives(alloc, &all.outcomes)?;
-    let shown = Report::new(ops, &all.outcomes, lives, leaks);
+    let mut stretches = Vec::new(alloc);
+    stretches.push(Stretch { ops, outcomes })?;
+    let lives = lives(alloc, &stretches)?;
+    let shown = Report::new(stretches, lives, leaks);
     Ok(text_of(alloc, &shown)?)
 }
 

@@ -111,3 +111,10 @@ op-next segments j rest s h is le =
     ap (λ ss. slice_get (trace_of ss) rest) (drop-cons segments j s h ∙ ap (λ t. t ∷ drop (suc j) segments) (sym is))
     ∙ slice_get-append_right (ops_of s) (trace_of (drop (suc j) segments)) rest le
     ∙ ap (λ n. slice_get (trace_of (drop n segments)) (rest - length (ops_of s))) (sym (add-one j))
+
+-- a segment of a replay has as many outcomes as operations
+pub even_at : (m : State) (segments : List SegmentView) (j : ℕ) (s : SegmentView) → AreReplayFrom m segments → j < length segments → s ≡ get_or segments j s → length s.outcomes ≡ length s.ops
+even_at m [] j s replay h is = absurd (omega arith)
+even_at m (t ∷ segments) zero s replay h is =
+    ap (λ (x : SegmentView). length x.outcomes) is ∙ ap length replay.0.outcomes ∙ appends.lengths m t.ops ∙ ap (λ (x : SegmentView). length x.ops) (sym is)
+even_at m (t ∷ segments) (suc j) s replay h is = even_at (end_from m (ops_of t)) segments j s replay.1 (omega arith) is

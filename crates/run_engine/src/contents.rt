@@ -1,6 +1,9 @@
 //! What all segments of a run have.
 ghost use Rattle.std.specs.Prelude.{◌≡◌, ◌≤◌, ◌++◌, IfOk, OnOk, length};
-ghost use Rattle.run_engine.specs.Segments.{trace_of, outcomes_in, mark_here, all_marks};
+ghost use Rattle.trace_types.specs.Stretches.{outcomes_of};
+ghost use Rattle.trace_types.specs.Stretches as lent;
+ghost use Rattle.ownership_model.specs.State.{nothing_held};
+ghost use Rattle.run_engine.specs.Segments.{trace_of, outcomes_in, mark_here, all_marks, AreReplayFrom};
 
 use crate::listing::Listing;
 use crate::segment::Segment;
@@ -8,6 +11,7 @@ use std::alloc::{AllocError, Global};
 use trace_types::limits::MAX_OPS;
 use trace_types::outcomes::Outcome;
 use trace_types::sequence::Sequence;
+use trace_types::stretches::Stretch;
 
 /// How many operations there are.
 pub fn len_in(segments: &[Segment]) -> usize
@@ -31,6 +35,22 @@ pub fn ops_in<'a>(alloc: Global, segments: &'a [Segment]) -> Result<Listing<'a>,
         ops.extend(segment.ops())?;
     }
     Ok(ops)
+}
+
+/// The operations and outcomes of each segment, where they stand.
+pub fn stretches_in<'a>(
+    alloc: Global,
+    segments: &'a [Segment],
+) -> Result<Vec<Stretch<'a>>, AllocError>
+    requires { AreReplayFrom nothing_held segments.now }
+    ensures ops { IfOk result (λ v. lent.ops_of v.items ≡ trace_of segments.now) }
+    ensures outcomes { IfOk result (λ v. outcomes_of v.items ≡ outcomes_in segments.now) }
+{
+    let mut stretches = Vec::with_capacity(alloc, segments.len())?;
+    for segment in segments {
+        stretches.push(segment.stretch())?;
+    }
+    Ok(stretches)
 }
 
 /// Copies of the outcomes.

@@ -2,6 +2,7 @@
 ghost use Rattle.std.specs.Prelude.{◌≡◌, ◌+◌, ◌<◌, ◌≤◌, List, Contains, length, slice_get, take, IfOk, IfErr, IfSome, IsTrue, IsErr, ◌↔◌, if◌then◌else◌, Ok, Err};
 ghost use Rattle.std.specs.Option.{option_copied};
 ghost use Rattle.trace_types.specs.Operation.{Operation};
+ghost use Rattle.trace_types.specs.Stretches.{ops_of, outcomes_of};
 ghost use Rattle.trace_types.specs.Trace.{IsTrace};
 ghost use Rattle.ownership_model.specs.State.{nothing_held};
 ghost use Rattle.ownership_model.specs.Step.{end_from, outcomes_from};
@@ -14,7 +15,7 @@ ghost use Rattle.run_engine.specs.Bounds.{StepsAtMostFrom};
 ghost use Rattle.run_engine.specs.NewMarks.{AreMarksAfter};
 ghost use Rattle.run_engine.specs.Steps.{AreRising, AreSteppedFrom};
 
-use crate::contents::{len_in, marks_in, ops_in, outcomes_in};
+use crate::contents::{len_in, marks_in, ops_in, outcomes_in, stretches_in};
 use crate::converge::{Front, joined};
 use crate::edits::{copied, edited, try_size};
 use crate::faults::RunFault;
@@ -29,10 +30,11 @@ use op_step::meter::Meter;
 use std::alloc::{AllocError, Global};
 use std::marker::Model;
 use trace_types::edits::Batch;
-use trace_types::limits::MAX_EDITS;
+use trace_types::limits::{MAX_EDITS, MAX_OPS};
 use trace_types::ops::Op;
 use trace_types::outcomes::Outcome;
 use trace_types::sequence::Sequence;
+use trace_types::stretches::Stretch;
 use trace_types::trace::Trace;
 
 /// The replay of a trace, with its outcomes and heaps at some positions, its checkpoints. Contracts see the trace and
@@ -190,6 +192,17 @@ impl Run {
     {
         let ops = ops_in(alloc, &self.segments)?;
         copied(alloc, &ops).map_err(|_| AllocError)
+    }
+
+    /// The operations with their outcomes, where they stand, in stretches one behind the other. By its clauses a caller
+    /// knows that there are at most `MAX_OPS`.
+    pub fn stretches(&self, alloc: Global) -> Result<Vec<Stretch<'_>>, AllocError>
+        ensures ops { IfOk result (λ v. ops_of v.items ≡ self.now.trace) }
+        ensures outcomes { IfOk result (λ v. outcomes_of v.items ≡ outcomes_from nothing_held self.now.trace) }
+        ensures few { length self.now.trace ≤ MAX_OPS }
+    {
+        let stretches = stretches_in(alloc, &self.segments)?;
+        Ok(stretches)
     }
 
     /// Copies of the outcomes, in order.

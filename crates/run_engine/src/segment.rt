@@ -1,5 +1,5 @@
 //! A segment of a run.
-ghost use Rattle.std.specs.Prelude.{◌≡◌, ◌++◌, IfOk, OnOk, None, is_some};
+ghost use Rattle.std.specs.Prelude.{◌≡◌, ◌++◌, length, IfOk, OnOk, None, is_some};
 ghost use Rattle.std.specs.Option.{option_copied};
 
 use object_heap::heap::Heap;
@@ -9,6 +9,7 @@ use std::sync::Arc;
 use trace_types::ops::Op;
 use trace_types::outcomes::Outcome;
 use trace_types::sequence::Sequence;
+use trace_types::stretches::Stretch;
 
 #[derive(Drop)]
 struct Replayed {
@@ -73,6 +74,18 @@ impl Segment {
         ensures { result.now ≡ self.now.outcomes }
     {
         self.body.outcomes.as_slice()
+    }
+
+    /// The operations and their outcomes, where they stand.
+    pub fn stretch(&self) -> Stretch<'_>
+        requires { length self.now.outcomes ≡ length self.now.ops }
+        ensures ops { result.ops.now ≡ self.now.ops }
+        ensures outcomes { result.outcomes.now ≡ self.now.outcomes }
+    {
+        Stretch {
+            ops: self.ops(),
+            outcomes: self.outcomes(),
+        }
     }
 
     pub fn is_marked(&self) -> bool
