@@ -32,32 +32,43 @@ fn removal(rt: &HostRuntime, id: u32, times: u32) -> Result<Batch, Fail> {
     Ok(batch)
 }
 
+fn asked(
+    rt: &HostRuntime,
+    desk: &mut Desk,
+    session: u32,
+    base: u32,
+    times: u32,
+) -> Result<Reply, Fail> {
+    let batch = removal(rt, 1, times)?;
+    Ok(desk.answer(rt.alloc(), session, Request { base, batch })?)
+}
+
 #[test]
 fn desk_replies(rt: HostRuntime) -> Result<(), Fail> {
-    let alloc = rt.alloc();
     let mut desk = opened(&rt)?;
-    let batch = removal(&rt, 1, 0)?;
-    let reply = desk.answer(alloc, 0, Request { base: 0, batch })?;
-    assert_eq!(rt; reply, Reply::Refused(Refusal::EmptyBatch));
-    let batch = removal(&rt, 1, 65)?;
-    let reply = desk.answer(alloc, 0, Request { base: 0, batch })?;
-    assert_eq!(rt; reply, Reply::Refused(Refusal::TooManyEdits));
-    let batch = removal(&rt, 1, 2)?;
-    let reply = desk.answer(alloc, 0, Request { base: 0, batch })?;
-    assert_eq!(rt; reply, Reply::Refused(Refusal::NoSuchOp(1)));
-    let batch = removal(&rt, 1, 1)?;
-    let reply = desk.answer(alloc, 3, Request { base: 5, batch })?;
-    assert_eq!(rt; reply, Reply::Stale(0));
-    let batch = removal(&rt, 1, 1)?;
-    let reply = desk.answer(alloc, 3, Request { base: 0, batch })?;
-    assert_eq!(rt; reply, Reply::Accepted(1));
+    let table = [
+        (0, 0, 0, Reply::Refused(Refusal::EmptyBatch)),
+        (0, 0, 65, Reply::Refused(Refusal::TooManyEdits)),
+        (0, 0, 2, Reply::Refused(Refusal::NoSuchOp(1))),
+        (3, 5, 1, Reply::Stale(0)),
+        (3, 0, 1, Reply::Accepted(1)),
+    ];
+    for (session, base, times, due) in table {
+        let reply = asked(&rt, &mut desk, session, base, times)?;
+        assert_eq!(rt; reply, due);
+    }
     assert_eq!(rt; desk.version(), 1);
     assert_eq!(rt; desk.len(), 5);
     assert_eq!(rt; desk.published().run().len(), 0);
     let last = desk.entry(4).ok_or("five entries")?;
     assert_eq!(rt; last.session, 3);
-    let mut text = String::new(alloc);
-    push_reply(&mut text, reply)?;
+    Ok(())
+}
+
+#[test]
+fn replies_are_told(rt: HostRuntime) -> Result<(), Fail> {
+    let mut text = String::new(rt.alloc());
+    push_reply(&mut text, Reply::Accepted(1))?;
     push_reply(&mut text, Reply::Refused(Refusal::NoSuchOp(1)))?;
     assert!(rt; text.as_str() == "accepted 1\nrefused NoSuchOp 1\n");
     Ok(())
