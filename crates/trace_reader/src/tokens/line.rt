@@ -43,7 +43,7 @@ pub fn line_members<'a>(
     whole(alloc, &mut reader)
 }
 
-// All of the tokens.
+// All of the tokens. Arrays and objects nest 127 deep at most, as `serde_json` reads them, and so 126 deep within the first.
 fn whole<'a>(alloc: Global, reader: &mut Reader<'a>) -> Result<Option<Vec<Member<'a>>>, Unread>
     ensures ok { IfOk result (λ o. MatchOption o ((d : Data) × (read_tokens reader.old ≡ Some d) × (is_object d ≡ false))
         (λ list. (ms : Members) × (read_tokens reader.old ≡ Some (object ms)) × Tells list.items ms)) }
