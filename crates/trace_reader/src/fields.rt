@@ -1,79 +1,97 @@
 //! The fields of a new object.
-ghost use Rattle.std.specs.Prelude.{◌≡◌, ◌≤◌, [], length, Some, IfOk, IsTrue, ◌&&◌, nat_le};
+ghost use Rattle.std.specs.Prelude.{◌≡◌, ◌≤◌, [], length, codes, IfOk, IsTrue};
 ghost use Rattle.std.specs.List.{list_all};
-ghost use Rattle.serde_json.specs.View.{view, items_view};
-ghost use Rattle.trace_reader.specs.Members.{Gives, field_named, field_of, field_test, fields_from, few_fields, fields_at};
+ghost use Rattle.serde_json.specs.Data.{Members, object};
+ghost use Rattle.trace_reader.specs.Members.{Gives, fields_at, field_test};
+ghost use Rattle.trace_reader.specs.Looks.{find, Tells, fields_told, few_told, fields_of, plain};
 
 use crate::fault::LineCause;
-use crate::members;
-use serde_json::Value;
+use crate::members::get;
+use crate::seen::{Member, Seen};
 use std::alloc::Global;
 use trace_types::kinds::Field;
 use trace_types::limits::{MAX_FIELDS, MAX_NAME};
 use trace_types::sequence::Sequence;
 
 /// The member `fields`: at most `MAX_FIELDS` elements, each a handle's number, null, or where `cyclic` the text `me`.
-#[tactic(auto, unfolding(crate::specs::Members::fields_at))]
-pub fn fields(alloc: Global, value: &Value, cyclic: bool) -> Result<Sequence<Field>, LineCause>
-    ensures value { Gives result (fields_at cyclic (view value.now)) }
+pub fn fields<'a>(
+    alloc: Global,
+    list: &[Member<'a>],
+    cyclic: bool,
+) -> Result<Sequence<Field>, LineCause>
+    ensures value { (ms : Members) → Tells list.now ms → Gives result (fields_at cyclic (object ms)) }
     ensures length { IfOk result (λ fields. length fields ≤ MAX_FIELDS) }
     ensures within { IfOk result (λ fields. IsTrue (list_all (field_test cyclic) fields)) }
 {
-    let Some(member) = value.get("fields") else {
-        return Err(LineCause::Missing);
-    };
-    let Some(items) = member.as_array() else {
-        return Err(LineCause::WrongType);
-    };
-    few_elements(alloc, items.as_slice(), cyclic)
+    seen_fields(alloc, list, cyclic)
+}
+
+fn seen_fields<'a>(
+    alloc: Global,
+    list: &[Member<'a>],
+    cyclic: bool,
+) -> Result<Sequence<Field>, LineCause>
+    ensures value { Gives result (fields_told cyclic (find (codes "fields") list.now)) }
+    ensures length { IfOk result (λ fields. length fields ≤ MAX_FIELDS) }
+    ensures within { IfOk result (λ fields. IsTrue (list_all (field_test cyclic) fields)) }
+{
+    match get(list, "fields") {
+        Some(Seen::Elements(elements)) => few_elements(alloc, elements.as_slice(), cyclic),
+        Some(_) => Err(LineCause::WrongType),
+        None => Err(LineCause::Missing),
+    }
 }
 
 // The length is tried before the elements.
-fn few_elements(alloc: Global, items: &[Value], cyclic: bool) -> Result<Sequence<Field>, LineCause>
-    ensures value { Gives result (few_fields cyclic (Some (items_view items.now))) }
+fn few_elements(
+    alloc: Global,
+    elements: &[Result<Field, LineCause>],
+    cyclic: bool,
+) -> Result<Sequence<Field>, LineCause>
+    ensures value { Gives result (few_told cyclic elements.now) }
     ensures length { IfOk result (λ fields. length fields ≤ MAX_FIELDS) }
     ensures within { IfOk result (λ fields. IsTrue (list_all (field_test cyclic) fields)) }
 {
-    if items.len() > MAX_FIELDS {
+    if elements.len() > MAX_FIELDS {
         return Err(LineCause::OutOfRange);
     }
-    elements(alloc, items, cyclic)
+    all_elements(alloc, elements, cyclic)
 }
 
-fn elements(alloc: Global, items: &[Value], cyclic: bool) -> Result<Sequence<Field>, LineCause>
-    ensures value { Gives result (fields_from cyclic [] (items_view items.now)) }
-    ensures length { IfOk result (λ fields. length fields ≡ length items.now) }
+fn all_elements(
+    alloc: Global,
+    elements: &[Result<Field, LineCause>],
+    cyclic: bool,
+) -> Result<Sequence<Field>, LineCause>
+    ensures value { Gives result (fields_of cyclic [] elements.now) }
+    ensures length { IfOk result (λ fields. length fields ≡ length elements.now) }
     ensures within { IfOk result (λ fields. IsTrue (list_all (field_test cyclic) fields)) }
 {
     let mut fields = Sequence::empty(alloc);
-    for item in items {
-        let element = element(item, cyclic)?;
-        fields.push(element).map_err(|_| LineCause::Memory)?;
+    for element in elements {
+        let field = element_of(*element, cyclic)?;
+        fields.push(field).map_err(|_| LineCause::Memory)?;
     }
     Ok(fields)
 }
 
-fn element(value: &Value, cyclic: bool) -> Result<Field, LineCause>
-    ensures value { result ≡ field_of cyclic (view value.now) }
+// The field that an element of `new_cyclic` is in `new`, or in `new_cyclic`.
+fn element_of(element: Result<Field, LineCause>, cyclic: bool) -> Result<Field, LineCause>
+    ensures value { result ≡ plain cyclic element }
     ensures within { IfOk result (λ field. IsTrue (field_test cyclic field)) }
 {
-    if value.is_null() {
-        return Ok(Field::Null);
-    }
-    if let Some(text) = value.as_str() {
-        return named(text, cyclic);
-    }
-    let h = members::number_of(value, 0, MAX_NAME)?;
-    Ok(Field::Held(h))
-}
-
-fn named(text: &str, cyclic: bool) -> Result<Field, LineCause>
-    ensures value { result ≡ field_named cyclic text.now }
-    ensures within { IfOk result (λ field. IsTrue (field_test cyclic field)) }
-{
-    if cyclic && text == "me" {
-        Ok(Field::Me)
-    } else {
-        Err(LineCause::WrongType)
+    match element {
+        Ok(Field::Held(h)) => if h <= MAX_NAME {
+            Ok(Field::Held(h))
+        } else {
+            Err(LineCause::OutOfRange)
+        },
+        Ok(Field::Null) => Ok(Field::Null),
+        Ok(Field::Me) => if cyclic {
+            Ok(Field::Me)
+        } else {
+            Err(LineCause::WrongType)
+        },
+        Err(cause) => Err(cause),
     }
 }

@@ -9,9 +9,12 @@ mod members;
 mod op;
 mod request;
 mod script;
+mod seen;
 #[cfg(test)]
 mod tests;
+mod tokens;
 mod trace;
+mod values;
 mod write;
 
 pub use fault::{LineCause, LineFault, fault_line};

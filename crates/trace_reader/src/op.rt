@@ -1,12 +1,22 @@
-//! An operation of a line.
+//! An operation: of a line, or of a value.
 ghost use Rattle.std.specs.Prelude.{◌≡◌, IfOk, IsTrue};
+ghost use Rattle.serde_json.specs.Data.{Members, object};
+ghost use Rattle.serde_json.specs.Find.{as_object};
 ghost use Rattle.serde_json.specs.View.{view};
 ghost use Rattle.trace_types.specs.Limits.{is_kind};
 ghost use Rattle.trace_reader.specs.Members.{Gives};
+ghost use Rattle.trace_reader.specs.Looks.{Tells};
+ghost use Rattle.trace_reader.specs.Reading.{on_object};
 ghost use Rattle.trace_reader.specs.Reading as Reading;
+ghost use Rattle.trace_reader.specs.Writing.{op_of_line};
 
 use crate::fault::LineCause;
-use crate::{kinds, members};
+use crate::kinds;
+use crate::members::{number, text};
+use crate::seen::Member;
+use crate::tokens::line::{Unread, line_members};
+use crate::values::value_members;
+use json::Scratch;
 use serde_json::Value;
 use std::alloc::Global;
 use trace_types::kinds::Kind;
@@ -14,39 +24,62 @@ use trace_types::limits::{MAX_ID, MAX_THREAD};
 use trace_types::names::read_name;
 use trace_types::ops::Op;
 
-/// The operation that a value is, or its first fault.
+/// The operation that a line is, or its first fault.
 ///
 /// It is an object with the members `id` (1 to `MAX_ID`), `t` (0 to `MAX_THREAD`), `op`, the operation's name, and then
-/// those of the operation. Each is tried for `Missing`, `WrongType` and `OutOfRange` before the next one.
+/// those of the operation. Each is tried for `Missing`, `WrongType` and `OutOfRange` before the next one. The scratch is kept
+/// from line to line.
+#[tactic(auto, unfolding(crate::specs::Reading::read_op))]
+pub fn line_op(alloc: Global, line: &[u8], scratch: &mut Scratch) -> Result<Op, LineCause>
+    ensures { Gives result (op_of_line line.now) }
+{
+    match line_members(alloc, line, scratch) {
+        Ok(Some(list)) => members_of_op(alloc, list.as_slice()),
+        Ok(None) => Err(LineCause::NotObject),
+        Err(Unread::Refused) => Err(LineCause::NotJson),
+        Err(Unread::Memory) => Err(LineCause::Memory),
+    }
+}
+
+/// The operation that a value is, or its first fault, as that of a line.
 #[tactic(auto, unfolding(crate::specs::Reading::read_op))]
 pub fn read_op(alloc: Global, value: &Value) -> Result<Op, LineCause>
     ensures { Gives result (Reading.read_op (view value.now)) }
 {
-    if !value.is_object() {
-        return Err(LineCause::NotObject);
-    }
-    members_of_op(alloc, value)
+    object_op(alloc, value, LineCause::NotObject)
 }
 
-/// The operation that an object is.
-#[tactic(auto, unfolding(crate::specs::Reading::members_of_op))]
-pub fn members_of_op(alloc: Global, value: &Value) -> Result<Op, LineCause>
-    ensures { Gives result (Reading.members_of_op (view value.now)) }
+/// The operation that an object is; `cause` is the fault of another value.
+pub fn object_op(alloc: Global, value: &Value, cause: LineCause) -> Result<Op, LineCause>
+    ensures { Gives result (on_object cause (as_object (view value.now)) (Reading.members_of_op (view value.now))) }
 {
-    let id = members::number(value, "id", 1, MAX_ID)?;
-    let thread = members::number(value, "t", 0, MAX_THREAD)?;
-    let kind = kind(alloc, value)?;
+    let Some(members) = value.as_object() else {
+        return Err(cause);
+    };
+    let Ok(list) = value_members(alloc, members) else {
+        return Err(LineCause::Memory);
+    };
+    members_of_op(alloc, list.as_slice())
+}
+
+#[tactic(auto, unfolding(crate::specs::Reading::members_of_op))]
+fn members_of_op<'a>(alloc: Global, list: &[Member<'a>]) -> Result<Op, LineCause>
+    ensures { (ms : Members) → Tells list.now ms → Gives result (Reading.members_of_op (object ms)) }
+{
+    let id = number(list, "id", 1, MAX_ID)?;
+    let thread = number(list, "t", 0, MAX_THREAD)?;
+    let kind = kind(alloc, list)?;
     Op::make(id, thread, kind).map_err(|_| LineCause::OutOfRange)
 }
 
 #[tactic(auto, unfolding(crate::specs::Reading::kind_at))]
-fn kind(alloc: Global, value: &Value) -> Result<Kind, LineCause>
-    ensures value { Gives result (Reading.kind_at (view value.now)) }
+fn kind<'a>(alloc: Global, list: &[Member<'a>]) -> Result<Kind, LineCause>
+    ensures value { (ms : Members) → Tells list.now ms → Gives result (Reading.kind_at (object ms)) }
     ensures within { IfOk result (λ k. IsTrue (is_kind k)) }
 {
-    let text = members::text(value, "op")?;
+    let text = text(list, "op")?;
     let Some(name) = read_name(text) else {
         return Err(LineCause::UnknownOp);
     };
-    kinds::kind(alloc, name, value)
+    kinds::kind(alloc, name, list)
 }

@@ -6,8 +6,8 @@ ghost use Rattle.trace_reader.specs.Requests.{insert_at, remove_at, change_at, e
 ghost use Rattle.trace_reader.specs.Requests as Requests;
 
 use crate::fault::LineCause;
-use crate::members;
-use crate::op::members_of_op;
+use crate::op::object_op;
+use crate::values::{number, text};
 use serde_json::Value;
 use std::alloc::Global;
 use trace_types::edits::{Batch, Edit};
@@ -43,8 +43,8 @@ pub fn read_request(alloc: Global, value: &Value) -> Result<RequestLine, LineCau
 fn members_of_request(alloc: Global, value: &Value) -> Result<RequestLine, LineCause>
     ensures { Gives result (Requests.members_of_request (view value.now)) }
 {
-    let base = members::number(value, "base", 0, MAX_VERSION)?;
-    let session = members::number(value, "session", 0, MAX_SESSION)?;
+    let base = number(value, "base", 0, MAX_VERSION)?;
+    let session = number(value, "session", 0, MAX_SESSION)?;
     let batch = edits(alloc, value)?;
     Ok(RequestLine {
         base,
@@ -91,7 +91,7 @@ fn edit(alloc: Global, value: &Value) -> Result<Edit, LineCause>
 fn members_of_edit(alloc: Global, value: &Value) -> Result<Edit, LineCause>
     ensures { Gives result (Requests.members_of_edit (view value.now)) }
 {
-    let name = members::text(value, "edit")?;
+    let name = text(value, "edit")?;
     named(alloc, name, value)
 }
 
@@ -111,7 +111,7 @@ fn named(alloc: Global, name: &str, value: &Value) -> Result<Edit, LineCause>
 fn insert(alloc: Global, value: &Value) -> Result<Edit, LineCause>
     ensures { Gives result (insert_at (view value.now)) }
 {
-    let after = members::number(value, "after", 0, MAX_ID)?;
+    let after = number(value, "after", 0, MAX_ID)?;
     let op = op(alloc, value)?;
     Ok(Edit::Insert { after, op })
 }
@@ -120,7 +120,7 @@ fn insert(alloc: Global, value: &Value) -> Result<Edit, LineCause>
 fn remove(value: &Value) -> Result<Edit, LineCause>
     ensures { Gives result (remove_at (view value.now)) }
 {
-    let id = members::number(value, "id", 1, MAX_ID)?;
+    let id = number(value, "id", 1, MAX_ID)?;
     Ok(Edit::Remove { id })
 }
 
@@ -128,7 +128,7 @@ fn remove(value: &Value) -> Result<Edit, LineCause>
 fn change(alloc: Global, value: &Value) -> Result<Edit, LineCause>
     ensures { Gives result (change_at (view value.now)) }
 {
-    let id = members::number(value, "id", 1, MAX_ID)?;
+    let id = number(value, "id", 1, MAX_ID)?;
     let op = op(alloc, value)?;
     Ok(Edit::Change { id, op })
 }
@@ -141,8 +141,5 @@ fn op(alloc: Global, value: &Value) -> Result<Op, LineCause>
     let Some(member) = value.get("op") else {
         return Err(LineCause::Missing);
     };
-    if !member.is_object() {
-        return Err(LineCause::WrongType);
-    }
-    members_of_op(alloc, member)
+    object_op(alloc, member, LineCause::WrongType)
 }

@@ -8,6 +8,7 @@ use crate::fault::{LineCause, LineFault};
 use crate::lines::{cut_line, is_blank, json};
 use crate::request::{RequestLine, read_request};
 use crate::trace::read_line;
+use json::Scratch;
 use std::alloc::Global;
 use trace_types::limits::MAX_LINE;
 use trace_types::sequence::Sequence;
@@ -33,6 +34,7 @@ pub fn read_script(alloc: Global, bytes: &[u8], lone: bool) -> Result<Script, Li
     ensures line { IfErr result (λ e. (1 ≤ e.line) × (e.line ≤ length (lines_of bytes.now))) }
 {
     let mut trace = Trace::new(alloc);
+    let mut scratch = Scratch::new(alloc);
     let mut rest = bytes;
     let mut number = 1;
     'lines: loop {
@@ -45,7 +47,7 @@ pub fn read_script(alloc: Global, bytes: &[u8], lone: bool) -> Result<Script, Li
             let requests = read_requests(alloc, next, number + 1, lone)?;
             return Ok(Script { trace, requests });
         }
-        if let Err(cause) = read_line(alloc, line, &mut trace) {
+        if let Err(cause) = read_line(alloc, line, &mut trace, &mut scratch) {
             return Err(LineFault {
                 line: number,
                 cause,

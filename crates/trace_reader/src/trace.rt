@@ -5,8 +5,9 @@ ghost use Rattle.trace_reader.specs.Reading.{after_line, push_cause, lines_of, I
 ghost use Rattle.trace_reader.specs.Reading as Reading;
 
 use crate::fault::{LineCause, LineFault};
-use crate::lines::{cut_line, is_blank, json};
-use crate::op::read_op;
+use crate::lines::{cut_line, is_blank};
+use crate::op::line_op;
+use json::Scratch;
 use std::alloc::Global;
 use trace_types::limits::MAX_LINE;
 use trace_types::ops::{Op, TraceFault};
@@ -23,11 +24,12 @@ pub fn read_trace(alloc: Global, bytes: &[u8]) -> Result<Trace, LineFault>
     ensures line { IfErr result (λ e. (1 ≤ e.line) × (e.line ≤ length (lines_of bytes.now))) }
 {
     let mut trace = Trace::new(alloc);
+    let mut scratch = Scratch::new(alloc);
     let mut rest = bytes;
     let mut number = 1;
     'lines: loop {
         let (line, more) = cut_line(rest);
-        if let Err(cause) = read_line(alloc, line, &mut trace) {
+        if let Err(cause) = read_line(alloc, line, &mut trace, &mut scratch) {
             return Err(LineFault {
                 line: number,
                 cause,
@@ -43,7 +45,12 @@ pub fn read_trace(alloc: Global, bytes: &[u8]) -> Result<Trace, LineFault>
 
 /// Adds the operation of a line, if it has one.
 #[tactic(auto, unfolding(crate::specs::Reading::after_line))]
-pub fn read_line(alloc: Global, line: &[u8], trace: &mut Trace) -> Result<(), LineCause>
+pub fn read_line(
+    alloc: Global,
+    line: &[u8],
+    trace: &mut Trace,
+    scratch: &mut Scratch,
+) -> Result<(), LineCause>
     ensures ok { OnOk result (after_line trace.old line.now ≡ Ok trace.new) }
     ensures fault { IfErr result (λ e. e ≢ LineCause.Memory → after_line trace.old line.now ≡ Err e) }
 {
@@ -53,8 +60,7 @@ pub fn read_line(alloc: Global, line: &[u8], trace: &mut Trace) -> Result<(), Li
     if is_blank(line) {
         return Ok(());
     }
-    let value = json(alloc, line)?;
-    let op = read_op(alloc, &value)?;
+    let op = line_op(alloc, line, scratch)?;
     push(trace, op)
 }
 

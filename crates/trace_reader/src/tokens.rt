@@ -1,0 +1,5 @@
+//! Lines, token by token.
+pub mod line;
+mod numbers;
+mod object;
+mod pass;
