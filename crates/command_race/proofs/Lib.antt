@@ -1,0 +1,3 @@
+mod Splits
+mod Due
+mod Histories

@@ -1,0 +1,87 @@
+-- What `race` writes for an input (profile of this project).
+use Rattle.std.specs.Prelude.{◌≡◌, ◌==◌, ◌⊎◌, ℕ, List, [], ◌∷◌, ◌++◌, length, Bool, true, false, codes, decimal, flat_map, Option, Result, Ok, Err}
+use Rattle.std.specs.Io.KnownBytes.{Appends}
+use Rattle.trace_types.specs.Operation.{Operation}
+use Rattle.trace_types.specs.Devices.{IsInput, AppendsFront}
+use Rattle.trace_reader.specs.declared.fault.LineFault.{LineFault}
+use Rattle.trace_reader.specs.declared.request.RequestLine.{RequestLine}
+use Rattle.trace_reader.specs.declared.script.Script.{Script}
+use Rattle.trace_reader.specs.FaultText.{fault_text}
+use Rattle.trace_reader.specs.Scripts.{read_script}
+use Rattle.edit_desk.specs.declared.entries.Entry.{Entry}
+use Rattle.edit_desk.specs.declared.entries.Request.{Request}
+use Rattle.edit_desk.specs.ReplyText.{reply_text}
+use Rattle.live_sessions.specs.Fronts.{IsFront, trace_after}
+use Rattle.live_sessions.specs.Races.{asked_by, AreAsked}
+use Rattle.command_serve.specs.declared.exits.Exit.{Exit}
+use Rattle.command_serve.specs.declared.exits.Exit.TheVariants.{Fine, Trace, Usage, Device, Memory}
+use Rattle.command_serve.specs.Replay.{report_of_replay}
+use Rattle.command_serve.specs.Script.{request_of}
+use Rattle.command_serve.specs.Serve.{Due, too_long, is_too_long, IsDone}
+
+-- the request of a line before these, where the line counts
+abbrev pub ask_if : Bool → RequestLine → List Request → List Request
+ask_if true line requests = request_of line ∷ requests
+ask_if false line requests = requests
+
+-- the requests of one session's lines, in order
+abbrev pub requests_of : ℕ → List RequestLine → List Request
+requests_of s [] = []
+requests_of s (line ∷ lines) = ask_if (line.session == s) line (requests_of s lines)
+
+-- the line before these, unless it counts
+abbrev pub keep_unless : Bool → RequestLine → List RequestLine → List RequestLine
+keep_unless true line lines = lines
+keep_unless false line lines = line ∷ lines
+
+-- the lines of the other sessions
+abbrev pub others_of : ℕ → List RequestLine → List RequestLine
+others_of s [] = []
+others_of s (line ∷ lines) = keep_unless (line.session == s) line (others_of s lines)
+
+-- each reply of the history is the one that was due, and each session's entries answer its lines in order: all of them, or the
+-- first ones where the history is full
+pub record IsRaced (trace : List Operation) (lines : List RequestLine) (h : List Entry) : Type 0 where
+  pub legal : IsFront trace h
+  pub asked : (s : ℕ) → AreAsked (requests_of s lines) (asked_by s h) (length h)
+
+-- the line of an entry
+abbrev pub entry_text : Entry → List ℕ
+entry_text e = codes "session " ++ decimal e.session ++ codes " " ++ reply_text e.reply ++ 10 ∷ []
+
+-- the lines of a history
+abbrev pub history_text : List Entry → List ℕ
+history_text h = flat_map entry_text h
+
+-- the lines of a history, and the report of the replay of the trace after it
+abbrev pub race_text : List Operation → List Entry → List ℕ
+race_text trace h = history_text h ++ report_of_replay (trace_after trace h)
+
+-- the text of a race over what was read, or the line of the first fault
+abbrev pub MayTell : Result Script LineFault → Due → Type 0
+MayTell (Ok script) due = (h : List Entry) × IsRaced script.trace script.requests h × (due ≡ record { text = race_text script.trace h; is_fault = false })
+MayTell (Err fault) due = due ≡ record { text = fault_text fault ++ 10 ∷ []; is_fault = true }
+
+-- what may be due for an input that is not too long
+unfoldable pub MayAnswer : List ℕ → Due → Type 0
+MayAnswer input due = MayTell (read_script false input) due
+
+-- what may be due for an input
+abbrev pub MayBeDue : List ℕ → Due → Type 0
+MayBeDue input due = (is_too_long input ≡ true → due ≡ too_long) × (is_too_long input ≡ false → MayAnswer input due)
+
+-- all of a text that may be due was written, and nothing else
+abbrev pub IsRaceDone : Option (List ℕ) → Option (List ℕ) → Option (List ℕ) → Option (List ℕ) → Exit → Type 0
+IsRaceDone left left' held held' exit = (input : List ℕ) × IsInput left input × (due : Due) × MayBeDue input due × IsDone left left' held held' input due exit
+
+-- a front of a text that may be due was written
+abbrev pub IsCutOff : Option (List ℕ) → Option (List ℕ) → Option (List ℕ) → Type 0
+IsCutOff left held held' = (input : List ℕ) × IsInput left input × (due : Due) × MayBeDue input due × AppendsFront held held' due.text
+
+-- an exit Fine or Trace says that all was done, Memory that nothing was written, Device that nothing was or a front
+abbrev pub ServesRace : Option (List ℕ) → Option (List ℕ) → Option (List ℕ) → Option (List ℕ) → Exit → Type 0
+ServesRace left left' held held' Fine = IsRaceDone left left' held held' Fine
+ServesRace left left' held held' Trace = IsRaceDone left left' held held' Trace
+ServesRace left left' held held' Usage = ⊥
+ServesRace left left' held held' Device = Appends held held' [] ⊎ IsCutOff left held held'
+ServesRace left left' held held' Memory = Appends held held' []

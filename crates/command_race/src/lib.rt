@@ -1,0 +1,11 @@
+//! The command `race`: the requests of each session are submitted on a thread of its own.
+#![tactic(auto)]
+
+pub mod history;
+pub mod race;
+#[cfg(test)]
+mod report_tests;
+pub mod reports;
+pub mod split;
+#[cfg(test)]
+mod tests;

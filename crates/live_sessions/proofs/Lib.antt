@@ -1,0 +1,10 @@
+pub mod Fronts
+pub mod Counts
+pub mod Events
+pub mod Adding
+pub mod Passes
+pub mod Prefixes
+pub mod Legal
+pub mod Owns
+pub mod Races
+pub mod Raced

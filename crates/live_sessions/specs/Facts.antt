@@ -1,0 +1,9 @@
+-- What is published says (profile of this project).
+use Rattle.std.specs.Prelude.{List}
+use Rattle.edit_desk.specs.declared.entries.Entry.{Entry}
+use Rattle.edit_desk.specs.Versions.{Version}
+use Rattle.live_sessions.specs.declared.shown.Facts.{Facts}
+
+-- a version, and the history that it comes after
+abbrev pub facts : Version → List Entry → Facts
+facts v h = record { published = v; entries = h }

@@ -1,0 +1,8 @@
+//! How many sessions and workers there may be.
+use trace_types::limits::MAX_SESSION;
+
+/// How many places a `Live` has: one for each session.
+pub const PLACES: u32 = MAX_SESSION + 1;
+
+/// How many workers may guess ahead; the fewest are 1.
+pub const MAX_WORKERS: u32 = 16;

@@ -1,0 +1,151 @@
+//! Two sessions whose requests meet.
+use crate::book::Naming;
+use crate::live::Live;
+use crate::pass::Pass;
+use crate::publisher::Publisher;
+use crate::receipt::Receipt;
+use crate::shown::Shown;
+use crate::tests::requests::{insertion, new_and_clone, one_new, removal, wait_for};
+use crate::tests::{Case, both, desk_after};
+use edit_desk::published::Published;
+use edit_desk::replies::Reply;
+use run_engine::faults::Refusal;
+use run_engine::run::Run;
+use std::alloc::Global;
+use std::process::Abort;
+use std::sync::Wait;
+use std::sync::atomic::{AtomicU64, Ordering};
+use std::test::Fail;
+use std::thread;
+use std::thread::Threads;
+use trace_types::kinds::Kind;
+use trace_types::outcomes::{Answer, Counts, Verdict};
+
+fn is_done(run: &Run, place: usize, id: u32, strong: u64, weak: u64) -> bool {
+    let Some(outcome) = run.outcome(place) else {
+        return false;
+    };
+    let counts = Some(Counts {
+        object: 1,
+        strong,
+        weak,
+    });
+    outcome.id == id && outcome.verdict == Verdict::Did(Answer::Done) && outcome.counts == counts
+}
+
+// Whether both insertions stand, the second before the first.
+fn shows_both(published: &Published) -> bool {
+    let run = published.run();
+    published.version() == 2
+        && run.len() == 3
+        && is_done(run, 1, 3, 1, 1)
+        && is_done(run, 2, 2, 2, 1)
+}
+
+// Session 0 inserts a clone, and reads when session 1 is done.
+fn clones<J: Naming, W: Publisher<Value = Shown<J>>, S: Wait + Abort>(
+    rt: &S,
+    alloc: Global,
+    live: &Live<J, W>,
+    mut pass: Pass<J>,
+    turn: &AtomicU64,
+) -> Option<Receipt<J>> {
+    let clone = insertion(alloc, 0, 1, 2, Kind::Clone { from: 0, to: 1 })?;
+    let reply = live.submit(rt, &mut pass, clone).ok()?;
+    assert!(rt; reply == Reply::Accepted(1));
+    turn.store(1, Ordering::SeqCst);
+    wait_for(rt, turn, 2);
+    assert!(rt; shows_both(pass.read()));
+    live.leave(rt, pass).ok()
+}
+
+// Session 1 inserts a downgrade, which is stale at first.
+fn downgrades<J: Naming, W: Publisher<Value = Shown<J>>, S: Wait + Abort>(
+    rt: &S,
+    alloc: Global,
+    live: &Live<J, W>,
+    mut pass: Pass<J>,
+    turn: &AtomicU64,
+) -> Option<Receipt<J>> {
+    wait_for(rt, turn, 1);
+    let early = insertion(alloc, 0, 1, 3, Kind::Downgrade { from: 0, to: 2 })?;
+    let reply = live.submit(rt, &mut pass, early).ok()?;
+    assert!(rt; reply == Reply::Stale(1));
+    let late = insertion(alloc, 1, 1, 3, Kind::Downgrade { from: 0, to: 2 })?;
+    let reply = live.submit(rt, &mut pass, late).ok()?;
+    assert!(rt; reply == Reply::Accepted(2));
+    assert!(rt; shows_both(pass.read()));
+    turn.store(2, Ordering::SeqCst);
+    live.leave(rt, pass).ok()
+}
+
+pub fn two_sessions<
+    J: Naming + Send + Sync,
+    W: Publisher<Value = Shown<J>> + Send,
+    S: Threads + Wait + Abort + Sync + Send,
+>(rt: &S, alloc: Global, live: &Live<J, W>) -> Option<Vec<Receipt<J>>> {
+    let a = live.join(rt).ok()?;
+    let b = live.join(rt).ok()?;
+    let turn = AtomicU64::new(0);
+    let flag = &turn;
+    let (a, b) = thread::join(
+        rt,
+        move || clones(rt, alloc, live, a, flag),
+        move || downgrades(rt, alloc, live, b, flag),
+    );
+    both(alloc, a?, b?)
+}
+
+// Submits the removal of operation 2 for version 0, and where that is stale for the version that stands. Answers how many
+// submits it took.
+fn removes<J: Naming, W: Publisher<Value = Shown<J>>, S: Wait + Abort>(
+    rt: &S,
+    alloc: Global,
+    live: &Live<J, W>,
+    mut pass: Pass<J>,
+) -> Option<Receipt<J>> {
+    let first = live.submit(rt, &mut pass, removal(alloc, 0, 2)?).ok()?;
+    if first != Reply::Accepted(1) {
+        assert!(rt; first == Reply::Stale(1));
+        let then = live.submit(rt, &mut pass, removal(alloc, 1, 2)?).ok()?;
+        assert!(rt; then == Reply::Refused(Refusal::NoSuchOp(0)));
+    }
+    assert!(rt; pass.read().version() == 1);
+    live.leave(rt, pass).ok()
+}
+
+pub fn both_remove<
+    J: Naming + Send + Sync,
+    W: Publisher<Value = Shown<J>> + Send,
+    S: Threads + Wait + Abort + Sync + Send,
+>(rt: &S, alloc: Global, live: &Live<J, W>) -> Option<Vec<Receipt<J>>> {
+    let a = live.join(rt).ok()?;
+    let b = live.join(rt).ok()?;
+    let (a, b) = thread::join(
+        rt,
+        move || removes(rt, alloc, live, a),
+        move || removes(rt, alloc, live, b),
+    );
+    both(alloc, a?, b?)
+}
+
+#[test]
+fn two_sessions_edit_in_turn(rt: HostRuntime) -> Result<(), Fail> {
+    let alloc = rt.alloc();
+    let trace = one_new(alloc).ok_or("memory")?;
+    let desk = desk_after(&rt, alloc, trace, Case::TwoSessions).ok_or("both sessions leave")?;
+    assert_eq!(rt; desk.len(), 3);
+    assert_eq!(rt; desk.version(), 2);
+    Ok(())
+}
+
+#[test]
+fn two_sessions_remove_one_operation(rt: HostRuntime) -> Result<(), Fail> {
+    let alloc = rt.alloc();
+    let trace = new_and_clone(alloc).ok_or("memory")?;
+    let desk = desk_after(&rt, alloc, trace, Case::BothRemove).ok_or("both sessions leave")?;
+    assert_eq!(rt; desk.len(), 3);
+    assert_eq!(rt; desk.version(), 1);
+    assert_eq!(rt; desk.published().run().len(), 1);
+    Ok(())
+}

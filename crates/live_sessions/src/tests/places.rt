@@ -1,0 +1,132 @@
+//! The places, and a history that is full.
+use crate::book::Naming;
+use crate::limits::PLACES;
+use crate::live::Live;
+use crate::pass::Pass;
+use crate::publisher::Publisher;
+use crate::receipt::Receipt;
+use crate::shown::Shown;
+use crate::tests::requests::{no_edits, one_new, removal};
+use crate::tests::{Case, desk_after};
+use edit_desk::replies::Reply;
+use std::alloc::Global;
+use std::process::Abort;
+use std::sync::Wait;
+use std::test::Fail;
+use trace_types::limits::MAX_ENTRIES;
+
+fn lone<J: Naming>(alloc: Global, receipt: Receipt<J>) -> Option<Vec<Receipt<J>>> {
+    let mut receipts = Vec::new(alloc);
+    receipts.push(receipt).ok()?;
+    Some(receipts)
+}
+
+// All places, in order, after which none is left.
+fn join_all<J: Naming, W: Publisher<Value = Shown<J>>, S: Wait + Abort>(
+    rt: &S,
+    alloc: Global,
+    live: &Live<J, W>,
+) -> Option<Vec<Pass<J>>> {
+    let mut passes = Vec::new(alloc);
+    for session in 0..PLACES {
+        let pass = live.join(rt).ok()?;
+        assert!(rt; pass.session() == session);
+        passes.push(pass).ok()?;
+    }
+    assert!(rt; live.join(rt).is_err());
+    Some(passes)
+}
+
+// Session 3 leaves, and joins again: it is the only one that can. A pass that is dropped keeps its place.
+pub fn sixteen_places<J: Naming, W: Publisher<Value = Shown<J>>, S: Wait + Abort>(
+    rt: &S,
+    alloc: Global,
+    live: &Live<J, W>,
+) -> Option<Vec<Receipt<J>>> {
+    let mut passes = join_all(rt, alloc, live)?;
+    if passes.len() < PLACES as usize {
+        return None;
+    }
+    let third = passes.swap_remove(3);
+    let receipt = live.leave(rt, third).ok()?;
+    let again = live.join(rt).ok()?;
+    assert!(rt; again.session() == 3);
+    assert!(rt; live.join(rt).is_err());
+    drop(again);
+    assert!(rt; live.join(rt).is_err());
+    lone(alloc, receipt)
+}
+
+// Two requests of session 3, and after it left and came back a third one.
+pub fn comes_back<J: Naming, W: Publisher<Value = Shown<J>>, S: Wait + Abort>(
+    rt: &S,
+    alloc: Global,
+    live: &Live<J, W>,
+) -> Option<Vec<Receipt<J>>> {
+    let mut passes = join_all(rt, alloc, live)?;
+    if passes.len() < PLACES as usize {
+        return None;
+    }
+    let mut pass = passes.swap_remove(3);
+    let first = live.submit(rt, &mut pass, removal(alloc, 0, 1)?).ok()?;
+    assert!(rt; first == Reply::Accepted(1));
+    let second = live.submit(rt, &mut pass, removal(alloc, 0, 1)?).ok()?;
+    assert!(rt; second == Reply::Stale(1));
+    let receipt = live.leave(rt, pass).ok()?;
+    assert!(rt; receipt.answered() == 2);
+    let mut again = live.join(rt).ok()?;
+    assert!(rt; again.session() == 3);
+    assert!(rt; again.answered() == 2);
+    assert!(rt; again.read().version() == 1);
+    let third = live.submit(rt, &mut again, no_edits(alloc, 0)).ok()?;
+    assert!(rt; third == Reply::Stale(1));
+    let receipt = live.leave(rt, again).ok()?;
+    assert!(rt; receipt.session() == 3);
+    assert!(rt; receipt.answered() == 3);
+    lone(alloc, receipt)
+}
+
+// As many stale requests as a history has room for, and one more.
+pub fn full_history<J: Naming, W: Publisher<Value = Shown<J>>, S: Wait + Abort>(
+    rt: &S,
+    alloc: Global,
+    live: &Live<J, W>,
+) -> Option<Vec<Receipt<J>>> {
+    let mut pass = live.join(rt).ok()?;
+    for _ in 0..MAX_ENTRIES {
+        let reply = live.submit(rt, &mut pass, no_edits(alloc, 1)).ok()?;
+        assert!(rt; reply == Reply::Stale(0));
+    }
+    let reply = live.submit(rt, &mut pass, removal(alloc, 0, 1)?).ok()?;
+    assert!(rt; reply == Reply::HistoryFull);
+    lone(alloc, live.leave(rt, pass).ok()?)
+}
+
+#[test]
+fn sixteen_places_are_given(rt: HostRuntime) -> Result<(), Fail> {
+    let alloc = rt.alloc();
+    let trace = one_new(alloc).ok_or("memory")?;
+    let desk = desk_after(&rt, alloc, trace, Case::Places).ok_or("session 3 leaves")?;
+    assert_eq!(rt; desk.len(), 0);
+    Ok(())
+}
+
+#[test]
+fn session_goes_on_where_it_left(rt: HostRuntime) -> Result<(), Fail> {
+    let alloc = rt.alloc();
+    let trace = one_new(alloc).ok_or("memory")?;
+    let desk = desk_after(&rt, alloc, trace, Case::ComesBack).ok_or("session 3 leaves")?;
+    assert_eq!(rt; desk.len(), 3);
+    assert_eq!(rt; desk.version(), 1);
+    Ok(())
+}
+
+#[test]
+fn full_history_takes_no_entry(rt: HostRuntime) -> Result<(), Fail> {
+    let alloc = rt.alloc();
+    let trace = one_new(alloc).ok_or("memory")?;
+    let desk = desk_after(&rt, alloc, trace, Case::FullHistory).ok_or("session 0 leaves")?;
+    assert_eq!(rt; desk.len(), MAX_ENTRIES);
+    assert_eq!(rt; desk.version(), 0);
+    Ok(())
+}
