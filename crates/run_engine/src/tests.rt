@@ -158,6 +158,25 @@ fn are_marks(
 }
 
 #[test]
+fn outcomes_are_copied_or_lent(rt: HostRuntime) -> Result<(), Fail> {
+    let alloc = rt.alloc();
+    let mut trace = Trace::new(alloc);
+    add_cycle(alloc, &mut trace)?;
+    let run = Run::load(alloc, &trace, &mut Meter::new())?;
+    let copies = run.outcomes(alloc)?;
+    assert_eq!(rt; copies.as_slice().len(), 6);
+    for (place, copy) in copies.as_slice().iter().enumerate() {
+        assert!(rt; has_outcome(&run, place, copy));
+    }
+    let mut lent = 0;
+    for stretch in &run.stretches(alloc)? {
+        lent = stretch.outcomes.len();
+    }
+    assert_eq!(rt; lent, 6);
+    Ok(())
+}
+
+#[test]
 fn leak_after_edit(rt: HostRuntime) -> Result<(), Fail> {
     let alloc = rt.alloc();
     let mut meter = Meter::new();

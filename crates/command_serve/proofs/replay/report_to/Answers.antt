@@ -1,14 +1,14 @@
 use Rattle.std.proofs.Common.{◌≡◌, ◌∙◌, ap, subst, length, Err}
 use Rattle.trace_types.specs.Devices.{AppendsFront}
 use Rattle.ownership_model.specs.State.{nothing_held}
-use Rattle.ownership_model.proofs.ReplayLemmas.{length-outcomes_from}
+use Rattle.ownership_model.proofs.LawsHold.{appends}
 use Rattle.leak_report.specs.Report.{report_of}
 use Rattle.leak_report.specs.Text.{report_text}
 use Rattle.command_serve.specs.Replay.{report_of_replay}
 use Rattle.command_serve.proofs.replay.report_to.Goals as goal
 
 pub report-requires : goal.report-requires
-report-requires g c = ap length c.as_slice.ensures ∙ ap length c.in-Ok.ensures.outcomes ∙ length-outcomes_from c.args.trace.now nothing_held
+report-requires g c = ap length c.as_slice.ensures ∙ ap length c.in-Ok.ensures.outcomes ∙ appends.lengths nothing_held c.args.trace.now
 
 pub returns-in-Err-Device-clause-answered : goal.returns-in-Err-Device-clause-answered
 returns-in-Err-Device-clause-answered g c =

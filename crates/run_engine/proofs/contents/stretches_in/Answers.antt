@@ -18,15 +18,15 @@ loop-segment-preserved c =
     let j = c.loop-segment.segment-index in
     record {
       ops =
-        ap lent.ops_of c.in_ok-push.ensures.items
-        ∙ flat_map-append (λ (s : Stretch). s.ops.now) c.loop-segment.stretches.items (s ∷ [])
-        ∙ ap (λ xs. lent.ops_of c.loop-segment.stretches.items ++ xs) (append-nil s.ops.now ∙ c.stretch.ensures.ops)
-        ∙ ap (λ xs. xs ++ c.segment-item.result.ops) c.loop-segment.invariant.ops
-        ∙ sym (trace_of-next segments j c.segment-item.result c.loop-segment-test.true c.segment-item.is);
+          ap lent.ops_of c.in_ok-push.ensures.items
+          ∙ flat_map-append (λ (s : Stretch). s.ops.now) c.loop-segment.stretches.items (s ∷ [])
+          ∙ ap (λ xs. lent.ops_of c.loop-segment.stretches.items ++ xs) (append-nil s.ops.now ∙ c.stretch.ensures.ops)
+          ∙ ap (λ xs. xs ++ c.segment-item.result.ops) c.loop-segment.invariant.ops
+          ∙ sym (trace_of-next segments j c.segment-item.result c.loop-segment-test.true c.segment-item.is);
       outcomes =
-        ap outcomes_of c.in_ok-push.ensures.items
-        ∙ flat_map-append (λ (s : Stretch). s.outcomes.now) c.loop-segment.stretches.items (s ∷ [])
-        ∙ ap (λ xs. outcomes_of c.loop-segment.stretches.items ++ xs) (append-nil s.outcomes.now ∙ c.stretch.ensures.outcomes)
-        ∙ ap (λ xs. xs ++ c.segment-item.result.outcomes) c.loop-segment.invariant.outcomes
-        ∙ sym (outcomes_in-next segments j c.segment-item.result c.loop-segment-test.true c.segment-item.is);
+          ap outcomes_of c.in_ok-push.ensures.items
+          ∙ flat_map-append (λ (s : Stretch). s.outcomes.now) c.loop-segment.stretches.items (s ∷ [])
+          ∙ ap (λ xs. outcomes_of c.loop-segment.stretches.items ++ xs) (append-nil s.outcomes.now ∙ c.stretch.ensures.outcomes)
+          ∙ ap (λ xs. xs ++ c.segment-item.result.outcomes) c.loop-segment.invariant.outcomes
+          ∙ sym (outcomes_in-next segments j c.segment-item.result c.loop-segment-test.true c.segment-item.is);
     }
