@@ -1,18 +1,17 @@
 -- What the looks tell is what the definitions say of the data.
-use Rattle.std.proofs.Common.{◌≡◌, ℕ, suc, List, [], ◌∷◌, ◌++◌, length, Bool, true, false, nat_le, ◌&&◌, le-leb, arith, Option, Some, None, option_map, ok_or, Result, Ok, Err, refl, sym, ap, ◌∙◌}
+use Rattle.std.proofs.Common.{◌≡◌, ℕ, suc, List, [], ◌∷◌, ◌++◌, length, Bool, true, false, nat_le, ◌&&◌, le-leb, arith, Option, Some, None, option_map, ok_or, Ok, Err, refl, sym, ap, ◌∙◌}
 use Rattle.std.specs.Bool.{if◌then◌else◌}
 use Rattle.std.specs.Str.{bytes_eq}
 use Rattle.std.specs.Prelude.{codes}
-use Rattle.serde_json.specs.Data.{Num, unsigned, negative, float, Data, null, boolean, number, string, array, object, Items, no_items, item, Members}
+use Rattle.serde_json.specs.Data.{unsigned, negative, float, Data, null, boolean, number, string, array, object, Items, no_items, item, Members}
 use Rattle.serde_json.specs.Events.{items_len}
 use Rattle.serde_json.specs.Find.{get_member, as_str}
 use Rattle.trace_types.specs.declared.limits.TheConstants.{MAX_NAME, MAX_FIELDS}
 use Rattle.trace_types.specs.declared.kinds.Field.{Field}
-use Rattle.trace_types.specs.declared.kinds.Field.TheVariants.{Held, Null, Me}
-use Rattle.trace_reader.specs.declared.fault.LineCause.{LineCause}
+use Rattle.trace_types.specs.declared.kinds.Field.TheVariants.{Held, Me}
 use Rattle.trace_reader.specs.declared.fault.LineCause.TheVariants.{WrongType, OutOfRange}
 use Rattle.trace_reader.specs.Members.{◌>>=◌, within, number_of, number_in, number_at, perhaps_handle_in, perhaps_handle_at, text_in, text_at, field_of, fields_from, few_fields, fields_in, fields_at}
-use Rattle.trace_reader.specs.Looks.{Look, look_of, number_look, elements_of, natural_told, number_told, perhaps_told, text_of, text_told, plain, fields_of, few_told, elements_told, fields_told}
+use Rattle.trace_reader.specs.Looks.{look_of, elements_of, natural_told, number_told, perhaps_told, text_of, text_told, plain, fields_of, few_told, fields_told}
 
 natural_asked : (d : Data) → natural_told (look_of d) ≡ number_of d
 natural_asked null = refl

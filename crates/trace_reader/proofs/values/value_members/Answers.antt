@@ -6,7 +6,7 @@ use Rattle.serde_json.specs.Data.{put}
 use Rattle.serde_json.specs.View.{view, members_view}
 use Rattle.serde_json.proofs.Views.{Entry, put_last}
 use Rattle.trace_reader.specs.Looks.{Tells}
-use Rattle.trace_reader.proofs.Tables.{Tells-nothing, Tells-push}
+use Rattle.trace_reader.proofs.Tables.{Tells-push}
 use Rattle.trace_reader.proofs.values.value_members.Goals as goal
 
 pub loop-name-preserved : goal.loop-name-preserved

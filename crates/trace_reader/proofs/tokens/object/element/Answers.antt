@@ -1,9 +1,9 @@
-use Rattle.std.proofs.Common.{rules, ◌≡◌, ℕ, ◌-◌, ◌<◌, List, [], ◌∷◌, length, Option, Some, None, refl, sym, ap, ◌∙◌, arith}
+use Rattle.std.proofs.Common.{◌≡◌, [], ◌∷◌, refl, ap, ◌∙◌, arith}
 use Rattle.json.specs.Token.{Token}
-use Rattle.json.specs.Json.{value, items, parse_map}
+use Rattle.json.specs.Json.{value, parse_map}
 use Rattle.json.specs.Reads.{token_of}
-use Rattle.serde_json.specs.Data.{Data, array}
-use Rattle.serde_json.specs.Read.{of_json, of_items, converted}
+use Rattle.serde_json.specs.Data.{array}
+use Rattle.serde_json.specs.Read.{of_json, converted}
 use Rattle.trace_reader.proofs.Turns.{at_end, at_array, too_deep_array}
 use Rattle.trace_reader.proofs.tokens.object.element.Goals as goal
 

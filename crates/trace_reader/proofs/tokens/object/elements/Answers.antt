@@ -1,8 +1,8 @@
-use Rattle.std.proofs.Common.{◌≡◌, ℕ, ◌-◌, ◌<◌, ◌≤◌, List, [], ◌∷◌, ◌++◌, length, true, Option, Some, None, refl, sym, ap, ◌∙◌, arith, append_assoc}
+use Rattle.std.proofs.Common.{◌≡◌, ◌-◌, ◌<◌, [], ◌∷◌, ◌++◌, length, true, Some, None, sym, ap, ◌∙◌, arith}
 use Rattle.json.specs.Json.{value, items, parse_map, after_end_array}
 use Rattle.json.proofs.Grammar.{after_end_array-shorter}
-use Rattle.serde_json.specs.Data.{Data, Items, no_items, item}
-use Rattle.serde_json.specs.Read.{of_json, of_items, converted}
+use Rattle.serde_json.specs.Data.{no_items, item}
+use Rattle.serde_json.specs.Read.{of_json, converted}
 use Rattle.trace_reader.specs.Members.{field_of}
 use Rattle.trace_reader.specs.Looks.{elements_of}
 use Rattle.trace_reader.proofs.Turns.{item_refused, item_read, items_over}

@@ -1,10 +1,9 @@
-use Rattle.std.proofs.Common.{rules, ◌≡◌, ℕ, ◌-◌, ◌<◌, List, [], ◌∷◌, length, Option, Some, None, option_map, refl, sym, ap, ◌∙◌, arith}
-use Rattle.json.specs.Token.{Token}
-use Rattle.json.specs.Json.{value, members, parse_map}
+use Rattle.std.proofs.Common.{rules, ◌≡◌, ◌∷◌, Some, None, option_map, refl, sym, ap, ◌∙◌, arith}
+use Rattle.json.specs.Json.{value, parse_map}
 use Rattle.json.specs.Reads.{token_of}
 use Rattle.json.proofs.Grammar.{value_is}
-use Rattle.serde_json.specs.Data.{Data, null, boolean, number, string, object}
-use Rattle.serde_json.specs.Read.{number_of, of_json, of_members, converted}
+use Rattle.serde_json.specs.Data.{null, boolean, number, string, object}
+use Rattle.serde_json.specs.Read.{number_of, of_json, converted}
 use Rattle.trace_reader.specs.Looks.{opens_object}
 use Rattle.trace_reader.proofs.Turns.{at_null, at_string, at_boolean, at_number, at_object, too_deep_object}
 use Rattle.trace_reader.proofs.Endings.{number_found, number_none, natural_look, other_look, number_field}

@@ -1,8 +1,8 @@
-use Rattle.std.proofs.Common.{◌≡◌, ℕ, ◌-◌, ◌<◌, ◌≤◌, List, [], ◌∷◌, ◌++◌, length, Option, Some, None, refl, sym, ap, subst, ◌∙◌, arith}
+use Rattle.std.proofs.Common.{◌≡◌, ◌-◌, ◌<◌, [], ◌∷◌, ◌++◌, length, Some, None, refl, sym, subst, ◌∙◌, arith}
 use Rattle.json.specs.Json.{value, members, read_key}
 use Rattle.json.proofs.Grammar.{read_key-shorter}
-use Rattle.serde_json.specs.Data.{Data, Members, no_members, put}
-use Rattle.serde_json.specs.Read.{of_json, of_members, converted}
+use Rattle.serde_json.specs.Data.{no_members, put}
+use Rattle.serde_json.specs.Read.{of_json, converted}
 use Rattle.trace_reader.specs.Looks.{Tells}
 use Rattle.trace_reader.proofs.Turns.{member_refused, key_refused, member_read, members_over}
 use Rattle.trace_reader.proofs.Tables.{Tells-nothing, Tells-push}
