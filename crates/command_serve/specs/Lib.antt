@@ -2,4 +2,3 @@ pub mod Exits
 pub mod Serve
 pub mod Replay
 pub mod Script
-pub mod Commands

@@ -1,7 +1,6 @@
 //! What each command reads, and what it writes.
 #![tactic(auto)]
 
-pub mod commands;
 #[cfg(test)]
 mod edit_tests;
 pub mod exits;

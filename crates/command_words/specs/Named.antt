@@ -1,11 +1,14 @@
 -- The command that clap's matches name.
-use Rattle.std.specs.Prelude.{◌≡◌, ◌≢◌, Bool, List, codes, true, Option, Some}
-use Rattle.clap.specs.Words.{App, Row, Text, new_app, with_subcommand, subcommand_of}
+use Rattle.std.specs.Prelude.{◌≡◌, ◌≢◌, ◌≤◌, ℕ, Bool, List, [], ◌∷◌, codes, true, Option, Some, None}
+use Rattle.std.specs.Str.Parse.{IsNumeral, digits_value, without_leading_plus}
+use Rattle.clap.specs.Words.{App, Row, Rule, Text, new_app, new_rule, one_of, with_rule, with_subcommand, subcommand_of}
+use Rattle.clap.specs.declared.builder.value_parser.ValueParser.TheVariants.{Unsigned}
 use Rattle.clap.specs.Takes.{takes}
 use Rattle.clap.specs.declared.error.kind.ErrorKind.{ErrorKind}
 use Rattle.clap.specs.declared.error.kind.ErrorKind.TheVariants.{OutOfMemory}
+use Rattle.command_words.specs.declared.TheConstants.{MAX_WORKERS}
 use Rattle.command_words.specs.declared.Command.{Command}
-use Rattle.command_words.specs.declared.Command.TheVariants.{Replay, Script, Whatif}
+use Rattle.command_words.specs.declared.Command.TheVariants.{Replay, Script, Whatif, Race}
 use Rattle.command_words.specs.declared.WordsFault.{WordsFault}
 use Rattle.command_words.specs.declared.WordsFault.TheVariants.{Usage, Memory}
 
@@ -13,17 +16,42 @@ use Rattle.command_words.specs.declared.WordsFault.TheVariants.{Usage, Memory}
 abbrev pub bare_app : App
 bare_app = new_app (codes "arc_scope")
 
+-- how clap names the option of `race`
+abbrev pub workers_id : Text
+workers_id = codes "workers"
+
+-- what clap was told of the option: a number of workers, which is 1 where none is given
+abbrev pub workers_rule : Rule
+workers_rule = record (new_rule workers_id) { long = Some workers_id; value_names = 1; defaults = codes "1" ∷ []; parser = Some (Unsigned 1 MAX_WORKERS) }
+
+-- what clap was told of `race`
+abbrev pub race_app : App
+race_app = with_rule (new_app (codes "race")) workers_rule
+
 -- what clap was told of the program
 abbrev pub scope_app : App
-scope_app = with_subcommand (with_subcommand (with_subcommand
+scope_app = with_subcommand (with_subcommand (with_subcommand (with_subcommand
     (record bare_app { top = record bare_app.top { subcommand_required = true } })
-    (new_app (codes "replay")).top) (new_app (codes "script")).top) (new_app (codes "whatif")).top
+    (new_app (codes "replay")).top) (new_app (codes "script")).top) (new_app (codes "whatif")).top) race_app.top
+
+-- the option's text is this number in decimal digits, which is from 1 to the most
+abbrev pub IsWorkers : Option Text → ℕ → Type 0
+IsWorkers None n = ⊥
+IsWorkers (Some text) n = IsNumeral 10 (without_leading_plus text) × (n ≡ digits_value 10 (without_leading_plus text)) × (1 ≤ n) × (n ≤ MAX_WORKERS)
 
 -- the command that a subcommand and its matches name
 abbrev pub Names : Option (Text × List Row) → Command → Type 0
 Names found Replay = (rows : List Row) × (found ≡ Some (codes "replay", rows))
 Names found Script = (rows : List Row) × (found ≡ Some (codes "script", rows))
 Names found Whatif = (rows : List Row) × (found ≡ Some (codes "whatif", rows))
+Names found (Race n) = (rows : List Row) × (found ≡ Some (codes "race", rows)) × IsWorkers (one_of workers_id rows) n
+
+-- `race` has at least one worker, and no more than it may have
+abbrev pub HasWorkers : Command → Type 0
+HasWorkers Replay = Unit {0}
+HasWorkers Script = Unit {0}
+HasWorkers Whatif = Unit {0}
+HasWorkers (Race n) = (1 ≤ n) × (n ≤ MAX_WORKERS)
 
 abbrev pub NamesNone : Option (Text × List Row) → Type 0
 NamesNone found = (command : Command) → Names found command → ⊥

@@ -1,15 +1,19 @@
 //! The command that the words of the command line name.
 #![tactic(auto)]
 
-ghost use Rattle.std.specs.Prelude.{◌≡◌, map, string_bytes, IfOk, IfErr, IfSome, IfNone};
-ghost use Rattle.clap.specs.Words.{app_of, subcommand_of, subcommand_rows_of};
-ghost use Rattle.command_words.specs.Named.{Names, NamesNone, IsRefused, IsFaultOf, scope_app};
+ghost use Rattle.std.specs.Prelude.{◌≡◌, ℕ, map, false, string_bytes, IfOk, IfErr, IfSome, IfNone};
+ghost use Rattle.clap.specs.Words.{app_of, found_of, one_of, rows_of, rule_of, subcommand_of, subcommand_rows_of};
+ghost use Rattle.command_words.specs.Named.{Names, NamesNone, HasWorkers, IsWorkers, IsRefused, IsFaultOf, scope_app, workers_id, workers_rule};
 ghost use Rattle.clap.specs.Values.{kind_of};
 
-use clap::ArgMatches;
+use clap::builder::ValueParser;
 use clap::error::ErrorKind;
+use clap::{Arg, ArgMatches};
 use std::alloc::{AllocError, Global};
 use thiserror::Error;
+
+/// How many workers `race` may be told of; the fewest are 1.
+pub const MAX_WORKERS: u32 = 16;
 
 /// What the program is to do.
 #[derive(Clone, Copy, Debug, PartialEq, Eq)]
@@ -20,6 +24,9 @@ pub enum Command {
     Script,
     /// reads a trace and one request to edit it, and writes the edited trace and its report
     Whatif,
+    /// reads a trace and requests to edit it, submits those of each session on a thread of its own, and writes the replies and
+    /// the report of the last version; so many workers guess ahead
+    Race(u32),
 }
 
 /// Why the words name no command.
@@ -35,6 +42,7 @@ pub enum WordsFault {
 /// The command that the words name, the first of which is the program's own name.
 pub fn read_words(alloc: Global, words: &[String]) -> Result<Command, WordsFault>
     ensures named { IfOk result (Names (subcommand_of scope_app (map string_bytes words.now))) }
+    ensures workers { IfOk result HasWorkers }
     ensures refused { IfErr result (IsRefused (map string_bytes words.now)) }
 {
     match scope_command(alloc) {
@@ -50,6 +58,7 @@ fn command_among<'a>(
 ) -> Result<Command, WordsFault>
     requires { app_of command.old ≡ scope_app }
     ensures named { IfOk result (Names (subcommand_of scope_app (map string_bytes words.now))) }
+    ensures workers { IfOk result HasWorkers }
     ensures refused { IfErr result (IsRefused (map string_bytes words.now)) }
 {
     let matches = match command.try_get_matches_from_mut(words) {
@@ -81,15 +90,48 @@ fn unnamed(command: &mut clap::Command<'_>) -> WordsFault {
 
 fn named(matches: &ArgMatches<'_>) -> Option<Command>
     ensures some { IfSome result (Names (subcommand_rows_of matches.now)) }
+    ensures workers { IfSome result HasWorkers }
     ensures none { IfNone result (NamesNone (subcommand_rows_of matches.now)) }
 {
-    let (name, _) = matches.subcommand()?;
+    let (name, own) = matches.subcommand()?;
     match name {
         "replay" => Some(Command::Replay),
         "script" => Some(Command::Script),
         "whatif" => Some(Command::Whatif),
+        "race" => match workers(own) {
+            Some(workers) => Some(Command::Race(workers)),
+            None => None,
+        },
         _ => None,
     }
+}
+
+// The number of workers that the matches of `race` have.
+fn workers(matches: &ArgMatches<'_>) -> Option<u32>
+    ensures some { IfSome result (IsWorkers (one_of workers_id (rows_of (found_of matches.now)))) }
+    ensures none { IfNone result ((n : ℕ) → IsWorkers (one_of workers_id (rows_of (found_of matches.now))) n → ⊥) }
+{
+    let workers = matches.get_one::<u32>("workers")?;
+    if workers < 1 {
+        return None;
+    }
+    if MAX_WORKERS < workers {
+        return None;
+    }
+    Some(workers)
+}
+
+// What clap is told of the option of `race`.
+fn workers_option<'a>(alloc: Global) -> Arg<'a>
+    ensures rule { rule_of result ≡ workers_rule }
+    ensures local { result.global ≡ false }
+{
+    Arg::new(alloc, "workers")
+        .long("workers")
+        .value_name("N")
+        .value_parser(ValueParser::unsigned(1, MAX_WORKERS as u64))
+        .default_value("1")
+        .help("How many workers guess ahead")
 }
 
 // What clap is told of the program.
@@ -105,6 +147,10 @@ fn scope_command<'a>(alloc: Global) -> Result<clap::Command<'a>, AllocError>
     let whatif = clap::Command::new(alloc, "whatif").about(
         "Reads a trace, a line --, and one request to edit it, and writes the edited trace and its report",
     );
+    let titled = clap::Command::new(alloc, "race").about(
+        "Reads a trace, a line --, and requests to edit it, submits those of each session on a thread of its own, and writes the replies and the last version's report",
+    );
+    let race = titled.arg(workers_option(alloc))?;
     clap::Command::new(alloc, "arc_scope")
         .about(
             "Replays a trace of Arc, Weak and atomic shared_ptr operations and reports what each did",
@@ -112,7 +158,8 @@ fn scope_command<'a>(alloc: Global) -> Result<clap::Command<'a>, AllocError>
         .subcommand_required(true)
         .subcommand(replay)?
         .subcommand(script)?
-        .subcommand(whatif)
+        .subcommand(whatif)?
+        .subcommand(race)
 }
 
 #[cfg(test)]

@@ -1,4 +1,4 @@
-use crate::{Command, WordsFault, read_words};
+use crate::{Command, MAX_WORKERS, WordsFault, read_words};
 use std::alloc::{AllocError, Global};
 use std::test::Fail;
 
@@ -27,6 +27,10 @@ fn each_command_is_read(rt: HostRuntime) -> Result<(), Fail> {
     assert_eq!(rt; script, Some(Command::Script));
     let whatif = read(alloc, &["arc_scope", "whatif"])?;
     assert_eq!(rt; whatif, Some(Command::Whatif));
+    let race = read(alloc, &["arc_scope", "race"])?;
+    assert_eq!(rt; race, Some(Command::Race(1)));
+    let race = read(alloc, &["arc_scope", "race", "--workers", "16"])?;
+    assert_eq!(rt; race, Some(Command::Race(MAX_WORKERS)));
     Ok(())
 }
 
@@ -41,6 +45,15 @@ fn other_words_are_refused(rt: HostRuntime) -> Result<(), Fail> {
         read(alloc, &["arc_scope", "replay", "--workers", "1"])?,
         None
     );
+    assert_eq!(rt;
+        read(alloc, &["arc_scope", "race", "--workers", "0"])?,
+        None
+    );
+    assert_eq!(rt;
+        read(alloc, &["arc_scope", "race", "--workers", "17"])?,
+        None
+    );
+    assert_eq!(rt; read(alloc, &["arc_scope", "race", "--workers"])?, None);
     assert_eq!(rt; read(alloc, &["arc_scope", "run"])?, None);
     Ok(())
 }
@@ -54,6 +67,7 @@ Commands:
   replay  Reads a trace, one operation a line in JSON, and writes its report
   script  Reads a trace, a line --, and requests to edit it, and writes the replies and the last version's report
   whatif  Reads a trace, a line --, and one request to edit it, and writes the edited trace and its report
+  race    Reads a trace, a line --, and requests to edit it, submits those of each session on a thread of its own, and writes the replies and the last version's report
   help    Print this message or the help of the given subcommand(s)
 
 Options:
@@ -87,9 +101,19 @@ Options:
   -h, --help  Print help
 ";
 
+const RACE_HELP: &str = "\
+Reads a trace, a line --, and requests to edit it, submits those of each session on a thread of its own, and writes the replies and the last version's report
+
+Usage: arc_scope race [OPTIONS]
+
+Options:
+      --workers <N>  How many workers guess ahead [default: 1]
+  -h, --help         Print help
+";
+
 const NO_COMMAND: &str = "\
 error: 'arc_scope' requires a subcommand but one was not provided
-  [subcommands: replay, script, whatif, help]
+  [subcommands: replay, script, whatif, race, help]
 
 Usage: arc_scope <COMMAND>
 
@@ -133,6 +157,7 @@ fn help_is_shown(rt: HostRuntime) -> Result<(), Fail> {
     assert!(rt; is_shown(alloc, &["arc_scope", "replay", "--help"], REPLAY_HELP)?);
     assert!(rt; is_shown(alloc, &["arc_scope", "help", "script"], SCRIPT_HELP)?);
     assert!(rt; is_shown(alloc, &["arc_scope", "whatif", "-h"], WHATIF_HELP)?);
+    assert!(rt; is_shown(alloc, &["arc_scope", "race", "--help"], RACE_HELP)?);
     Ok(())
 }
 

@@ -5,6 +5,7 @@
 ghost use Rattle.std.specs.Prelude.{◌≢◌};
 ghost use Rattle.command_serve.specs.declared.exits.Exit.TheVariants.{Usage};
 
+use command_race::race::serve_race;
 use command_serve::exits::Exit;
 use command_serve::replay::serve_replay;
 use command_serve::script::serve_script;
@@ -15,6 +16,8 @@ use ownership_model::plain::plain_replay;
 use std::alloc::{AllocError, Global};
 use std::fs;
 use std::io::{self, Write};
+use std::sync::Wait;
+use std::thread::Threads;
 use trace_reader::read_script;
 use trace_types::devices::{StdSink, StdSource};
 
@@ -23,23 +26,27 @@ fn main(rt: HostRuntime) -> io::Result<()> {
     let mut told = 0u64;
     let mut same = 0u64;
     for line in index.lines() {
-        let counts = run_case(&rt, line)?;
+        let counts = run_case(&rt, &rt, line)?;
         told = told.saturating_add(counts.0);
         same = same.saturating_add(counts.1);
     }
     println!(rt; "== of {told} outcomes the plain program gives {same}")
 }
 
-// A line of the index is a command and the file of its input. Answers how many outcomes its trace has, and how many of these the
-// plain program gives.
-fn run_case(rt: &HostRuntime, line: &str) -> io::Result<(u64, u64)> {
+// A line of the index is a command and the file of its input; `threads` is the runtime too, as the one that may start threads.
+// Answers how many outcomes its trace has, and how many of these the plain program gives.
+fn run_case<S: Threads + Wait + Sync>(
+    rt: &HostRuntime,
+    threads: &S,
+    line: &str,
+) -> io::Result<(u64, u64)> {
     let Some((command, name)) = line.split_once(' ') else {
         println!(rt; "no case: {line}")?;
         return Ok((0, 0));
     };
     let input = fs::read(rt, name)?;
     let mut output = Vec::new(rt.alloc());
-    let exit = serve(rt.alloc(), command, input.as_slice(), &mut output);
+    let exit = serve(threads, rt.alloc(), command, input.as_slice(), &mut output);
     let status = exit.status();
     println!(rt; "== {name} {status}")?;
     io::writer(rt).write_all(output.as_slice())?;
@@ -63,7 +70,13 @@ fn beside_plain(alloc: Global, input: &[u8]) -> Result<(u64, u64), AllocError> {
 }
 
 // Runs one command over an input. Its words are never refused.
-fn serve(alloc: Global, command: &str, input: &[u8], output: &mut Vec<u8>) -> Exit
+fn serve<S: Threads + Wait + Sync>(
+    threads: &S,
+    alloc: Global,
+    command: &str,
+    input: &[u8],
+    output: &mut Vec<u8>,
+) -> Exit
     ensures { result ≢ Usage }
 {
     let mut source = StdSource::new(input);
@@ -71,6 +84,7 @@ fn serve(alloc: Global, command: &str, input: &[u8], output: &mut Vec<u8>) -> Ex
     match command {
         "script" => serve_script(alloc, &mut source, &mut sink),
         "whatif" => serve_whatif(alloc, &mut source, &mut sink),
+        "race" => serve_race(threads, alloc, &mut source, &mut sink, 1),
         _ => serve_replay(alloc, &mut source, &mut sink),
     }
 }

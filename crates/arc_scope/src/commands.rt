@@ -1,24 +1,29 @@
 //! The commands, each by its name.
 ghost use Rattle.std.specs.Prelude.{◌≡◌, ◌≢◌, ◌⊎◌, true};
-ghost use Rattle.command_serve.specs.Commands.{due_by};
-ghost use Rattle.command_serve.specs.Serve.{Serves};
+ghost use Rattle.command_words.specs.Named.{HasWorkers};
+ghost use Rattle.arc_scope.specs.Commands.{IsServed};
 
-use crate::exits::Exit;
-use crate::replay::serve_replay;
-use crate::script::serve_script;
-use crate::whatif::serve_whatif;
+use command_race::race::serve_race;
+use command_serve::exits::Exit;
+use command_serve::replay::serve_replay;
+use command_serve::script::serve_script;
+use command_serve::whatif::serve_whatif;
 use command_words::Command;
 use std::alloc::Global;
+use std::sync::Wait;
+use std::thread::Threads;
 use trace_types::devices::{Sink, Source};
 
-/// Reads all input, and writes what this command has due for it.
-pub fn serve_command<S: Source, K: Sink>(
+/// Reads all input, and writes what this command has due for it. Only `race` starts threads.
+pub fn serve_command<R: Threads + Wait + Sync, S: Source, K: Sink>(
+    rt: &R,
     alloc: Global,
     command: Command,
     source: &mut S,
     sink: &mut K,
 ) -> Exit
-    ensures served { Serves (due_by command) (S.left source.old) (S.left source.new) (K.held sink.old) (K.held sink.new) result }
+    requires { HasWorkers command }
+    ensures served { IsServed command (S.left source.old) (S.left source.new) (K.held sink.old) (K.held sink.new) result }
     ensures device { result ≡ Exit.Device → ((S.failed source.new ≡ true) ⊎ (K.failed sink.new ≡ true)) }
     ensures other { result ≢ Exit.Device → (S.failed source.new ≡ S.failed source.old) × (K.failed sink.new ≡ K.failed sink.old) }
 {
@@ -26,5 +31,6 @@ pub fn serve_command<S: Source, K: Sink>(
         Command::Replay => serve_replay(alloc, source, sink),
         Command::Script => serve_script(alloc, source, sink),
         Command::Whatif => serve_whatif(alloc, source, sink),
+        Command::Race(workers) => serve_race(rt, alloc, source, sink, workers),
     }
 }
