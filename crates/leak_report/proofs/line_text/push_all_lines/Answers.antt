@@ -18,7 +18,7 @@ loop-stretch-preserved c =
     let before = lines_of (ops_of (take i ss)) (outcomes_of (take i ss)) in
     let here = lines_of s.ops.now s.outcomes.now in
     let all = ap (λ xs. lines_of xs (outcomes_of (take (i + 1) ss))) ops ∙ ap (lines_of (ops_of (take i ss) ++ s.ops.now)) outs
-      ∙ lines_append (ops_of (take i ss)) s.ops.now (outcomes_of (take i ss)) s.outcomes.now (as_many (take i ss)) in
+    ∙ lines_append (ops_of (take i ss)) s.ops.now (outcomes_of (take i ss)) s.outcomes.now (as_many (take i ss)) in
     c.in_ok-push_lines.ensures
     ∙ ap (λ xs. xs ++ lines_text here) c.loop-stretch.invariant
     ∙ append_assoc (string_bytes c.args.text.now) (lines_text before) (lines_text here)

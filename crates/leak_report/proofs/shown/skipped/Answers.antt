@@ -18,5 +18,12 @@ overflow_add-skipped c =
     let s = c.stretch-item.result in
     let p = λ (out : Outcome). is_skipped out.verdict in
     let next = flat_map_more (λ (s : Stretch). s.outcomes.now) c.args.stretches.now c.loop-stretch.stretch-index s c.loop-stretch-test.true c.stretch-item.is in
-    omega (arith, c.loop-stretch.invariant, c.requires, c.skipped_of-skipped.ensures, ap (count_by p) next, count_by-append p (outcomes_of (take c.loop-stretch.stretch-index c.args.stretches.now)) s.outcomes.now,
-      count_front p c.args.stretches.now (c.loop-stretch.stretch-index + 1))
+    omega (
+      arith,
+      c.loop-stretch.invariant,
+      c.requires,
+      c.skipped_of-skipped.ensures,
+      ap (count_by p) next,
+      count_by-append p (outcomes_of (take c.loop-stretch.stretch-index c.args.stretches.now)) s.outcomes.now,
+      count_front p c.args.stretches.now (c.loop-stretch.stretch-index + 1),
+    )
