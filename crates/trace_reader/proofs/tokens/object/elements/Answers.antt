@@ -1,5 +1,5 @@
 use Rattle.std.proofs.Common.{◌≡◌, ◌-◌, ◌<◌, [], ◌∷◌, ◌++◌, length, true, Some, None, sym, ap, ◌∙◌, arith}
-use Rattle.json.specs.Json.{value, items, parse_map, after_end_array}
+use Rattle.json.specs.Json.{value, parse_map, after_end_array}
 use Rattle.json.proofs.Grammar.{after_end_array-shorter}
 use Rattle.serde_json.specs.Data.{no_items, item}
 use Rattle.serde_json.specs.Read.{of_json, converted}
