@@ -17,6 +17,9 @@ use json::{Reader, Token};
 use std::alloc::Global;
 use trace_types::kinds::Field;
 
+// `id`, `t`, `op` and at most three more: room for these is taken at once.
+const USUAL_MEMBERS: usize = 6;
+
 // What a value that is no array is seen as, after its first token; None where it is refused.
 pub fn glance<'a>(reader: &mut Reader<'a>, token: Token<'a>, depth: usize) -> Option<Seen<'a>>
     requires { opens_array (token_of token) ≡ false }
@@ -128,7 +131,9 @@ pub fn read_members<'a>(
     ensures err { IsErrOf result Unread.Refused → converted (λ js. of_members js no_members)
         (members (value depth) (length reader.old) reader.old) ≡ None }
 {
-    let mut list = Vec::new(alloc);
+    let Ok(mut list) = Vec::with_capacity(alloc, USUAL_MEMBERS) else {
+        return Err(Unread::Memory);
+    };
     'members: loop {
         match reader.next_key() {
             Ok(Some(key)) => {

@@ -9,7 +9,7 @@ use Rattle.trace_reader.proofs.Tables.{Tells-nothing, Tells-push}
 use Rattle.trace_reader.proofs.tokens.object.read_members.Goals as goal
 
 pub members-init : goal.members-init
-members-init c = (length c.args.reader.now, omega arith, no_members, refl, subst (λ l. Tells l no_members) (sym c.new-list.ensures.items) Tells-nothing)
+members-init c = (length c.args.reader.now, omega arith, no_members, refl, subst (λ l. Tells l no_members) (sym c.in-Ok.ensures.items) Tells-nothing)
 
 pub returns-in_err-seen-in-Ok-Some-clause-err : goal.returns-in_err-seen-in-Ok-Some-clause-err
 returns-in_err-seen-in-Ok-Some-clause-err c refused =
