@@ -24,7 +24,7 @@ pub fn cut_line(bytes: &[u8]) -> (&[u8], Option<&[u8]>)
 fn newline(bytes: &[u8]) -> Option<usize>
     ensures { result ≡ position (λ b. b == 10) bytes.now }
 {
-    bytes.iter().position(|b| *b == b'\n')
+    memchr::memchr(b'\n', bytes)
 }
 
 /// Whether the line has spaces, tabs and carriage returns alone.
