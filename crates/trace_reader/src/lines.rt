@@ -2,7 +2,6 @@
 ghost use Rattle.std.specs.Prelude.{◌≡◌, ◌≢◌, ◌<◌, ◌∷◌, ◌==◌, [], length, Ok, Err, IfOk, IfErr, MatchOption};
 ghost use Rattle.std.specs.List.{position};
 ghost use Rattle.serde_json.specs.View.{view};
-ghost use Rattle.trace_reader.specs.Members.{Gives};
 ghost use Rattle.trace_reader.specs.Reading.{json_of, lines_of};
 ghost use Rattle.trace_reader.specs.Reading as Reading;
 

@@ -15,6 +15,9 @@ use crate::tokens::pass::pass_items;
 use json::{Reader, Scratch, Token};
 use std::alloc::Global;
 
+// Arrays and objects nest 127 deep at most, as `serde_json` reads them.
+const MAX_DEPTH: usize = 127;
+
 /// Why nothing is read.
 #[derive(Clone, Copy, Debug, Drop, PartialEq, Eq)]
 pub enum Unread {
@@ -43,7 +46,7 @@ pub fn line_members<'a>(
     whole(alloc, &mut reader)
 }
 
-// All of the tokens. Arrays and objects nest 127 deep at most, as `serde_json` reads them, and so 126 deep within the first.
+// All of the tokens.
 fn whole<'a>(alloc: Global, reader: &mut Reader<'a>) -> Result<Option<Vec<Member<'a>>>, Unread>
     ensures ok { IfOk result (λ o. MatchOption o ((d : Data) × (read_tokens reader.old ≡ Some d) × (is_object d ≡ false))
         (λ list. (ms : Members) × (read_tokens reader.old ≡ Some (object ms)) × Tells list.items ms)) }
@@ -53,13 +56,13 @@ fn whole<'a>(alloc: Global, reader: &mut Reader<'a>) -> Result<Option<Vec<Member
         return Err(Unread::Refused);
     };
     if let Token::BeginObject = token {
-        let list = read_members(alloc, reader, 126)?;
+        let list = read_members(alloc, reader, MAX_DEPTH - 1)?;
         if let Some(_) = reader.next() {
             return Err(Unread::Refused);
         }
         return Ok(Some(list));
     }
-    if !pass_other(reader, token, 127) {
+    if !pass_other(reader, token, MAX_DEPTH) {
         return Err(Unread::Refused);
     }
     if let Some(_) = reader.next() {

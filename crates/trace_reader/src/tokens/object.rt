@@ -1,12 +1,11 @@
 //! The members of an object, as far as an operation asks of them.
-ghost use Rattle.std.specs.Prelude.{◌≡◌, ◌≢◌, ◌<◌, length, Some, None, Ok, Err, IfOk, OnOk, OnSome, IsErrOf, MatchOption, false, option_map, ◌∷◌, ◌≤◌, true};
+ghost use Rattle.std.specs.Prelude.{◌≡◌, ◌<◌, length, Some, None, Ok, Err, IfOk, OnOk, OnSome, IsErrOf, MatchOption, false, ◌∷◌, ◌≤◌, true};
 ghost use Rattle.json.specs.Json.{value, items, members};
-ghost use Rattle.json.specs.Token.{Token as SpecToken};
 ghost use Rattle.json.specs.Reads.{token_of};
 ghost use Rattle.serde_json.specs.Data.{Data, Items, Members, no_members};
 ghost use Rattle.serde_json.specs.Read.{of_json, of_items, of_members, converted};
-ghost use Rattle.trace_reader.specs.Members.{field_of, field_named, within};
-ghost use Rattle.trace_reader.specs.Looks.{told, look_of, elements_of, find, Tells, field_told, opens_array, opens_object, is_object};
+ghost use Rattle.trace_reader.specs.Members.{field_of};
+ghost use Rattle.trace_reader.specs.Looks.{told, look_of, elements_of, Tells, field_told, opens_array, opens_object, is_object};
 
 use crate::fault::LineCause;
 use crate::seen::{Member, Seen, field};
