@@ -51,7 +51,7 @@ fn faulty_lines(rt: HostRuntime) -> Result<(), Fail> {
         ("{\"id\":0}", "fault line 1 OutOfRange\n"),
         ("{\"id\":1000000000}", "fault line 1 OutOfRange\n"),
         ("{\"id\":999999999}", "fault line 1 Missing\n"),
-        ("{\"\\u0069d\":1}", "fault line 1 Missing\n"),
+        ("{\"\\u0069d\":0}", "fault line 1 OutOfRange\n"),
         ("{\"id\":0,\"id\":1}", "fault line 1 Missing\n"),
         ("{\"id\":1,\"id\":0}", "fault line 1 OutOfRange\n"),
         ("{\"id\":1,\"t\":65536}", "fault line 1 OutOfRange\n"),
