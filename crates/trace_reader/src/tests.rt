@@ -1,4 +1,5 @@
-use crate::{fault_line, read_script, read_trace, write_line, write_trace};
+use crate::{fault_line, read_op, read_script, read_trace, write_line, write_trace};
+use serde_json::{Value, from_slice};
 use std::fmt::Write;
 use std::test::Fail;
 use trace_types::edits::Edit;
@@ -310,6 +311,20 @@ fn a_request_is_read(rt: HostRuntime) -> Result<(), Fail> {
         }
     }
     assert_eq!(rt; told.as_str(), "7 3, remove 5, insert 6 8, change 9 10");
+    Ok(())
+}
+
+#[test]
+fn a_value_is_read(rt: HostRuntime) -> Result<(), Fail> {
+    let alloc = rt.alloc();
+    let line = "{\"h\":5,\"id\":8,\"op\":\"drop\",\"t\":1}";
+    let value = from_slice(alloc, line.as_bytes())?;
+    let Ok(op) = read_op(alloc, &value) else {
+        return Err(Fail::from("an operation"));
+    };
+    let written = write_line(alloc, &op)?;
+    assert_eq!(rt; written.as_str(), line);
+    assert!(rt; read_op(alloc, &Value::Null).is_err());
     Ok(())
 }
 
