@@ -162,5 +162,3 @@ fn scope_command<'a>(alloc: Global) -> Result<clap::Command<'a>, AllocError>
         .subcommand(race)
 }
 
-#[cfg(test)]
-mod tests;

@@ -6,5 +6,3 @@ pub mod entries;
 pub mod prepared;
 pub mod published;
 pub mod replies;
-#[cfg(test)]
-mod tests;

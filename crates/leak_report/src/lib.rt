@@ -4,14 +4,10 @@
 mod closing_text;
 mod fates;
 mod holders;
-#[cfg(test)]
-mod leak_tests;
 pub mod leaks;
 mod line_text;
 pub mod lives;
 pub mod report;
 pub mod shown;
-#[cfg(test)]
-mod tests;
 pub mod text;
 pub mod write;

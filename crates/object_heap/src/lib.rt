@@ -10,5 +10,3 @@ pub mod reach;
 
 pub use heap::Heap;
 
-#[cfg(test)]
-mod tests;

@@ -11,8 +11,6 @@ pub mod meter;
 mod names;
 pub mod replay;
 mod rows;
-#[cfg(test)]
-mod tests;
 mod unique;
 mod wants;
 

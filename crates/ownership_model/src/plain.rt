@@ -16,8 +16,6 @@ pub mod number_map;
 mod release;
 mod rows;
 pub mod state;
-#[cfg(test)]
-mod tests;
 mod unique;
 mod view;
 mod wants;

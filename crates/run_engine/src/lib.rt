@@ -15,5 +15,3 @@ mod seek;
 mod segment;
 mod shift;
 mod stretch;
-#[cfg(test)]
-mod tests;

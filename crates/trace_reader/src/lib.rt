@@ -10,8 +10,6 @@ mod op;
 mod request;
 mod script;
 mod seen;
-#[cfg(test)]
-mod tests;
 mod tokens;
 mod trace;
 mod values;

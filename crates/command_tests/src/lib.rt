@@ -1,0 +1,11 @@
+//! Tests of the commands: the program's words, and what each command writes and how it ends.
+#![tactic(auto)]
+
+#[cfg(test)]
+mod edits;
+#[cfg(test)]
+mod memory;
+#[cfg(test)]
+mod replay;
+#[cfg(test)]
+mod words;

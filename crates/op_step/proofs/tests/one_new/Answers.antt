@@ -1,7 +1,0 @@
-use Rattle.std.specs.Ordering.{nat_cmp}
-use Rattle.std.specs.FinMap.{get-empty}
-use Rattle.op_step.proofs.tests.one_new.Goals as goal
-
--- nothing stands where nothing is held
-pub step-requires : goal.step-requires
-step-requires g c = rw c.empty.ensures (get-empty nat_cmp c.in_ok-op.op.id)

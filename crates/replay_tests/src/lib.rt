@@ -1,0 +1,17 @@
+//! Tests of the plain program, heaps, steps, leaks, reports, runs and the desk, through what those crates promise.
+#![tactic(auto)]
+
+#[cfg(test)]
+mod desk;
+#[cfg(test)]
+mod heap;
+#[cfg(test)]
+mod leaks;
+#[cfg(test)]
+mod plain;
+#[cfg(test)]
+mod reports;
+#[cfg(test)]
+mod runs;
+#[cfg(test)]
+mod steps;

@@ -1,0 +1,114 @@
+//! What no clause says: that each call succeeds, and that a tree goes on where memory was refused once.
+use share_tree::level::Same;
+use share_tree::tree::ShareTree;
+use std::alloc::{AllocError, Global};
+use std::test::Fail;
+
+#[derive(Drop)]
+struct Number(u32);
+
+impl Same for Number {
+    fn same(&self, other: &Self) -> bool {
+        self.0 == other.0
+    }
+}
+
+fn tree_of(alloc: Global, keys: &[u32]) -> Result<ShareTree<Number>, AllocError> {
+    let mut tree = ShareTree::<Number>::empty();
+    for key in keys {
+        tree = tree.with(alloc, *key, Number(key.wrapping_mul(10)))?;
+    }
+    Ok(tree)
+}
+
+fn number_at(tree: &ShareTree<Number>, key: u32) -> Option<u32> {
+    match tree.get(key) {
+        Some(number) => Some(number.0),
+        None => None,
+    }
+}
+
+#[test]
+fn persistent_map(rt: HostRuntime) -> Result<(), Fail> {
+    let alloc = rt.alloc();
+    let a = tree_of(alloc, &[5, 3])?;
+    assert_eq!(rt; a.keys(alloc)?.as_slice(), [3, 5].as_slice());
+    let b = a.without(alloc, 5)?;
+    assert_eq!(rt; b.keys(alloc)?.as_slice(), [3].as_slice());
+    assert_eq!(rt; a.keys(alloc)?.as_slice(), [3, 5].as_slice());
+    assert_eq!(rt; number_at(&a, 5), Some(50));
+    assert!(rt; !a.same(&b));
+    let three_first = tree_of(alloc, &[3, 5])?;
+    assert!(rt; a.same(&three_first));
+    Ok(())
+}
+
+#[test]
+fn share_stands_while_the_other_changes(rt: HostRuntime) -> Result<(), Fail> {
+    let alloc = rt.alloc();
+    let mut tree = tree_of(alloc, &[1, 2, 300])?;
+    tree.insert(alloc, 4, Number(4))?;
+    let share = tree.share()?;
+    tree.insert(alloc, 2, Number(7))?;
+    tree.remove(alloc, 300)?;
+    tree.remove(alloc, 9)?;
+    assert_eq!(rt; tree.keys(alloc)?.as_slice(), [1, 2, 4].as_slice());
+    assert_eq!(rt; number_at(&tree, 2), Some(7));
+    assert_eq!(rt; share.keys(alloc)?.as_slice(), [1, 2, 4, 300].as_slice());
+    assert_eq!(rt; number_at(&share, 2), Some(20));
+    assert_eq!(rt; share.len(), 4);
+    assert_eq!(rt; tree.len(), 3);
+    Ok(())
+}
+
+#[test]
+fn walk_rises_to_the_greatest_key(rt: HostRuntime) -> Result<(), Fail> {
+    let keys = [0, 15, 16, 4096, 65536, u32::MAX];
+    let tree = tree_of(rt.alloc(), &keys)?;
+    let mut last = None;
+    for key in keys {
+        match tree.next_after(last) {
+            Some((found, number)) => {
+                assert_eq!(rt; found, key);
+                assert_eq!(rt; number.0, key.wrapping_mul(10));
+            }
+            None => assert!(rt; false),
+        }
+        last = Some(key);
+    }
+    assert!(rt; tree.next_after(last).is_none());
+    Ok(())
+}
+
+// With each allocation refused in turn (`tools/refused_memory/run`) each refusal meets one call here, which leaves
+// the tree as it was, and which is then made again.
+#[test]
+fn refused_memory_leaves_the_tree(rt: HostRuntime) -> Result<(), Fail> {
+    let alloc = rt.alloc();
+    let mut tree = ShareTree::<Number>::empty();
+    let mut share = tree.share()?;
+    for i in 0..40u32 {
+        let key = i.wrapping_mul(2654435761) % 4099;
+        let len = tree.len();
+        if tree.insert(alloc, key, Number(i)).is_err() {
+            assert_eq!(rt; tree.len(), len);
+            assert!(rt; !tree.contains_key(key));
+            tree.insert(alloc, key, Number(i))?;
+        }
+        if i % 8 == 0 {
+            share = tree.share()?;
+        }
+    }
+    assert_eq!(rt; tree.len(), 40);
+    assert_eq!(rt; share.len(), 33);
+    for i in 0..40u32 {
+        let key = i.wrapping_mul(2654435761) % 4099;
+        if tree.remove(alloc, key).is_err() {
+            assert_eq!(rt; number_at(&tree, key), Some(i));
+            tree.remove(alloc, key)?;
+        }
+    }
+    assert_eq!(rt; tree.len(), 0);
+    assert_eq!(rt; share.len(), 33);
+    Ok(())
+}
