@@ -67,7 +67,7 @@ impl Draft {
     {
         hold_holding(alloc, &mut self.counts, holding)?;
         let_go_handle(alloc, &mut self.counts, &self.handles, handle)?;
-        let copy = holding.copy(alloc)?;
+        let copy = holding.clone()?;
         self.handles.insert(alloc, handle, copy)
     }
 
@@ -116,7 +116,7 @@ impl Draft {
             unreachable!()
         };
         let old = fields.as_slice()[index as usize];
-        let fields = with_slot(alloc, fields, index, slot)?;
+        let fields = with_slot(fields, index, slot)?;
         hold(alloc, &mut self.counts, slot)?;
         let_go(alloc, &mut self.counts, old)?;
         self.objects.insert(alloc, object, Entry::Alive(fields))
@@ -135,7 +135,7 @@ impl Draft {
         ensures { OnOk result (Changes self.old self.new (change.Make object fields.now)) }
     {
         hold_all(alloc, &mut self.counts, fields.as_slice())?;
-        let copy = fields.copy(alloc)?;
+        let copy = fields.clone()?;
         self.objects.insert(alloc, object, Entry::Alive(copy))
     }
 
@@ -185,16 +185,11 @@ fn let_go_cell(
 }
 
 // The fields, with this slot at the index.
-fn with_slot(
-    alloc: Global,
-    fields: &Sequence<Slot>,
-    index: u32,
-    slot: Slot,
-) -> Result<Sequence<Slot>, AllocError>
+fn with_slot(fields: &Sequence<Slot>, index: u32, slot: Slot) -> Result<Sequence<Slot>, AllocError>
     requires { index < length fields.now }
     ensures { IfOk result (λ f. f ≡ slice_set fields.now index slot) }
 {
-    let mut slots = fields.copy(alloc)?.into_vec();
+    let mut slots = fields.clone()?.into_vec();
     slots[index as usize] = slot;
     Ok(Sequence::from_vec(slots))
 }

@@ -80,7 +80,7 @@ pub fn copy_ops(alloc: Global, ops: &[Op]) -> Result<Vec<Op>, AllocError>
 {
     let mut copies = Vec::with_capacity(alloc, ops.len())?;
     for op in ops {
-        copies.push(op.copy(alloc)?)?;
+        copies.push(op.clone()?)?;
     }
     Ok(copies)
 }

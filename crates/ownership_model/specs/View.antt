@@ -1,8 +1,10 @@
 -- What an operation reads of a state: what stands at the handles and the cell that it names, and the object that its first
 -- handle names, with its counts. It does nothing else with the state before it is carried out (profile of this project).
-use Rattle.std.specs.Prelude.{ℕ, ◌==◌, List, [], ◌∷◌, ◌++◌, Option, Some, None, if◌then◌else◌, option_to_list, map}
+use Rattle.std.specs.Prelude.{ℕ, codes, ◌==◌, List, [], ◌∷◌, ◌++◌, Option, Some, None, if◌then◌else◌, option_to_list, map}
 use Rattle.std.specs.List.{list_any}
 use Rattle.std.specs.FinMap.{get}
+use Rattle.trace_types.specs.Members.{Member, Value}
+use Rattle.trace_types.specs.Members as table
 use Rattle.trace_types.specs.declared.slots.Slot.{Slot}
 use Rattle.trace_types.specs.declared.slots.Holding.{Holding}
 use Rattle.trace_types.specs.declared.slots.Holding.TheVariants as holding
@@ -21,39 +23,50 @@ pub record Members : Type 0 where
   pub cell : Option ℕ
   pub fields : List Field
 
--- at most two handles
-abbrev pub handles_are : Option ℕ → Option ℕ → Members
-handles_are first second = record { first = first; second = second; cell = None; fields = [] }
+-- this handle, or else what comes
+abbrev pub handle_or : Value → Option ℕ → Option ℕ
+handle_or (table.Handle h) rest = Some h
+handle_or (table.PerhapsHandle h) rest = h
+handle_or (table.Cell c) rest = rest
+handle_or (table.Index i) rest = rest
+handle_or (table.Fields fs) rest = rest
+handle_or (table.CyclicFields fs) rest = rest
 
--- a cell, and at most two handles
-abbrev pub cell_and : ℕ → Option ℕ → Option ℕ → Members
-cell_and c first second = record { first = first; second = second; cell = Some c; fields = [] }
+abbrev pub first_handle : List Member → Option ℕ
+first_handle [] = None
+first_handle (m ∷ ms) = handle_or m.value (first_handle ms)
+
+-- the members behind this one, if it is a handle, or else what comes
+abbrev pub behind_or : Value → List Member → List Member → List Member
+behind_or (table.Handle h) ms rest = ms
+behind_or (table.PerhapsHandle h) ms rest = ms
+behind_or (table.Cell c) ms rest = rest
+behind_or (table.Index i) ms rest = rest
+behind_or (table.Fields fs) ms rest = rest
+behind_or (table.CyclicFields fs) ms rest = rest
+
+-- the members behind the first handle
+abbrev pub behind_handle : List Member → List Member
+behind_handle [] = []
+behind_handle (m ∷ ms) = behind_or m.value ms (behind_handle ms)
+
+abbrev pub cell_in : Option Value → Option ℕ
+cell_in (Some (table.Cell c)) = Some c
+cell_in v = None
+
+abbrev pub fields_in : Option Value → List Field
+fields_in (Some (table.Fields fs)) = fs
+fields_in (Some (table.CyclicFields fs)) = fs
+fields_in v = []
 
 -- a handle or cell that is to be made stands among them, in its place
 abbrev pub members : Kind → Members
-members (kind.New to fields) = record { first = Some to; second = None; cell = None; fields = fields }
-members (kind.NewCyclic to fields) = record { first = Some to; second = None; cell = None; fields = fields }
-members (kind.NewFrom from to) = handles_are (Some from) (Some to)
-members (kind.WeakNew to) = handles_are (Some to) None
-members (kind.Null to) = handles_are (Some to) None
-members (kind.Clone from to) = handles_are (Some from) (Some to)
-members (kind.Drop h) = handles_are (Some h) None
-members (kind.Downgrade from to) = handles_are (Some from) (Some to)
-members (kind.Upgrade from to) = handles_are (Some from) (Some to)
-members (kind.TryUnwrap h) = handles_are (Some h) None
-members (kind.IntoInner h) = handles_are (Some h) None
-members (kind.GetMut h) = handles_are (Some h) None
-members (kind.MakeMut h) = handles_are (Some h) None
-members (kind.Counts h) = handles_are (Some h) None
-members (kind.PtrEq a b) = handles_are (Some a) (Some b)
-members (kind.Set h i from) = handles_are (Some h) (Some from)
-members (kind.Take h i to) = handles_are (Some h) (Some to)
-members (kind.Get h i to) = handles_are (Some h) (Some to)
-members (kind.CellNew c from) = cell_and c (Some from) None
-members (kind.CellLoad c to) = cell_and c (Some to) None
-members (kind.CellSwap c from to) = cell_and c (Some from) to
-members (kind.CellCas c expected desired) = cell_and c (Some expected) (Some desired)
-members (kind.CellDrop c) = cell_and c None None
+members k = let ms = table.members k in record {
+  first = first_handle ms;
+  second = first_handle (behind_handle ms);
+  cell = cell_in (table.value_of (codes "c") ms);
+  fields = fields_in (table.value_of (codes "fields") ms);
+}
 
 -- an element of `fields`: a handle, with what it holds; an empty pointer; in `new_cyclic` the Weak to the object itself
 pub data Element : Type 0 where

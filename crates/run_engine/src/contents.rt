@@ -59,16 +59,16 @@ pub fn outcomes_in(alloc: Global, segments: &[Segment]) -> Result<Sequence<Outco
 {
     let mut all = Sequence::empty(alloc);
     for segment in segments {
-        extend(alloc, &mut all, segment.outcomes())?;
+        extend(&mut all, segment.outcomes())?;
     }
     Ok(all)
 }
 
-fn extend(alloc: Global, all: &mut Sequence<Outcome>, more: &[Outcome]) -> Result<(), AllocError>
+fn extend(all: &mut Sequence<Outcome>, more: &[Outcome]) -> Result<(), AllocError>
     ensures { OnOk result (all.new ≡ all.old ++ more.now) }
 {
     for outcome in more {
-        all.push(outcome.copy(alloc)?)?;
+        all.push(outcome.clone()?)?;
     }
     Ok(())
 }

@@ -22,10 +22,9 @@ pub fn apply(alloc: Global, trace: &Trace, batch: &Batch) -> Result<Trace, RunFa
     ensures too_many { MAX_EDITS < length batch.now → result ≡ Err TooManyEdits }
 {
     try_size(batch.len())?;
-    let Ok(ops) = listed(alloc, trace.as_slice()) else {
-        return Err(RunFault::Memory);
-    };
-    copied(alloc, &edited(alloc, ops, batch.as_slice())?)
+    let ops = listed(alloc, trace.as_slice())?;
+    let ops = edited(alloc, ops, batch.as_slice())?;
+    Ok(copied(alloc, &ops)?)
 }
 
 // The operations, where they stand.
@@ -64,9 +63,7 @@ pub(crate) fn edited<'a>(
     ensures fault { IfErr result (IsFaultOf (edited_by ops.entry batch.now)) }
     ensures trace { IfOk result (λ r. IsTrace r) }
 {
-    let Ok(mut editing) = Editing::new(alloc, ops, batch) else {
-        return Err(RunFault::Memory);
-    };
+    let mut editing = Editing::new(alloc, ops, batch)?;
     for i in 0..batch.len() {
         edit_one(&mut editing, &batch[i], i as u64)?;
     }
@@ -97,10 +94,7 @@ fn insert<'a>(ops: &mut Editing<'a>, after: u32, op: &'a Op, index: u64) -> Resu
     if ops.len() >= MAX_OPS {
         return Err(RunFault::TooMany(index));
     }
-    match ops.insert(place, op) {
-        Ok(()) => Ok(()),
-        Err(_) => Err(RunFault::Memory),
-    }
+    Ok(ops.insert(place, op)?)
 }
 
 fn remove(ops: &mut Editing, id: u32, index: u64) -> Result<(), RunFault>
@@ -110,10 +104,7 @@ fn remove(ops: &mut Editing, id: u32, index: u64) -> Result<(), RunFault>
     let Some(place) = ops.place(id) else {
         return Err(RunFault::NoSuchOp(index));
     };
-    match ops.remove(place) {
-        Ok(()) => Ok(()),
-        Err(_) => Err(RunFault::Memory),
-    }
+    Ok(ops.remove(place)?)
 }
 
 fn change<'a>(ops: &mut Editing<'a>, id: u32, op: &'a Op, index: u64) -> Result<(), RunFault>
@@ -126,10 +117,7 @@ fn change<'a>(ops: &mut Editing<'a>, id: u32, op: &'a Op, index: u64) -> Result<
     if op.id() != id && ops.is_taken(op.id()) {
         return Err(RunFault::IdTaken(index));
     }
-    match ops.exchange(id, place, op) {
-        Ok(()) => Ok(()),
-        Err(_) => Err(RunFault::Memory),
-    }
+    Ok(ops.exchange(id, place, op)?)
 }
 
 // Where an operation goes that comes right after operation `after`.
@@ -147,17 +135,13 @@ fn place_after(ops: &Editing, after: u32) -> Option<usize>
 }
 
 /// A trace of copies of the operations. Their numbers are distinct, so that only memory can be wanting.
-pub(crate) fn copied(alloc: Global, ops: &Listing) -> Result<Trace, RunFault>
-    ensures ok { IfOk result (λ t. t ≡ ops.now) }
-    ensures fault { IfErr result (λ e. e ≡ Memory) }
+pub(crate) fn copied(alloc: Global, ops: &Listing) -> Result<Trace, AllocError>
+    ensures { IfOk result (λ t. t ≡ ops.now) }
 {
     let mut trace = Trace::new(alloc);
     for place in 0..ops.len() {
-        let Ok(op) = ops.at(place).copy(alloc) else {
-            return Err(RunFault::Memory);
-        };
-        if trace.push(op).is_err() {
-            return Err(RunFault::Memory);
+        if trace.push(ops.at(place).clone()?).is_err() {
+            return Err(AllocError);
         }
     }
     Ok(trace)

@@ -1,7 +1,9 @@
 //! Why a batch of edits is refused.
 ghost use Rattle.std.specs.Prelude.{◌≡◌};
+ghost use Rattle.run_engine.specs.declared.faults.RunFault.TheVariants.{Memory};
 ghost use Rattle.run_engine.specs.Edited.{refusal_of};
 
+use std::alloc::AllocError;
 use thiserror::Error;
 
 /// Why a batch of edits is refused. The first three have the edit's index, from 0.
@@ -48,5 +50,13 @@ impl RunFault {
             RunFault::TooManyEdits => Some(Refusal::TooManyEdits),
             RunFault::Memory => None,
         }
+    }
+}
+
+impl From<AllocError> for RunFault {
+    ghost from_gives = { λ _ fault. fault ≡ Memory };
+
+    fn from(_error: AllocError) -> RunFault {
+        RunFault::Memory
     }
 }

@@ -55,7 +55,7 @@ impl<'a> Listing<'a> {
     {
         let mut copies = Vec::with_capacity(alloc, to - from)?;
         for place in from..to {
-            copies.push(self.at(place).copy(alloc)?)?;
+            copies.push(self.at(place).clone()?)?;
         }
         Ok(copies)
     }

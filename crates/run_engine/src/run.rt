@@ -108,17 +108,10 @@ impl Run {
         ensures never_less { meter.old ≤ meter.new }
     {
         try_size(batch.len())?;
-        let Ok(old) = ops_in(alloc, &self.segments) else {
-            return Err(RunFault::Memory);
-        };
-        let Ok(ops) = ops_in(alloc, &self.segments) else {
-            return Err(RunFault::Memory);
-        };
-        let ops = edited(alloc, ops, batch.as_slice())?;
-        match self.beside(alloc, &old, &ops, meter) {
-            Ok(run) => Ok(run),
-            Err(_) => Err(RunFault::Memory),
-        }
+        let old = ops_in(alloc, &self.segments)?;
+        let listed = ops_in(alloc, &self.segments)?;
+        let ops = edited(alloc, listed, batch.as_slice())?;
+        Ok(self.beside(alloc, &old, &ops, meter)?)
     }
 
     // The run of a trace that replaces this run's.
@@ -191,7 +184,7 @@ impl Run {
         ensures { IfOk result (λ t. t ≡ self.now.trace) }
     {
         let ops = ops_in(alloc, &self.segments)?;
-        copied(alloc, &ops).map_err(|_| AllocError)
+        copied(alloc, &ops)
     }
 
     /// The operations with their outcomes, where they stand, in stretches one behind the other. By its clauses a caller

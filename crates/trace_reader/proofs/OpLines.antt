@@ -18,7 +18,7 @@ use Rattle.trace_types.specs.declared.kinds.Kind.{Kind}
 use Rattle.trace_types.specs.declared.kinds.Kind.TheVariants as kind
 use Rattle.trace_types.specs.declared.limits.TheConstants.{MAX_NAME, MAX_ID, MAX_THREAD, MAX_FIELDS, MAX_INDEX}
 use Rattle.trace_reader.specs.Members.{◌>>=◌, within, field_test, fields_from, number_at, perhaps_handle_at, text_at, fields_at}
-use Rattle.trace_reader.specs.Kinds.{new_at, new_cyclic_at, new_from_at, weak_new_at, null_at, clone_at, drop_at, downgrade_at, upgrade_at, try_unwrap_at, into_inner_at, get_mut_at, make_mut_at, counts_at, ptr_eq_at, set_at, take_at, get_at, cell_new_at, cell_load_at, cell_swap_at, cell_cas_at, cell_drop_at}
+use Rattle.trace_reader.specs.Kinds.{one_at, two_at, three_at, field_at, made_at, swap_at}
 use Rattle.trace_reader.specs.Reading.{read_op, members_of_op, kind_at}
 use Rattle.trace_reader.specs.Writing.{natural, fields_data, members_of, data_of, line_of}
 use Rattle.trace_reader.proofs.ReadBack.{read-compact_text}
@@ -251,7 +251,7 @@ fields_again true done (Me ∷ fields) h = fields_again true (done ++ Me ∷ [])
 fields_again false done (Me ∷ fields) h = absurd cc
 
 op_again : (id t : ℕ) (k : Kind) → nat_le 1 id ≡ true → nat_le id MAX_ID ≡ true → nat_le t MAX_THREAD ≡ true → is_kind k ≡ true → members_of_op (value_of id t k) ≡ Ok (record { id = id; thread = t; kind = k })
-unfolding members_of members_of_op kind_at number_at text_at perhaps_handle_at fields_at name_of new_at new_cyclic_at new_from_at weak_new_at null_at clone_at drop_at downgrade_at upgrade_at try_unwrap_at into_inner_at get_mut_at make_mut_at counts_at ptr_eq_at set_at take_at get_at cell_new_at cell_load_at cell_swap_at cell_cas_at cell_drop_at
+unfolding members_of members_of_op kind_at number_at text_at perhaps_handle_at fields_at name_of one_at two_at three_at field_at made_at swap_at
 op_again id t (kind.New to fields) low high small fits =
     let p = both (is_name to) _ fits in let q = both (nat_le (length fields) MAX_FIELDS) _ p.1 in
     rw (low, high, le-leb 0 t (omega arith), small, le-leb 0 to (omega arith), p.0, items_len-fields fields, q.0, fields_again false [] fields q.1)

@@ -6,12 +6,13 @@ use Rattle.std.specs.List.{flat_map}
 use Rattle.serde_json.specs.Data.{Data, null, number, unsigned, string, array, object, Items, Members, no_members, member}
 use Rattle.serde_json.specs.View.{items_of}
 use Rattle.serde_json.specs.Written.{compact_text}
+use Rattle.trace_types.specs.Members.{Value}
+use Rattle.trace_types.specs.Members as table
 use Rattle.trace_types.specs.Names.{name_text, name_of_kind}
 use Rattle.trace_types.specs.Operation.{Operation}
 use Rattle.trace_types.specs.declared.kinds.Field.{Field}
 use Rattle.trace_types.specs.declared.kinds.Field.TheVariants.{Held, Null, Me}
 use Rattle.trace_types.specs.declared.kinds.Kind.{Kind}
-use Rattle.trace_types.specs.declared.kinds.Kind.TheVariants as kind
 use Rattle.trace_reader.specs.declared.fault.LineCause.{LineCause}
 use Rattle.trace_reader.specs.Members.{◌>>=◌}
 use Rattle.trace_reader.specs.Reading.{json_of, read_op}
@@ -30,61 +31,29 @@ field_data Me = string (codes "me")
 abbrev pub fields_data : List Field → Items
 fields_data fields = items_of (map field_data fields)
 
+-- a member in front of others, where it is there
+abbrev pub with_value : List ℕ → Option Value → Members → Members
+with_value name None ms = ms
+with_value name (Some (table.Handle h)) ms = number_member name h ms
+with_value name (Some (table.PerhapsHandle None)) ms = ms
+with_value name (Some (table.PerhapsHandle (Some h))) ms = number_member name h ms
+with_value name (Some (table.Cell c)) ms = number_member name c ms
+with_value name (Some (table.Index i)) ms = number_member name i ms
+with_value name (Some (table.Fields fields)) ms = member name (array (fields_data fields)) ms
+with_value name (Some (table.CyclicFields fields)) ms = member name (array (fields_data fields)) ms
+
+-- the members of these names, in front of others
+abbrev pub with_members : List (List ℕ) → Kind → Members → Members
+with_members [] k ms = ms
+with_members (name ∷ names) k ms = with_value name (table.value_of name (table.members k)) (with_members names k ms)
+
 -- the members whose names come before `id`, and then the others
 abbrev pub members_before : Kind → Members → Members
-members_before (kind.New to fields) ms = member (codes "fields") (array (fields_data fields)) ms
-members_before (kind.NewCyclic to fields) ms = member (codes "fields") (array (fields_data fields)) ms
-members_before (kind.NewFrom from to) ms = number_member (codes "from") from ms
-members_before (kind.WeakNew to) ms = ms
-members_before (kind.Null to) ms = ms
-members_before (kind.Clone from to) ms = number_member (codes "from") from ms
-members_before (kind.Drop h) ms = number_member (codes "h") h ms
-members_before (kind.Downgrade from to) ms = number_member (codes "from") from ms
-members_before (kind.Upgrade from to) ms = number_member (codes "from") from ms
-members_before (kind.TryUnwrap h) ms = number_member (codes "h") h ms
-members_before (kind.IntoInner h) ms = number_member (codes "h") h ms
-members_before (kind.GetMut h) ms = number_member (codes "h") h ms
-members_before (kind.MakeMut h) ms = number_member (codes "h") h ms
-members_before (kind.Counts h) ms = number_member (codes "h") h ms
-members_before (kind.PtrEq a b) ms = number_member (codes "a") a (number_member (codes "b") b ms)
-members_before (kind.Set h i from) ms = number_member (codes "from") from (number_member (codes "h") h (number_member (codes "i") i ms))
-members_before (kind.Take h i to) ms = number_member (codes "h") h (number_member (codes "i") i ms)
-members_before (kind.Get h i to) ms = number_member (codes "h") h (number_member (codes "i") i ms)
-members_before (kind.CellNew c from) ms = number_member (codes "c") c (number_member (codes "from") from ms)
-members_before (kind.CellLoad c to) ms = number_member (codes "c") c ms
-members_before (kind.CellSwap c from to) ms = number_member (codes "c") c (number_member (codes "from") from ms)
-members_before (kind.CellCas c expected desired) ms = number_member (codes "c") c (number_member (codes "desired") desired (number_member (codes "expected") expected ms))
-members_before (kind.CellDrop c) ms = number_member (codes "c") c ms
-
-abbrev pub perhaps_to : Option ℕ → Members
-perhaps_to None = no_members
-perhaps_to (Some to) = number_member (codes "to") to no_members
+members_before k ms = with_members (codes "a" ∷ codes "b" ∷ codes "c" ∷ codes "desired" ∷ codes "expected" ∷ codes "fields" ∷ codes "from" ∷ codes "h" ∷ codes "i" ∷ []) k ms
 
 -- the members whose names come after `t`
 abbrev pub members_after : Kind → Members
-members_after (kind.New to fields) = number_member (codes "to") to no_members
-members_after (kind.NewCyclic to fields) = number_member (codes "to") to no_members
-members_after (kind.NewFrom from to) = number_member (codes "to") to no_members
-members_after (kind.WeakNew to) = number_member (codes "to") to no_members
-members_after (kind.Null to) = number_member (codes "to") to no_members
-members_after (kind.Clone from to) = number_member (codes "to") to no_members
-members_after (kind.Drop h) = no_members
-members_after (kind.Downgrade from to) = number_member (codes "to") to no_members
-members_after (kind.Upgrade from to) = number_member (codes "to") to no_members
-members_after (kind.TryUnwrap h) = no_members
-members_after (kind.IntoInner h) = no_members
-members_after (kind.GetMut h) = no_members
-members_after (kind.MakeMut h) = no_members
-members_after (kind.Counts h) = no_members
-members_after (kind.PtrEq a b) = no_members
-members_after (kind.Set h i from) = no_members
-members_after (kind.Take h i to) = number_member (codes "to") to no_members
-members_after (kind.Get h i to) = number_member (codes "to") to no_members
-members_after (kind.CellNew c from) = no_members
-members_after (kind.CellLoad c to) = number_member (codes "to") to no_members
-members_after (kind.CellSwap c from to) = perhaps_to to
-members_after (kind.CellCas c expected desired) = no_members
-members_after (kind.CellDrop c) = no_members
+members_after k = with_members (codes "to" ∷ []) k no_members
 
 unfoldable pub members_of : Operation → Members
 members_of op = members_before op.kind (number_member (codes "id") op.id (member (codes "op") (string (name_text (name_of_kind op.kind))) (number_member (codes "t") op.thread (members_after op.kind))))

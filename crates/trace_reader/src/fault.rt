@@ -1,5 +1,6 @@
 //! What can be wrong with a line, and the text that tells it.
 ghost use Rattle.std.specs.Prelude.{◌≡◌, ◌++◌, ◌∷◌, [], Some, IfOk, string_bytes};
+ghost use Rattle.trace_reader.specs.declared.fault.LineCause.TheVariants.{Memory};
 ghost use Rattle.trace_reader.specs.FaultText.{cause_text, fault_text};
 
 use std::alloc::{AllocError, Global};
@@ -30,6 +31,14 @@ pub enum LineCause {
     TooMany,
     /// memory ran out
     Memory,
+}
+
+impl From<AllocError> for LineCause {
+    ghost from_gives = { λ _ cause. cause ≡ Memory };
+
+    fn from(_error: AllocError) -> LineCause {
+        LineCause::Memory
+    }
 }
 
 impl fmt::Display for LineCause {

@@ -70,7 +70,7 @@ fn all_elements(
     let mut fields = Sequence::empty(alloc);
     for element in elements {
         let field = element_of(*element, cyclic)?;
-        fields.push(field).map_err(|_| LineCause::Memory)?;
+        fields.push(field)?;
     }
     Ok(fields)
 }

@@ -4,7 +4,8 @@ ghost use Rattle.serde_json.specs.Data.{Members, object};
 ghost use Rattle.trace_reader.specs.Looks.{Tells};
 ghost use Rattle.trace_types.specs.Limits.{is_kind};
 ghost use Rattle.trace_reader.specs.Members.{Gives};
-ghost use Rattle.trace_reader.specs.Kinds.{kind_of, new_at, new_cyclic_at, new_from_at, weak_new_at, null_at, clone_at, drop_at, downgrade_at, upgrade_at, try_unwrap_at, into_inner_at, get_mut_at, make_mut_at, counts_at, ptr_eq_at, set_at, take_at, get_at, cell_new_at, cell_load_at, cell_swap_at, cell_cas_at, cell_drop_at};
+ghost use Rattle.trace_types.specs.declared.names.OpName.TheVariants as op;
+ghost use Rattle.trace_reader.specs.Kinds.{kind_of};
 
 use crate::fault::LineCause;
 use crate::fields::fields;
@@ -46,9 +47,9 @@ pub fn kind<'a>(alloc: Global, name: OpName, list: &[Member<'a>]) -> Result<Kind
     }
 }
 
-#[tactic(auto, unfolding(crate::specs::Kinds::new_at))]
+#[tactic(auto, unfolding(crate::specs::Kinds::made_at))]
 fn new<'a>(alloc: Global, list: &[Member<'a>]) -> Result<Kind, LineCause>
-    ensures value { (ms : Members) → Tells list.now ms → Gives result (new_at (object ms)) }
+    ensures value { (ms : Members) → Tells list.now ms → Gives result (kind_of op.New (object ms)) }
     ensures within { IfOk result (λ k. IsTrue (is_kind k)) }
 {
     let to = handle(list, "to")?;
@@ -56,9 +57,9 @@ fn new<'a>(alloc: Global, list: &[Member<'a>]) -> Result<Kind, LineCause>
     Ok(Kind::New { to, fields })
 }
 
-#[tactic(auto, unfolding(crate::specs::Kinds::new_cyclic_at))]
+#[tactic(auto, unfolding(crate::specs::Kinds::made_at))]
 fn new_cyclic<'a>(alloc: Global, list: &[Member<'a>]) -> Result<Kind, LineCause>
-    ensures value { (ms : Members) → Tells list.now ms → Gives result (new_cyclic_at (object ms)) }
+    ensures value { (ms : Members) → Tells list.now ms → Gives result (kind_of op.NewCyclic (object ms)) }
     ensures within { IfOk result (λ k. IsTrue (is_kind k)) }
 {
     let to = handle(list, "to")?;
@@ -66,9 +67,9 @@ fn new_cyclic<'a>(alloc: Global, list: &[Member<'a>]) -> Result<Kind, LineCause>
     Ok(Kind::NewCyclic { to, fields })
 }
 
-#[tactic(auto, unfolding(crate::specs::Kinds::new_from_at))]
+#[tactic(auto, unfolding(crate::specs::Kinds::two_at))]
 fn new_from<'a>(list: &[Member<'a>]) -> Result<Kind, LineCause>
-    ensures value { (ms : Members) → Tells list.now ms → result ≡ new_from_at (object ms) }
+    ensures value { (ms : Members) → Tells list.now ms → result ≡ kind_of op.NewFrom (object ms) }
     ensures within { IfOk result (λ k. IsTrue (is_kind k)) }
 {
     let from = handle(list, "from")?;
@@ -76,27 +77,27 @@ fn new_from<'a>(list: &[Member<'a>]) -> Result<Kind, LineCause>
     Ok(Kind::NewFrom { from, to })
 }
 
-#[tactic(auto, unfolding(crate::specs::Kinds::weak_new_at))]
+#[tactic(auto, unfolding(crate::specs::Kinds::one_at))]
 fn weak_new<'a>(list: &[Member<'a>]) -> Result<Kind, LineCause>
-    ensures value { (ms : Members) → Tells list.now ms → result ≡ weak_new_at (object ms) }
+    ensures value { (ms : Members) → Tells list.now ms → result ≡ kind_of op.WeakNew (object ms) }
     ensures within { IfOk result (λ k. IsTrue (is_kind k)) }
 {
     let to = handle(list, "to")?;
     Ok(Kind::WeakNew { to })
 }
 
-#[tactic(auto, unfolding(crate::specs::Kinds::null_at))]
+#[tactic(auto, unfolding(crate::specs::Kinds::one_at))]
 fn null<'a>(list: &[Member<'a>]) -> Result<Kind, LineCause>
-    ensures value { (ms : Members) → Tells list.now ms → result ≡ null_at (object ms) }
+    ensures value { (ms : Members) → Tells list.now ms → result ≡ kind_of op.Null (object ms) }
     ensures within { IfOk result (λ k. IsTrue (is_kind k)) }
 {
     let to = handle(list, "to")?;
     Ok(Kind::Null { to })
 }
 
-#[tactic(auto, unfolding(crate::specs::Kinds::clone_at))]
+#[tactic(auto, unfolding(crate::specs::Kinds::two_at))]
 fn clone<'a>(list: &[Member<'a>]) -> Result<Kind, LineCause>
-    ensures value { (ms : Members) → Tells list.now ms → result ≡ clone_at (object ms) }
+    ensures value { (ms : Members) → Tells list.now ms → result ≡ kind_of op.Clone (object ms) }
     ensures within { IfOk result (λ k. IsTrue (is_kind k)) }
 {
     let from = handle(list, "from")?;
@@ -104,18 +105,18 @@ fn clone<'a>(list: &[Member<'a>]) -> Result<Kind, LineCause>
     Ok(Kind::Clone { from, to })
 }
 
-#[tactic(auto, unfolding(crate::specs::Kinds::drop_at))]
+#[tactic(auto, unfolding(crate::specs::Kinds::one_at))]
 fn drop<'a>(list: &[Member<'a>]) -> Result<Kind, LineCause>
-    ensures value { (ms : Members) → Tells list.now ms → result ≡ drop_at (object ms) }
+    ensures value { (ms : Members) → Tells list.now ms → result ≡ kind_of op.Drop (object ms) }
     ensures within { IfOk result (λ k. IsTrue (is_kind k)) }
 {
     let h = handle(list, "h")?;
     Ok(Kind::Drop { h })
 }
 
-#[tactic(auto, unfolding(crate::specs::Kinds::downgrade_at))]
+#[tactic(auto, unfolding(crate::specs::Kinds::two_at))]
 fn downgrade<'a>(list: &[Member<'a>]) -> Result<Kind, LineCause>
-    ensures value { (ms : Members) → Tells list.now ms → result ≡ downgrade_at (object ms) }
+    ensures value { (ms : Members) → Tells list.now ms → result ≡ kind_of op.Downgrade (object ms) }
     ensures within { IfOk result (λ k. IsTrue (is_kind k)) }
 {
     let from = handle(list, "from")?;
@@ -123,9 +124,9 @@ fn downgrade<'a>(list: &[Member<'a>]) -> Result<Kind, LineCause>
     Ok(Kind::Downgrade { from, to })
 }
 
-#[tactic(auto, unfolding(crate::specs::Kinds::upgrade_at))]
+#[tactic(auto, unfolding(crate::specs::Kinds::two_at))]
 fn upgrade<'a>(list: &[Member<'a>]) -> Result<Kind, LineCause>
-    ensures value { (ms : Members) → Tells list.now ms → result ≡ upgrade_at (object ms) }
+    ensures value { (ms : Members) → Tells list.now ms → result ≡ kind_of op.Upgrade (object ms) }
     ensures within { IfOk result (λ k. IsTrue (is_kind k)) }
 {
     let from = handle(list, "from")?;
@@ -133,54 +134,54 @@ fn upgrade<'a>(list: &[Member<'a>]) -> Result<Kind, LineCause>
     Ok(Kind::Upgrade { from, to })
 }
 
-#[tactic(auto, unfolding(crate::specs::Kinds::try_unwrap_at))]
+#[tactic(auto, unfolding(crate::specs::Kinds::one_at))]
 fn try_unwrap<'a>(list: &[Member<'a>]) -> Result<Kind, LineCause>
-    ensures value { (ms : Members) → Tells list.now ms → result ≡ try_unwrap_at (object ms) }
+    ensures value { (ms : Members) → Tells list.now ms → result ≡ kind_of op.TryUnwrap (object ms) }
     ensures within { IfOk result (λ k. IsTrue (is_kind k)) }
 {
     let h = handle(list, "h")?;
     Ok(Kind::TryUnwrap { h })
 }
 
-#[tactic(auto, unfolding(crate::specs::Kinds::into_inner_at))]
+#[tactic(auto, unfolding(crate::specs::Kinds::one_at))]
 fn into_inner<'a>(list: &[Member<'a>]) -> Result<Kind, LineCause>
-    ensures value { (ms : Members) → Tells list.now ms → result ≡ into_inner_at (object ms) }
+    ensures value { (ms : Members) → Tells list.now ms → result ≡ kind_of op.IntoInner (object ms) }
     ensures within { IfOk result (λ k. IsTrue (is_kind k)) }
 {
     let h = handle(list, "h")?;
     Ok(Kind::IntoInner { h })
 }
 
-#[tactic(auto, unfolding(crate::specs::Kinds::get_mut_at))]
+#[tactic(auto, unfolding(crate::specs::Kinds::one_at))]
 fn get_mut<'a>(list: &[Member<'a>]) -> Result<Kind, LineCause>
-    ensures value { (ms : Members) → Tells list.now ms → result ≡ get_mut_at (object ms) }
+    ensures value { (ms : Members) → Tells list.now ms → result ≡ kind_of op.GetMut (object ms) }
     ensures within { IfOk result (λ k. IsTrue (is_kind k)) }
 {
     let h = handle(list, "h")?;
     Ok(Kind::GetMut { h })
 }
 
-#[tactic(auto, unfolding(crate::specs::Kinds::make_mut_at))]
+#[tactic(auto, unfolding(crate::specs::Kinds::one_at))]
 fn make_mut<'a>(list: &[Member<'a>]) -> Result<Kind, LineCause>
-    ensures value { (ms : Members) → Tells list.now ms → result ≡ make_mut_at (object ms) }
+    ensures value { (ms : Members) → Tells list.now ms → result ≡ kind_of op.MakeMut (object ms) }
     ensures within { IfOk result (λ k. IsTrue (is_kind k)) }
 {
     let h = handle(list, "h")?;
     Ok(Kind::MakeMut { h })
 }
 
-#[tactic(auto, unfolding(crate::specs::Kinds::counts_at))]
+#[tactic(auto, unfolding(crate::specs::Kinds::one_at))]
 fn counts<'a>(list: &[Member<'a>]) -> Result<Kind, LineCause>
-    ensures value { (ms : Members) → Tells list.now ms → result ≡ counts_at (object ms) }
+    ensures value { (ms : Members) → Tells list.now ms → result ≡ kind_of op.Counts (object ms) }
     ensures within { IfOk result (λ k. IsTrue (is_kind k)) }
 {
     let h = handle(list, "h")?;
     Ok(Kind::Counts { h })
 }
 
-#[tactic(auto, unfolding(crate::specs::Kinds::ptr_eq_at))]
+#[tactic(auto, unfolding(crate::specs::Kinds::two_at))]
 fn ptr_eq<'a>(list: &[Member<'a>]) -> Result<Kind, LineCause>
-    ensures value { (ms : Members) → Tells list.now ms → result ≡ ptr_eq_at (object ms) }
+    ensures value { (ms : Members) → Tells list.now ms → result ≡ kind_of op.PtrEq (object ms) }
     ensures within { IfOk result (λ k. IsTrue (is_kind k)) }
 {
     let a = handle(list, "a")?;
@@ -188,9 +189,9 @@ fn ptr_eq<'a>(list: &[Member<'a>]) -> Result<Kind, LineCause>
     Ok(Kind::PtrEq { a, b })
 }
 
-#[tactic(auto, unfolding(crate::specs::Kinds::set_at))]
+#[tactic(auto, unfolding(crate::specs::Kinds::field_at))]
 fn set<'a>(list: &[Member<'a>]) -> Result<Kind, LineCause>
-    ensures value { (ms : Members) → Tells list.now ms → result ≡ set_at (object ms) }
+    ensures value { (ms : Members) → Tells list.now ms → result ≡ kind_of op.Set (object ms) }
     ensures within { IfOk result (λ k. IsTrue (is_kind k)) }
 {
     let h = handle(list, "h")?;
@@ -199,9 +200,9 @@ fn set<'a>(list: &[Member<'a>]) -> Result<Kind, LineCause>
     Ok(Kind::Set { h, i, from })
 }
 
-#[tactic(auto, unfolding(crate::specs::Kinds::take_at))]
+#[tactic(auto, unfolding(crate::specs::Kinds::field_at))]
 fn take<'a>(list: &[Member<'a>]) -> Result<Kind, LineCause>
-    ensures value { (ms : Members) → Tells list.now ms → result ≡ take_at (object ms) }
+    ensures value { (ms : Members) → Tells list.now ms → result ≡ kind_of op.Take (object ms) }
     ensures within { IfOk result (λ k. IsTrue (is_kind k)) }
 {
     let h = handle(list, "h")?;
@@ -210,9 +211,9 @@ fn take<'a>(list: &[Member<'a>]) -> Result<Kind, LineCause>
     Ok(Kind::Take { h, i, to })
 }
 
-#[tactic(auto, unfolding(crate::specs::Kinds::get_at))]
+#[tactic(auto, unfolding(crate::specs::Kinds::field_at))]
 fn get<'a>(list: &[Member<'a>]) -> Result<Kind, LineCause>
-    ensures value { (ms : Members) → Tells list.now ms → result ≡ get_at (object ms) }
+    ensures value { (ms : Members) → Tells list.now ms → result ≡ kind_of op.Get (object ms) }
     ensures within { IfOk result (λ k. IsTrue (is_kind k)) }
 {
     let h = handle(list, "h")?;
@@ -221,9 +222,9 @@ fn get<'a>(list: &[Member<'a>]) -> Result<Kind, LineCause>
     Ok(Kind::Get { h, i, to })
 }
 
-#[tactic(auto, unfolding(crate::specs::Kinds::cell_new_at))]
+#[tactic(auto, unfolding(crate::specs::Kinds::two_at))]
 fn cell_new<'a>(list: &[Member<'a>]) -> Result<Kind, LineCause>
-    ensures value { (ms : Members) → Tells list.now ms → result ≡ cell_new_at (object ms) }
+    ensures value { (ms : Members) → Tells list.now ms → result ≡ kind_of op.CellNew (object ms) }
     ensures within { IfOk result (λ k. IsTrue (is_kind k)) }
 {
     let c = handle(list, "c")?;
@@ -231,9 +232,9 @@ fn cell_new<'a>(list: &[Member<'a>]) -> Result<Kind, LineCause>
     Ok(Kind::CellNew { c, from })
 }
 
-#[tactic(auto, unfolding(crate::specs::Kinds::cell_load_at))]
+#[tactic(auto, unfolding(crate::specs::Kinds::two_at))]
 fn cell_load<'a>(list: &[Member<'a>]) -> Result<Kind, LineCause>
-    ensures value { (ms : Members) → Tells list.now ms → result ≡ cell_load_at (object ms) }
+    ensures value { (ms : Members) → Tells list.now ms → result ≡ kind_of op.CellLoad (object ms) }
     ensures within { IfOk result (λ k. IsTrue (is_kind k)) }
 {
     let c = handle(list, "c")?;
@@ -241,9 +242,9 @@ fn cell_load<'a>(list: &[Member<'a>]) -> Result<Kind, LineCause>
     Ok(Kind::CellLoad { c, to })
 }
 
-#[tactic(auto, unfolding(crate::specs::Kinds::cell_swap_at))]
+#[tactic(auto, unfolding(crate::specs::Kinds::swap_at))]
 fn cell_swap<'a>(list: &[Member<'a>]) -> Result<Kind, LineCause>
-    ensures value { (ms : Members) → Tells list.now ms → result ≡ cell_swap_at (object ms) }
+    ensures value { (ms : Members) → Tells list.now ms → result ≡ kind_of op.CellSwap (object ms) }
     ensures within { IfOk result (λ k. IsTrue (is_kind k)) }
 {
     let c = handle(list, "c")?;
@@ -252,9 +253,9 @@ fn cell_swap<'a>(list: &[Member<'a>]) -> Result<Kind, LineCause>
     Ok(Kind::CellSwap { c, from, to })
 }
 
-#[tactic(auto, unfolding(crate::specs::Kinds::cell_cas_at))]
+#[tactic(auto, unfolding(crate::specs::Kinds::three_at))]
 fn cell_cas<'a>(list: &[Member<'a>]) -> Result<Kind, LineCause>
-    ensures value { (ms : Members) → Tells list.now ms → result ≡ cell_cas_at (object ms) }
+    ensures value { (ms : Members) → Tells list.now ms → result ≡ kind_of op.CellCas (object ms) }
     ensures within { IfOk result (λ k. IsTrue (is_kind k)) }
 {
     let c = handle(list, "c")?;
@@ -267,9 +268,9 @@ fn cell_cas<'a>(list: &[Member<'a>]) -> Result<Kind, LineCause>
     })
 }
 
-#[tactic(auto, unfolding(crate::specs::Kinds::cell_drop_at))]
+#[tactic(auto, unfolding(crate::specs::Kinds::one_at))]
 fn cell_drop<'a>(list: &[Member<'a>]) -> Result<Kind, LineCause>
-    ensures value { (ms : Members) → Tells list.now ms → result ≡ cell_drop_at (object ms) }
+    ensures value { (ms : Members) → Tells list.now ms → result ≡ kind_of op.CellDrop (object ms) }
     ensures within { IfOk result (λ k. IsTrue (is_kind k)) }
 {
     let c = handle(list, "c")?;

@@ -56,9 +56,7 @@ pub fn object_op(alloc: Global, value: &Value, cause: LineCause) -> Result<Op, L
     let Some(members) = value.as_object() else {
         return Err(cause);
     };
-    let Ok(list) = value_members(alloc, members) else {
-        return Err(LineCause::Memory);
-    };
+    let list = value_members(alloc, members)?;
     members_of_op(alloc, list.as_slice())
 }
 

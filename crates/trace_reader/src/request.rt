@@ -72,7 +72,7 @@ fn elements(alloc: Global, items: &[Value]) -> Result<Batch, LineCause>
     let mut edits = Sequence::empty(alloc);
     for item in items {
         let edit = edit(alloc, item)?;
-        edits.push(edit).map_err(|_| LineCause::Memory)?;
+        edits.push(edit)?;
     }
     Ok(edits)
 }

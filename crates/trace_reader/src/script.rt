@@ -127,7 +127,7 @@ fn join(
     if lone && requests.len() > 0 {
         return Err(LineCause::TooMany);
     }
-    requests.push(request).map_err(|_| LineCause::Memory)
+    Ok(requests.push(request)?)
 }
 
 fn is_divider(line: &[u8]) -> bool

@@ -306,7 +306,7 @@ fn a_request_is_read(rt: HostRuntime) -> Result<(), Fail> {
         write!(told, "{base} {session}")?;
         for edit in request.batch.as_slice() {
             told.push_str(", ")?;
-            let copy = edit.copy(rt.alloc())?;
+            let copy = edit.clone()?;
             told.push_str(told_edit(&rt, &copy)?.as_str())?;
         }
     }

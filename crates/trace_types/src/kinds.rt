@@ -1,8 +1,7 @@
 //! The operations that a trace may have.
-ghost use Rattle.std.specs.Prelude.{◌≡◌, ◌↔◌, IfOk, IsTrue};
+ghost use Rattle.std.specs.Prelude.{◌≡◌, ◌↔◌, IsTrue};
 
 use crate::sequence::Sequence;
-use std::alloc::{AllocError, Global};
 
 /// An element of `fields`: the handle whose holding becomes the field, an empty pointer, or, in `new_cyclic` alone, the
 /// `Weak` to the object that is being made.
@@ -17,7 +16,7 @@ pub enum Field {
 ///
 /// `h`, `from`, `a`, `b`, `expected` and `desired` are handles, `c` is a cell, `i` the index of a field from 0, and `to`
 /// a handle that is to be made.
-#[derive(Debug, Drop)]
+#[derive(Clone, Debug, Drop)]
 pub enum Kind {
     /// `Arc::new`
     New { to: u32, fields: Sequence<Field> },
@@ -68,76 +67,128 @@ pub enum Kind {
 }
 
 impl Kind {
-    /// The same kind with the same members again.
-    pub fn copy(&self, alloc: Global) -> Result<Kind, AllocError>
-        ensures { IfOk result (λ k. k ≡ self.now) }
+    /// Whether both are the same kind with the same members.
+    pub fn same(&self, other: &Kind) -> bool
+        ensures { IsTrue result ↔ (self.now ≡ other.now) }
     {
-        Ok(match self {
-            Kind::New { to, fields } => Kind::New {
-                to: *to,
-                fields: fields.copy(alloc)?,
-            },
-            Kind::NewCyclic { to, fields } => Kind::NewCyclic {
-                to: *to,
-                fields: fields.copy(alloc)?,
-            },
-            Kind::NewFrom { from, to } => Kind::NewFrom {
-                from: *from,
-                to: *to,
-            },
-            Kind::WeakNew { to } => Kind::WeakNew { to: *to },
-            Kind::Null { to } => Kind::Null { to: *to },
-            Kind::Clone { from, to } => Kind::Clone {
-                from: *from,
-                to: *to,
-            },
-            Kind::Drop { h } => Kind::Drop { h: *h },
-            Kind::Downgrade { from, to } => Kind::Downgrade {
-                from: *from,
-                to: *to,
-            },
-            Kind::Upgrade { from, to } => Kind::Upgrade {
-                from: *from,
-                to: *to,
-            },
-            Kind::TryUnwrap { h } => Kind::TryUnwrap { h: *h },
-            Kind::IntoInner { h } => Kind::IntoInner { h: *h },
-            Kind::GetMut { h } => Kind::GetMut { h: *h },
-            Kind::MakeMut { h } => Kind::MakeMut { h: *h },
-            Kind::Counts { h } => Kind::Counts { h: *h },
-            Kind::PtrEq { a, b } => Kind::PtrEq { a: *a, b: *b },
-            Kind::Set { h, i, from } => Kind::Set {
-                h: *h,
-                i: *i,
-                from: *from,
-            },
-            Kind::Take { h, i, to } => Kind::Take {
-                h: *h,
-                i: *i,
-                to: *to,
-            },
-            Kind::Get { h, i, to } => Kind::Get {
-                h: *h,
-                i: *i,
-                to: *to,
-            },
-            Kind::CellNew { c, from } => Kind::CellNew { c: *c, from: *from },
-            Kind::CellLoad { c, to } => Kind::CellLoad { c: *c, to: *to },
-            Kind::CellSwap { c, from, to } => Kind::CellSwap {
-                c: *c,
-                from: *from,
-                to: *to,
-            },
-            Kind::CellCas {
-                c,
-                expected,
-                desired,
-            } => Kind::CellCas {
-                c: *c,
-                expected: *expected,
-                desired: *desired,
-            },
-            Kind::CellDrop { c } => Kind::CellDrop { c: *c },
-        })
+        match (self, other) {
+            (
+                Kind::New { to, fields },
+                Kind::New {
+                    to: other_to,
+                    fields: other_fields,
+                },
+            ) => *to == *other_to && fields.same(other_fields),
+            (
+                Kind::NewCyclic { to, fields },
+                Kind::NewCyclic {
+                    to: other_to,
+                    fields: other_fields,
+                },
+            ) => *to == *other_to && fields.same(other_fields),
+            (
+                Kind::NewFrom { from, to },
+                Kind::NewFrom {
+                    from: other_from,
+                    to: other_to,
+                },
+            ) => *from == *other_from && *to == *other_to,
+            (Kind::WeakNew { to }, Kind::WeakNew { to: other_to }) => *to == *other_to,
+            (Kind::Null { to }, Kind::Null { to: other_to }) => *to == *other_to,
+            (
+                Kind::Clone { from, to },
+                Kind::Clone {
+                    from: other_from,
+                    to: other_to,
+                },
+            ) => *from == *other_from && *to == *other_to,
+            (Kind::Drop { h }, Kind::Drop { h: other_h }) => *h == *other_h,
+            (
+                Kind::Downgrade { from, to },
+                Kind::Downgrade {
+                    from: other_from,
+                    to: other_to,
+                },
+            ) => *from == *other_from && *to == *other_to,
+            (
+                Kind::Upgrade { from, to },
+                Kind::Upgrade {
+                    from: other_from,
+                    to: other_to,
+                },
+            ) => *from == *other_from && *to == *other_to,
+            (Kind::TryUnwrap { h }, Kind::TryUnwrap { h: other_h }) => *h == *other_h,
+            (Kind::IntoInner { h }, Kind::IntoInner { h: other_h }) => *h == *other_h,
+            (Kind::GetMut { h }, Kind::GetMut { h: other_h }) => *h == *other_h,
+            (Kind::MakeMut { h }, Kind::MakeMut { h: other_h }) => *h == *other_h,
+            (Kind::Counts { h }, Kind::Counts { h: other_h }) => *h == *other_h,
+            (
+                Kind::PtrEq { a, b },
+                Kind::PtrEq {
+                    a: other_a,
+                    b: other_b,
+                },
+            ) => *a == *other_a && *b == *other_b,
+            (
+                Kind::Set { h, i, from },
+                Kind::Set {
+                    h: other_h,
+                    i: other_i,
+                    from: other_from,
+                },
+            ) => *h == *other_h && *i == *other_i && *from == *other_from,
+            (
+                Kind::Take { h, i, to },
+                Kind::Take {
+                    h: other_h,
+                    i: other_i,
+                    to: other_to,
+                },
+            ) => *h == *other_h && *i == *other_i && *to == *other_to,
+            (
+                Kind::Get { h, i, to },
+                Kind::Get {
+                    h: other_h,
+                    i: other_i,
+                    to: other_to,
+                },
+            ) => *h == *other_h && *i == *other_i && *to == *other_to,
+            (
+                Kind::CellNew { c, from },
+                Kind::CellNew {
+                    c: other_c,
+                    from: other_from,
+                },
+            ) => *c == *other_c && *from == *other_from,
+            (
+                Kind::CellLoad { c, to },
+                Kind::CellLoad {
+                    c: other_c,
+                    to: other_to,
+                },
+            ) => *c == *other_c && *to == *other_to,
+            (
+                Kind::CellSwap { c, from, to },
+                Kind::CellSwap {
+                    c: other_c,
+                    from: other_from,
+                    to: other_to,
+                },
+            ) => *c == *other_c && *from == *other_from && *to == *other_to,
+            (
+                Kind::CellCas {
+                    c,
+                    expected,
+                    desired,
+                },
+                Kind::CellCas {
+                    c: other_c,
+                    expected: other_expected,
+                    desired: other_desired,
+                },
+            ) => *c == *other_c && *expected == *other_expected && *desired == *other_desired,
+            (Kind::CellDrop { c }, Kind::CellDrop { c: other_c }) => *c == *other_c,
+            _ => false,
+        }
     }
 }

@@ -88,7 +88,7 @@ impl Trace {
         if self.ops.len() >= MAX_OPS {
             return Err(TraceFault::TooMany);
         }
-        self.append(op).map_err(|_| TraceFault::Memory)
+        Ok(self.append(op)?)
     }
 
     fn is_taken(&self, id: u32) -> bool

@@ -55,7 +55,7 @@ impl PlainState {
                 pending,
                 object,
             } => {
-                self.apply(alloc, changes.as_slice())?;
+                self.apply(changes.as_slice())?;
                 let released = self.release(alloc, pending.as_slice())?;
                 let mut events = named_event(alloc, event)?;
                 events.extend_from_slice(&released)?;

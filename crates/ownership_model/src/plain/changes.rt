@@ -6,36 +6,35 @@ ghost use Rattle.ownership_model.specs.Changes as Changes;
 ghost use Rattle.ownership_model.specs.Plain.{state_of};
 
 use crate::plain::state::PlainState;
-use std::alloc::{AllocError, Global};
+use std::alloc::AllocError;
 use trace_types::sequence::Sequence;
 use trace_types::slots::{Change, Entry, Slot};
 
 impl PlainState {
     /// Makes the changes in order. Where memory runs out the state is unspecified: let it go.
-    pub(crate) fn apply(&mut self, alloc: Global, changes: &[Change]) -> Result<(), AllocError>
+    pub(crate) fn apply(&mut self, changes: &[Change]) -> Result<(), AllocError>
         ensures { OnOk result (state_of self.new ≡ changed (state_of self.old) changes.now) }
     {
         for change in changes {
-            self.change(alloc, change)?;
+            self.change(change)?;
         }
         Ok(())
     }
 
-    fn change(&mut self, alloc: Global, change: &Change) -> Result<(), AllocError>
+    fn change(&mut self, change: &Change) -> Result<(), AllocError>
         ensures { OnOk result (state_of self.new ≡ changed_by (state_of self.old) change.now) }
     {
         match change {
-            Change::SetHandle(handle, held) => self.handles.insert(*handle, held.copy(alloc)?),
+            Change::SetHandle(handle, held) => self.handles.insert(*handle, held.clone()?),
             Change::EndHandle(handle) => Ok(self.handles.remove(*handle)),
             Change::SetCell(cell, slot) => self.cells.insert(*cell, *slot),
             Change::EndCell(cell) => Ok(self.cells.remove(*cell)),
             Change::SetField(object, index, slot) => {
-                let entry = with_field(alloc, self.objects.get(*object), *index, *slot)?;
+                let entry = with_field(self.objects.get(*object), *index, *slot)?;
                 self.objects.insert(*object, entry)
             }
             Change::Make(object, fields) => {
-                self.objects
-                    .insert(*object, Entry::Alive(fields.copy(alloc)?))
+                self.objects.insert(*object, Entry::Alive(fields.clone()?))
             }
             Change::TurnHusk(object) => self.objects.insert(*object, Entry::Husk),
         }
@@ -43,18 +42,11 @@ impl PlainState {
 }
 
 // The object with another slot in a field.
-fn with_field(
-    alloc: Global,
-    entry: Option<&Entry>,
-    index: u32,
-    slot: Slot,
-) -> Result<Entry, AllocError>
+fn with_field(entry: Option<&Entry>, index: u32, slot: Slot) -> Result<Entry, AllocError>
     ensures { IfOk result (λ e. e ≡ Changes.with_field (option_copied entry.entry) index slot) }
 {
     match entry {
-        Some(Entry::Alive(fields)) => {
-            Ok(Entry::Alive(with_slot(fields.copy(alloc)?, index, slot)))
-        }
+        Some(Entry::Alive(fields)) => Ok(Entry::Alive(with_slot(fields.clone()?, index, slot))),
         Some(Entry::Husk) | None => Ok(Entry::Husk),
     }
 }

@@ -29,4 +29,4 @@ returns c =
     let more : CountsMore old.counts c.hold_all.new.counts (gained change) = same_more old.counts c.hold_all.new.counts (λ w. slots_weight w c.as_slice.result.now) (gained change) (λ w. ap (slots_weight w) (sym c.as_slice.ensures)) c.in_ok-hold_all.ensures in
     on_ok c.insert.result c.insert.ensures.ok (λ is.
     changes old.counts c.hold_all.new.counts (state_of old) change c.requires.can c.requires.counted more old new refl (no_more c.hold_all.new.counts (lost (state_of old) change) (λ w. refl))
-    (ap (λ (x : FinMap nat_cmp Entry). record { handles = old.handles; cells = old.cells; objects = x }) (is ∙ ap (λ (l : List Slot). insert old.objects c.args.object (Alive l)) c.in_ok-copy.ensures)))
+    (ap (λ (x : FinMap nat_cmp Entry). record { handles = old.handles; cells = old.cells; objects = x }) (is ∙ ap (λ (l : List Slot). insert old.objects c.args.object (Alive l)) c.in_ok-copy.ensures.cases)))

@@ -1,4 +1,4 @@
-use Rattle.std.proofs.Common.{[], refl, ap, ◌∙◌, arith}
+use Rattle.std.proofs.Common.{◌≡◌, [], refl, ap, ◌∙◌, arith, rules}
 use Rattle.std.specs.Ordering.{nat_cmp}
 use Rattle.std.specs.FinMap.{FinMap, insert}
 use Rattle.trace_types.specs.declared.slots.Holding.{Holding}
@@ -22,6 +22,7 @@ pub returns : goal.returns
 returns c =
     let old = c.args.self.now in
     let new : Draft = record { handles = c.insert.new.self; cells = old.cells; objects = old.objects; counts = c.let_go_handle.new.counts } in
+    let same : c.in_ok-copy.copy ≡ c.args.holding.now = search rules in
     on_ok c.insert.result c.insert.ensures.ok (λ is.
     changes old.counts c.hold_holding.new.counts (state_of old) (SetHandle c.args.handle c.args.holding.now) tt c.requires.counted c.in_ok-hold_holding.ensures old new refl c.in_ok-let_go_handle.ensures
-    (ap (λ (x : FinMap nat_cmp Holding). record { handles = x; cells = old.cells; objects = old.objects }) (is ∙ ap (λ (x : Holding). insert old.handles c.args.handle x) c.in_ok-copy.ensures)))
+    (ap (λ (x : FinMap nat_cmp Holding). record { handles = x; cells = old.cells; objects = old.objects }) (is ∙ ap (λ (x : Holding). insert old.handles c.args.handle x) same)))

@@ -8,4 +8,4 @@ loop-place-init c = rw c.in_ok-copies.ensures.items (sym (slice_range-none c.arg
 pub loop-place-preserved : goal.loop-place-preserved
 loop-place-preserved c =
     let more = slice_range-more c.args.self.now c.args.from c.loop-place.place c.at.result.now (omega arith) (omega arith) c.at.ensures in
-    rw (more, c.in_ok-push.ensures.items, c.in_ok-copy.ensures, c.loop-place.invariant) refl
+    rw (more, c.in_ok-push.ensures.items, c.in_ok-clone.ensures.cases, c.loop-place.invariant) refl
