@@ -53,3 +53,11 @@ pub all_written : (left left' held held' : Option (List ℕ)) (input : List ℕ)
     → ServesRace left left' held held' exit
 all_written left left' held held' input due exit e is may read text =
     subst (ServesRace left left' held held') (sym e) (done_at due.is_fault left left' held held' input due refl is may read text)
+
+not_device : (b : Bool) → (if b then Trace else Fine) ≡ Device → ⊥
+not_device true e = cc
+not_device false e = cc
+
+-- what is due never ends as a failed device does
+pub never_device : (due : Due) → exit_of due ≡ Device → ⊥
+never_device due e = not_device due.is_fault e

@@ -1,8 +1,8 @@
 //! The report of what a session reads, and of what a desk shows.
 ghost use Rattle.std.specs.Prelude.{◌≡◌, IfOk};
-ghost use mathlib.Core.List.{IsPrefix};
 ghost use Rattle.command_serve.specs.Replay.{report_of_replay};
 ghost use Rattle.live_sessions.specs.Fronts.{IsFront, trace_after};
+ghost use Rattle.live_sessions.specs.Views.{Reads};
 
 use command_serve::replay::report_on_run;
 use edit_desk::desk::Desk;
@@ -15,8 +15,7 @@ use std::alloc::{AllocError, Global};
 /// session's front, whatever sessions submitted at the same time.
 pub fn report_of_front<J: Naming>(alloc: Global, pass: &mut Pass<J>) -> Result<Vec<u8>, AllocError>
     ensures report { IfOk result (λ text. text.items ≡ report_of_replay (trace_after J.opening pass.new.front)) }
-    ensures front { IsPrefix pass.old.front pass.new.front }
-    ensures legal { IsFront J.opening pass.new.front }
+    ensures reads { Reads J.opening pass.old pass.new }
 {
     pass.look();
     report_on_run(alloc, pass.last().run())

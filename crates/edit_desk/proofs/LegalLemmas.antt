@@ -1,5 +1,5 @@
 -- One entry more.
-use Rattle.std.proofs.Common.{◌≡◌, ℕ, ◌+◌, ◌<◌, ◌≤◌, List, [], ◌∷◌, ◌++◌, length, Bool, true, false, refl, sym, ap, ◌∙◌, arith}
+use Rattle.std.proofs.Common.{◌≡◌, ℕ, ◌+◌, ◌<◌, ◌≤◌, List, [], ◌∷◌, ◌++◌, length, Bool, true, false, refl, sym, ap, ◌∙◌, subst, arith}
 use Rattle.std.specs.Prelude.{◌==◌, nat_le, if◌then◌else◌, Result, Ok, Err}
 use Rattle.std.proofs.lemmas.Bool.Decides.{nat_tests}
 use Rattle.trace_types.specs.Operation.{Operation}
@@ -10,7 +10,7 @@ use Rattle.edit_desk.specs.declared.replies.Reply.{Reply}
 use Rattle.edit_desk.specs.declared.replies.Reply.TheVariants.{Stale, HistoryFull}
 use Rattle.edit_desk.specs.declared.entries.Request.{Request}
 use Rattle.edit_desk.specs.declared.entries.Entry.{Entry}
-use Rattle.edit_desk.specs.Answers.{Standing, settled, reply_to, after_reply, after, LeadsTo}
+use Rattle.edit_desk.specs.Answers.{Standing, opened, settled, reply_to, after_reply, after, LeadsTo, IsLegal}
 
 -- the reply by what it depends on
 abbrev chosen : Bool → Bool → ℕ → Result (List Operation) Refusal → Reply
@@ -56,3 +56,15 @@ stands_after s e trace version history room reply trace_is version_is history_is
     stored s due (nat_le MAX_ENTRIES (length s.history)) (e.request.base == s.version) (edited_by s.trace e.request.batch) (is_room (length s.history) room) in
     let all : history ≡ (after s e.session e.request).history = history_is ∙ ap (λ x. s.history ++ x ∷ []) same ∙ sym told in
     λ i. record { opening = s.opening; trace = trace_is i; version = version_is i; history = all i }
+
+-- the history after a request that there is room for is one entry longer
+pub stored_after : (s : Standing) (e : Entry) → length s.history < MAX_ENTRIES → e.reply ≡ reply_to s e.request → (after s e.session e.request).history ≡ s.history ++ e ∷ []
+stored_after s e room reply =
+    let next = after s e.session e.request in
+    ap (λ (x : Standing). x.history) (sym (stands_after s e next.trace next.version (s.history ++ e ∷ []) room reply refl refl refl))
+
+-- what is legal is legal after it
+pub legal_after : (s : Standing) (e : Entry) → IsLegal s → length s.history < MAX_ENTRIES → e.reply ≡ reply_to s e.request → IsLegal (after s e.session e.request)
+legal_after s e legal room reply =
+    let next = after s e.session e.request in
+    subst (λ (h : List Entry). LeadsTo (opened s.opening) h next) (sym (stored_after s e room reply)) (appended (opened s.opening) s.history s e legal reply)

@@ -158,6 +158,8 @@ impl Desk {
         requires { length self.old.standing.history < MAX_ENTRIES }
         ensures due { IfOk result (λ p. IsDue self.old.standing p) }
         ensures request { IfOk result (λ p. (p.entry.session ≡ session) × (p.entry.request ≡ request)) }
+        ensures history { IfOk result (λ p. (after self.old.standing p.entry.session p.entry.request).history ≡ self.old.standing.history ++ p.entry ∷ []) }
+        ensures legal { IfOk result (λ p. IsLegal (after self.old.standing p.entry.session p.entry.request)) }
         ensures run { IfOk result (λ p. IsNextRun self.old.standing.trace self.old.marks p.next.run) }
         ensures room { OnOk result (0 < self.new.room) }
         ensures unchanged { self.new.standing ≡ self.old.standing }
@@ -186,6 +188,7 @@ impl Desk {
         requires due { IsDue self.old.standing prepared }
         ensures reply { result ≡ prepared.entry.reply }
         ensures after { self.new.standing ≡ after self.old.standing prepared.entry.session prepared.entry.request }
+        ensures history { self.new.standing.history ≡ self.old.standing.history ++ prepared.entry ∷ [] }
         ensures marks { self.new.marks ≡ prepared.next.run.marks }
         ensures meter { self.new.meter ≡ self.old.meter }
     {

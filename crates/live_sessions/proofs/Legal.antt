@@ -12,7 +12,6 @@ use Rattle.edit_desk.specs.declared.entries.Request.{Request}
 use Rattle.edit_desk.specs.declared.entries.Entry.{Entry}
 use Rattle.edit_desk.specs.Answers.{Standing, opened, settled, reply_to, after_reply, after, LeadsTo, IsLegal}
 use Rattle.edit_desk.specs.Versions.{Version, PreparedView, IsDue}
-use Rattle.edit_desk.proofs.LegalLemmas.{appended, stands_after}
 use Rattle.live_sessions.specs.Fronts.{is_full, standing_from, standing_of, IsFront, accepted_of, one_if_accepted}
 use Rattle.live_sessions.specs.Desks.{CountedView, IsAfter, Follows}
 use Rattle.live_sessions.specs.Views.{PassView, Submitted, Replied, Grown, entry}
@@ -49,13 +48,6 @@ leads_of t h f =
     let end = standing_of t h in
     subst (λ (x : List Operation × List Entry). LeadsTo (opened x.0) x.1 end) (λ i. (opening_from (opened t) h i, f.stored i)) f.legal
 
-front_of : (t : List Operation) (h : List Entry) → LeadsTo (opened t) h (standing_of t h) → (standing_of t h).history ≡ h → IsFront t h
-front_of t h leads stored =
-    let end = standing_of t h in record {
-      legal = subst (λ (x : List Operation × List Entry). LeadsTo (opened x.0) x.1 end) (λ i. (sym (opening_from (opened t) h) i, sym stored i)) leads;
-      stored = stored;
-    }
-
 abbrev chosen : Bool → Bool → ℕ → Result (List Operation) Refusal → Reply
 chosen full same v x = if full then HistoryFull else (if same then settled v x else Stale v)
 
@@ -90,29 +82,19 @@ after_there t s v legal is version trace =
     )
 
 -- what was prepared follows
-pub follows_due : (t : List Operation) (h : List Entry) (p : PreparedView) → IsFront t h → length h < MAX_ENTRIES → IsDue (standing_of t h) p → Follows t h p.entry p.next
-follows_due t h p front room due =
-    let s = standing_of t h in
+pub follows_due : (t : List Operation) (h : List Entry) (p : PreparedView) → IsFront t h → IsDue (standing_of t h) p
+    → (after (standing_of t h) p.entry.session p.entry.request).history ≡ (standing_of t h).history ++ p.entry ∷ []
+    → IsLegal (after (standing_of t h) p.entry.session p.entry.request) → Follows t h p.entry p.next
+follows_due t h p front due stored legal =
     let e = p.entry in
-    let next : standing_of t (h ++ e ∷ []) ≡ after s e.session e.request = standing_snoc (opened t) h e in
-    let less : length s.history < MAX_ENTRIES = subst (λ (x : List Entry). length x < MAX_ENTRIES) (sym front.stored) room in
-    let leads : LeadsTo (opened t) (h ++ e ∷ []) (standing_of t (h ++ e ∷ [])) =
-    subst (LeadsTo (opened t) (h ++ e ∷ [])) (sym next) (appended (opened t) h s e (leads_of t h front) due.reply) in
-    let now : Standing = record { opening = s.opening; trace = (after s e.session e.request).trace; version = (after s e.session e.request).version; history = s.history ++ e ∷ [] } in
-    let is : now ≡ after s e.session e.request = stands_after s e now.trace now.version now.history less due.reply refl refl refl in
-    let stored : (standing_of t (h ++ e ∷ [])).history ≡ h ++ e ∷ [] =
-    ap (λ (x : Standing). x.history) next ∙ (ap (λ (x : Standing). x.history) (sym is) ∙ ap (λ (x : List Entry). x ++ e ∷ []) front.stored) in
-    let longer : IsFront t (h ++ e ∷ []) = front_of t (h ++ e ∷ []) leads stored in (
+    let next : standing_of t (h ++ e ∷ []) ≡ after (standing_of t h) e.session e.request = standing_snoc (opened t) h e in
+    let longer : IsFront t (h ++ e ∷ []) = record {
+      legal = subst IsLegal (sym next) legal;
+      stored = ap (λ (x : Standing). x.history) next ∙ (stored ∙ ap (λ (x : List Entry). x ++ e ∷ []) front.stored);
+    } in (
       longer,
       (due.version ∙ (ap (λ (x : Standing). x.version) (sym next) ∙ version_is t (h ++ e ∷ []) longer), due.trace ∙ ap (λ (x : Standing). x.trace) (sym next)),
     )
-
--- after a commit
-pub history_after : (s : Standing) (e : Entry) → length s.history < MAX_ENTRIES → e.reply ≡ reply_to s e.request → (after s e.session e.request).history ≡ s.history ++ e ∷ []
-history_after s e less reply =
-    let now : Standing = record { opening = s.opening; trace = (after s e.session e.request).trace; version = (after s e.session e.request).version; history = s.history ++ e ∷ [] } in
-    let is : now ≡ after s e.session e.request = stands_after s e now.trace now.version now.history less reply refl refl refl in
-    ap (λ (x : Standing). x.history) (sym is)
 
 is_room : (n : ℕ) → n < MAX_ENTRIES → nat_le MAX_ENTRIES n ≡ false
 is_room n less = grind (arith, nat_tests)
@@ -143,9 +125,11 @@ grown before now session r HistoryFull nf is = absurd cc
 pub standing_seen : (s : Standing) (v : CountedView) (room : ℕ) → IsLegal s → (let own : CountedView = record { opening = s.opening; history = s.history; room = room } in own ≡ v) → s ≡ standing_of v.opening v.history
 standing_seen s v room legal is = stands_there s legal ∙ ap (λ (w : CountedView). standing_of w.opening w.history) is
 
-pub all_follow : {E : Type 0} (t : List Operation) (h : List Entry) (r : Result PreparedView E) → IsFront t h → length h < MAX_ENTRIES → IfOk r (λ p. IsDue (standing_of t h) p) → IfOk r (λ p. Follows t h p.entry p.next)
-all_follow t h (Ok p) front room due = follows_due t h p front room due
-all_follow t h (Err e) front room due = tt
+pub all_follow : {E : Type 0} (t : List Operation) (h : List Entry) (r : Result PreparedView E) → IsFront t h → IfOk r (λ p. IsDue (standing_of t h) p)
+    → IfOk r (λ p. (after (standing_of t h) p.entry.session p.entry.request).history ≡ (standing_of t h).history ++ p.entry ∷ [])
+    → IfOk r (λ p. IsLegal (after (standing_of t h) p.entry.session p.entry.request)) → IfOk r (λ p. Follows t h p.entry p.next)
+all_follow t h (Ok p) front due stored legal = follows_due t h p front due stored legal
+all_follow t h (Err e) front due stored legal = tt
 
 pub all_stored : {E : Type 0} (s : Standing) (r : Result PreparedView E) → length s.history < MAX_ENTRIES → IfOk r (λ p. IsDue s p) → IfOk r (λ p. is_full p.entry.reply ≡ false)
 all_stored s (Ok p) room due = ap is_full due.reply ∙ never_full s p.entry.request room

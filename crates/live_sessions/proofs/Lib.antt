@@ -4,6 +4,7 @@ pub mod Events
 pub mod Adding
 pub mod Passes
 pub mod Prefixes
+pub mod InPlace
 pub mod Legal
 pub mod Owns
 pub mod Races

@@ -6,7 +6,7 @@ use Rattle.edit_desk.specs.declared.entries.Entry.{Entry}
 use Rattle.edit_desk.specs.declared.entries.Request.{Request}
 use Rattle.edit_desk.specs.declared.replies.Reply.{Reply}
 use Rattle.edit_desk.specs.declared.replies.Reply.TheVariants.{Accepted, Stale, Refused, HistoryFull}
-use Rattle.live_sessions.specs.declared.runner.End.TheVariants.{Stored, Full}
+use Rattle.live_sessions.specs.declared.submitter.End.TheVariants.{Stored, Full}
 use Rattle.live_sessions.specs.Fronts.{count_of}
 use Rattle.live_sessions.specs.Views.{PassView, Replied}
 use Rattle.live_sessions.specs.Races.{asked_by, Asks, Stepped, end_of}

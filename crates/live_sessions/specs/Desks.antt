@@ -4,7 +4,7 @@ use Rattle.trace_types.specs.Operation.{Operation}
 use Rattle.edit_desk.specs.declared.entries.Entry.{Entry}
 use Rattle.edit_desk.specs.Versions.{Version}
 use Rattle.live_sessions.specs.declared.limits.TheConstants.{PLACES}
-use Rattle.live_sessions.specs.declared.shown.Facts.{Facts}
+use Rattle.live_sessions.specs.declared.shown.ShownView.{ShownView}
 use Rattle.live_sessions.specs.Fronts.{accepted_of, trace_after, count_of, IsFront}
 
 -- the opening trace, the history, and how many entries more it has room for
@@ -28,5 +28,5 @@ abbrev pub Follows : List Operation → List Entry → Entry → Version → Typ
 Follows t h e v = IsFront t (h ++ e ∷ []) × IsAfter t v (h ++ e ∷ [])
 
 -- what is published is the version after this history
-abbrev pub IsShown : List Operation → Facts → List Entry → Type 0
+abbrev pub IsShown : List Operation → ShownView → List Entry → Type 0
 IsShown t f h = IsAfter t f.published h × (f.entries ≡ h)

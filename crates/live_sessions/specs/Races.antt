@@ -7,13 +7,13 @@ use Rattle.edit_desk.specs.declared.entries.Request.{Request}
 use Rattle.edit_desk.specs.declared.replies.Reply.{Reply}
 use Rattle.edit_desk.specs.declared.replies.Reply.TheVariants.{Accepted, Stale, Refused, HistoryFull}
 use Rattle.live_sessions.specs.declared.limits.TheConstants.{PLACES}
-use Rattle.live_sessions.specs.declared.runner.End.{End}
-use Rattle.live_sessions.specs.declared.runner.End.TheVariants.{Stored, Full, Fault}
+use Rattle.live_sessions.specs.declared.submitter.End.{End}
+use Rattle.live_sessions.specs.declared.submitter.End.TheVariants.{Stored, Full, Fault}
 use Rattle.live_sessions.specs.Fronts.{count_of}
 use Rattle.live_sessions.specs.Views.{PassView}
 
 -- a pass, and the requests that its session is to submit
-pub record RunnerView : Type 0 where
+pub record SubmitterView : Type 0 where
   pub pass : PassView
   pub requests : List Request
 
@@ -45,12 +45,12 @@ Asks old requests new = (new.session ≡ old.session)
     × AreAsked (asked_by old.session old.front ++ requests) (asked_by old.session new.front) (length new.front)
 
 -- what the thread of a session answers
-abbrev pub AsksAt : RunnerView → Option PassView → Type 0
+abbrev pub AsksAt : SubmitterView → Option PassView → Type 0
 AsksAt r found = IfSome found (λ p. Asks r.pass r.requests p)
 
 -- the threads answer so, each for its session
-abbrev pub AllAsk : List RunnerView → List (Option PassView) → Type 0
-AllAsk runners found = (i : ℕ) (r : RunnerView) (p : Option PassView) → i < length runners → AsksAt (slice_index_or runners i r) (slice_index_or found i p)
+abbrev pub AllAsk : List SubmitterView → List (Option PassView) → Type 0
+AllAsk submitters found = (i : ℕ) (r : SubmitterView) (p : Option PassView) → i < length submitters → AsksAt (slice_index_or submitters i r) (slice_index_or found i p)
 
 -- one submit: the session has asked one request more, or it goes no further
 abbrev pub Stepped : PassView → Request → PassView → End → Type 0
@@ -66,16 +66,16 @@ end_of (Refused fault) = Stored
 end_of HistoryFull = Full
 
 -- what a session is to submit
-abbrev pub given : RunnerView → List Request
+abbrev pub given : SubmitterView → List Request
 given r = r.requests
 
 -- the pass of session s, which has seen nothing
-abbrev pub IsFresh : ℕ → RunnerView → Type 0
+abbrev pub IsFresh : ℕ → SubmitterView → Type 0
 IsFresh s r = (r.pass.session ≡ s) × (r.pass.front ≡ [])
 
--- the runner at place s is the one of session s, whose pass has seen nothing
-abbrev pub AllFresh : List RunnerView → Type 0
-AllFresh runners = (s : ℕ) (r : RunnerView) → s < length runners → IsFresh s (slice_index_or runners s r)
+-- the submitter at place s is the one of session s, whose pass has seen nothing
+abbrev pub AllFresh : List SubmitterView → Type 0
+AllFresh submitters = (s : ℕ) (r : SubmitterView) → s < length submitters → IsFresh s (slice_index_or submitters s r)
 
 -- the history has as many entries of each session as the front of the receipt at that place
 abbrev pub AddUp : List Entry → List PassView → Type 0

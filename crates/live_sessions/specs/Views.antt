@@ -1,6 +1,7 @@
 -- What contracts see of a pass, and what a submit does to it (profile of this project).
 use Rattle.std.specs.Prelude.{ℕ, ◌≡◌, ◌≢◌, ◌+◌, ◌≤◌, ◌<◌, List, [], ◌∷◌, ◌++◌, length}
 use Rattle.std.specs.List.{All}
+use mathlib.Core.List.{IsPrefix}
 use Rattle.edit_desk.specs.declared.entries.Entry.{Entry}
 use Rattle.edit_desk.specs.Versions.{Version}
 use Rattle.edit_desk.specs.declared.entries.Request.{Request}
@@ -24,6 +25,12 @@ pub record Stands (t : List Operation) (v : PassView) (last : Version) : Type 0 
   pub legal : IsFront t v.front
   pub run : IsAfter t last v.front
   pub own : v.answered ≤ count_of v.session v.front
+
+-- what a read does to the pass: it has seen as much of the history as before, or more, and is else as it was
+pub record Reads (t : List Operation) (old new : PassView) : Type 0 where
+  pub front : IsPrefix old.front new.front
+  pub legal : IsFront t new.front
+  pub same : (new.session ≡ old.session) × (new.answered ≡ old.answered)
 
 -- an entry of a history
 abbrev pub entry : ℕ → Request → Reply → Entry

@@ -9,10 +9,11 @@ pub mod limits;
 pub mod live;
 pub mod locked;
 pub mod pass;
+pub mod places;
 pub mod publisher;
 pub mod race;
 pub mod receipt;
-pub mod runner;
 pub mod shown;
+pub mod submitter;
 #[cfg(test)]
 mod tests;

@@ -8,9 +8,10 @@ ghost use Rattle.live_sessions.specs.Events.{opening_of};
 use crate::book::{Begun, Book, Front, Naming};
 use crate::counted::CountedDesk;
 use crate::faults::{NoMeeting, NoPlace, OpenFault, SubmitFault};
-use crate::limits::{MAX_WORKERS, PLACES};
+use crate::limits::{MAX_WORKERS, READERS};
 use crate::locked::LockedDesk;
 use crate::pass::Pass;
+use crate::places::Places;
 use crate::publisher::Publisher;
 use crate::receipt::Receipt;
 use crate::shown::Shown;
@@ -35,8 +36,7 @@ pub struct Started {
 pub struct Live<J: Naming, W: Publisher<Value = Shown<J>>> {
     book: Book<J>,
     desk: Mutex<LockedDesk<J, W>>,
-    // The passes that are not out.
-    places: Mutex<Vec<Option<Pass<J>>>>,
+    places: Mutex<Places<J>>,
 }
 
 impl Started {
@@ -54,30 +54,41 @@ impl Started {
 /// What publishes the versions of a `Live` that `open` made.
 pub type Writer<J, R> = WriteHandle<Shown<J>, Shown<J>, R>;
 
-// A pass for each place, which has seen nothing.
-fn places<J: Naming, R: Wait + Drop>(
+// What publishes, with room for all that a publish of one version takes.
+fn writer_of<J: Naming, R: Wait + Drop>(
+    rt: R,
     alloc: Global,
-    writer: &WriteHandle<Shown<J>, Shown<J>, R>,
     desk: &CountedDesk,
     front: &Front<J>,
-) -> Result<Vec<Option<Pass<J>>>, OpenFault>
+) -> Result<Writer<J, R>, OpenFault>
     requires opening { desk.now.opening ≡ J.opening }
     requires front { front.now ≡ desk.now.history }
 {
-    let mut places = Vec::new(alloc);
-    for session in 0..PLACES {
-        let Ok(reader) = writer.handle() else {
-            return Err(OpenFault::NoReader);
-        };
-        let Ok(last) = desk.published().share() else {
+    let Ok(first) = desk.published().share() else {
+        return Err(OpenFault::Memory);
+    };
+    let Ok(second) = first.share() else {
+        return Err(OpenFault::Memory);
+    };
+    let first = Shown::new(first, front.again());
+    let second = Shown::new(second, front.again());
+    let Ok(mut writer) = WriteHandle::new(alloc, rt, first, second, READERS) else {
+        return Err(OpenFault::Memory);
+    };
+    // With these four the list of what was appended grows once, and it keeps its room: a later publish, which appends one,
+    // wants no memory for it.
+    for _ in 0..4 {
+        let Ok(run) = desk.published().share() else {
             return Err(OpenFault::Memory);
         };
-        let pass = Pass::new(session, reader, front.again(), last);
-        if places.push(Some(pass)).is_err() {
+        if writer.append(Shown::new(run, front.again())).is_err() {
             return Err(OpenFault::Memory);
         }
     }
-    Ok(places)
+    if writer.publish().is_err() {
+        return Err(OpenFault::Memory);
+    }
+    Ok(writer)
 }
 
 /// Lets sessions in to what was started. `J` is picked at the call, as the book and the opening of what was started.
@@ -97,34 +108,11 @@ pub fn open<J: Naming, R: Wait + Drop>(
     let Started { begun, desk } = started;
     let desk = CountedDesk::new(desk);
     let (book, front) = begun.named::<J>();
-    let Ok(first) = desk.published().share() else {
-        return Err(OpenFault::Memory);
-    };
-    let Ok(second) = first.share() else {
-        return Err(OpenFault::Memory);
-    };
-    let first = Shown::new(first, front.again());
-    let second = Shown::new(second, front.again());
-    let Ok(mut writer) = WriteHandle::new(alloc, rt, first, second, 17) else {
-        return Err(OpenFault::Memory);
-    };
-    // The room that these take stays, so that a later publish wants no more.
-    for _ in 0..4 {
-        let Ok(run) = desk.published().share() else {
-            return Err(OpenFault::Memory);
-        };
-        if writer.append(Shown::new(run, front.again())).is_err() {
-            return Err(OpenFault::Memory);
-        }
-    }
-    if writer.publish().is_err() {
-        return Err(OpenFault::Memory);
-    }
-    let places = places(alloc, &writer, &desk, &front)?;
-    let locked = LockedDesk::new(alloc, desk, front, writer);
+    let writer = writer_of(rt, alloc, &desk, &front)?;
+    let places = Places::new(alloc, &writer, &desk, &front)?;
     Ok(Live {
         book,
-        desk: Mutex::new(locked),
+        desk: Mutex::new(LockedDesk::new(alloc, desk, front, writer)),
         places: Mutex::new(places),
     })
 }
@@ -133,19 +121,15 @@ impl<J: Naming, W: Publisher<Value = Shown<J>>> Live<J, W> {
     /// The lowest free place. It goes on from what its last pass left; a pass that was dropped keeps its place. Takes no
     /// memory.
     pub fn join<S: Wait>(&self, rt: &S) -> Result<Pass<J>, NoPlace> {
-        let mut places = self.places.lock(rt);
-        for place in places.iter_mut() {
-            if let Some(pass) = place.take() {
-                return Ok(pass);
-            }
-        }
-        Err(NoPlace)
+        self.places.lock(rt).take_lowest().ok_or(NoPlace)
     }
 
-    /// Submits a request. The entry stands when this returns, and a read of any pass shows it or a later version, save where
-    /// memory was wanting to publish it: the next submit publishes it first.
+    /// Submits a request of the pass's session, and answers with the reply to it.
     ///
-    /// `NoMeeting` comes only where what the pass has seen, or the number of its session's entries, is not the history's.
+    /// After `Ok` the entry stands, save where the reply is `HistoryFull`; and a read of any pass shows it or a later version,
+    /// save where memory was wanting to publish it: the next submit publishes it first. After `Err` nothing has changed:
+    /// `NoMeeting` comes where what the pass has seen, or the number of its session's entries, is not the history's, and
+    /// `Memory` where memory was wanting.
     pub fn submit<S: Wait>(
         &self,
         rt: &S,
@@ -166,11 +150,7 @@ impl<J: Naming, W: Publisher<Value = Shown<J>>> Live<J, W> {
         let Some(receipt) = self.desk.lock(rt).receipt(&pass) else {
             return Err(pass);
         };
-        let at = pass.session() as usize;
-        let mut places = self.places.lock(rt);
-        if let Some(place) = places.get_mut(at) {
-            *place = Some(pass);
-        }
+        self.places.lock(rt).put(pass);
         Ok(receipt)
     }
 
@@ -199,4 +179,4 @@ impl<J: Naming, W: Publisher<Value = Shown<J>>> Live<J, W> {
 }
 
 #[cfg(test)]
-pub(crate) mod gate;
+mod gate;

@@ -177,7 +177,7 @@ impl<J: Naming, W: Publisher<Value = Shown<J>>> LockedDesk<J, W> {
 fn is_current<J: Naming, W: Publisher<Value = Shown<J>>>(writer: &W, front: &Front<J>) -> bool
     ensures { OnTrue result (IsShown J.opening (W.shown writer.now) front.now) }
 {
-    let shown = writer.stands().whole();
+    let shown = writer.stands().front();
     if !front.begins(shown) {
         return false;
     }

@@ -4,7 +4,7 @@ ghost use mathlib.Core.List.{IsPrefix};
 ghost use Rattle.std.specs.Borrow.{sem, follows_so};
 ghost use mathlib.Core.Option.{none};
 ghost use Rattle.live_sessions.specs.contracts.pass.Pass.{the_row};
-ghost use Rattle.live_sessions.specs.Views.{PassView};
+ghost use Rattle.live_sessions.specs.Views.{PassView, Reads};
 ghost use Rattle.live_sessions.specs.Desks.{IsAfter};
 ghost use Rattle.live_sessions.specs.Fronts.{count_of, IsFront};
 
@@ -37,7 +37,7 @@ impl<J: Naming> Model for Pass<J> {
 
 impl<J: Naming> Pass<J> {
     /// The place of a session, which has seen so much.
-    pub fn new(
+    pub(crate) fn new(
         session: u32,
         reader: ReadHandle<Shown<J>>,
         front: Front<J>,
@@ -93,27 +93,29 @@ impl<J: Naming> Pass<J> {
         let Some(shown) = self.reader.enter() else {
             return;
         };
-        if !self.front.begins(shown.whole()) {
+        if !self.front.begins(shown.front()) {
             return;
         }
         let Ok(seen) = shown.share() else {
             return;
         };
-        let front = shown.whole().again();
+        let front = shown.front().again();
         self.front = front;
         self.last = seen;
     }
 
     /// What stands, or what was seen last.
     pub fn read(&mut self) -> &Published
-        ensures* after { sem 𝓛 (follows_so (the_row J.row (record { book = J.book; opening = J.opening })) (the_row J.row (record { book = J.book; opening = J.opening })) self.entry.ghost_name none (λ _ _. ⊤) (λ v. IsPrefix self.old.front v.front × IsAfter J.opening result.now v.front × IsFront J.opening v.front × (v.session ≡ self.old.session) × (v.answered ≡ self.old.answered))) }
+        ensures* reads { let row = the_row J.row (record { book = J.book; opening = J.opening }) in
+            sem 𝓛 (follows_so row row self.entry.ghost_name none (λ _ _. ⊤)
+                (λ new. Reads J.opening self.old new × IsAfter J.opening result.now new.front)) }
     {
         self.look();
         self.last()
     }
 
     /// Takes in a longer front, with the run after it.
-    pub fn adopt(&mut self, front: Front<J>, last: Published, answered: u32)
+    pub(crate) fn adopt(&mut self, front: Front<J>, last: Published, answered: u32)
         requires run { IsAfter J.opening last front }
         requires own { answered ≤ count_of self.old.session front }
         ensures { (self.new.front ≡ front) × (self.new.session ≡ self.old.session) × (self.new.answered ≡ answered) }

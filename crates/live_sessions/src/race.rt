@@ -12,8 +12,8 @@ use crate::live::Live;
 use crate::pass::Pass;
 use crate::publisher::Publisher;
 use crate::receipt::Receipt;
-use crate::runner::{Runner, run};
 use crate::shown::Shown;
+use crate::submitter::{Submitter, submit_all};
 use edit_desk::desk::Desk;
 use edit_desk::entries::Request;
 use std::alloc::{AllocError, Global};
@@ -36,8 +36,8 @@ pub fn race<
     ensures opening { IfSome result (λ d. d.standing.opening ≡ J.opening) }
     ensures legal { IfSome result (λ d. IsLegal d.standing × IsFront J.opening d.standing.history) }
 {
-    let runners = start(rt, alloc, &live, requests)?;
-    let Ok(left) = side_by_side(rt, &live, runners) else {
+    let submitters = start(rt, alloc, &live, requests)?;
+    let Ok(left) = side_by_side(rt, &live, submitters) else {
         return None;
     };
     let receipts = all_left(alloc, left)?;
@@ -67,25 +67,25 @@ fn fresh<J: Naming, W: Publisher<Value = Shown<J>>, S: Wait>(
     Some(pass)
 }
 
-// A runner for each session, in order.
+// A submitter for each session, in order.
 fn start<J: Naming, W: Publisher<Value = Shown<J>>, S: Wait>(
     rt: &S,
     alloc: Global,
     live: &Live<J, W>,
     requests: Vec<Sequence<Request>>,
-) -> Option<Vec<Runner<J>>>
+) -> Option<Vec<Submitter<J>>>
     requires { vec_len requests ≡ PLACES }
     ensures given { IfSome result (λ v. map given v.items ≡ requests.items) }
     ensures fresh { IfSome result (λ v. AllFresh v.items) }
 {
-    let mut runners = Vec::new(alloc);
+    let mut submitters = Vec::new(alloc);
     let mut session = 0u32;
     for own in requests {
         let pass = fresh(rt, live, session)?;
-        runners.push(Runner::new(pass, own)).ok()?;
+        submitters.push(Submitter::new(pass, own)).ok()?;
         session += 1;
     }
-    Some(runners)
+    Some(submitters)
 }
 
 // Runs each session on a thread of its own, and gives their receipts in the same order.
@@ -93,11 +93,15 @@ fn side_by_side<
     J: Naming + Send + Sync,
     W: Publisher<Value = Shown<J>> + Send,
     S: Threads + Wait + Sync,
->(rt: &S, live: &Live<J, W>, runners: Vec<Runner<J>>) -> Result<Vec<Option<Receipt<J>>>, AllocError>
-    ensures len { IfOk result (λ v. vec_len v ≡ vec_len runners) }
-    ensures each { IfOk result (λ v. AllAsk runners.items v.items) }
+>(
+    rt: &S,
+    live: &Live<J, W>,
+    submitters: Vec<Submitter<J>>,
+) -> Result<Vec<Option<Receipt<J>>>, AllocError>
+    ensures len { IfOk result (λ v. vec_len v ≡ vec_len submitters) }
+    ensures each { IfOk result (λ v. AllAsk submitters.items v.items) }
 {
-    thread::map_vec(rt, runners, &|runner| run(rt, live, runner))
+    thread::map_vec(rt, submitters, &|submitter| submit_all(rt, live, submitter))
 }
 
 // The receipts, where each session left.

@@ -2,7 +2,7 @@
 ghost use Rattle.std.specs.Prelude.{◌≡◌, IfOk};
 ghost use Rattle.live_sessions.specs.Desks.{IsAfter, IsShown};
 ghost use Rattle.live_sessions.specs.Fronts.{IsFront};
-ghost use Rattle.live_sessions.specs.Facts.{facts};
+ghost use Rattle.live_sessions.specs.ShownView.{shown_view};
 
 use crate::book::{Front, Naming};
 use edit_desk::entries::Entry;
@@ -13,7 +13,7 @@ use std::collections::LinkedList;
 use std::marker::Model;
 
 /// What a published value says: the version with its run, and the history that it comes after. No value of it is made.
-pub struct Facts {
+pub struct ShownView {
     pub published: Published,
     pub entries: LinkedList<Entry>,
 }
@@ -27,14 +27,14 @@ pub struct Shown<J: Naming> {
 }
 
 impl<J: Naming> Model for Shown<J> {
-    ghost use Rattle.live_sessions.specs.declared.shown.Facts.{Facts};
-    ghost use Rattle.live_sessions.specs.Facts.{facts};
+    ghost use Rattle.live_sessions.specs.declared.shown.ShownView.{ShownView};
+    ghost use Rattle.live_sessions.specs.ShownView.{shown_view};
     ghost use Rattle.live_sessions.specs.Desks.{IsAfter};
     ghost use Rattle.live_sessions.specs.Fronts.{IsFront};
 
-    ghost Value = { Facts };
+    ghost Value = { ShownView };
 
-    ghost view = { λ s. facts s.published s.front };
+    ghost view = { λ s. shown_view s.published s.front };
 
     ghost invariant = { λ s. IsAfter J.opening s.published s.front × IsFront J.opening s.front };
 }
@@ -42,14 +42,14 @@ impl<J: Naming> Model for Shown<J> {
 impl<J: Naming> Shown<J> {
     pub fn new(published: Published, front: Front<J>) -> Shown<J>
         requires { IsAfter J.opening published front }
-        ensures { result ≡ facts published front }
+        ensures { result ≡ shown_view published front }
     {
         // It makes known that the front is legal.
         let _len = front.len();
         Shown { published, front }
     }
 
-    pub fn whole(&self) -> &Front<J>
+    pub fn front(&self) -> &Front<J>
         ensures front { result.now ≡ self.now.entries }
         ensures run { IsShown J.opening self.now self.now.entries }
     {
@@ -66,7 +66,7 @@ impl<J: Naming> Shown<J> {
 }
 
 impl<J: Naming> Absorb<Shown<J>> for Shown<J> {
-    type State = Facts;
+    type State = ShownView;
 
     ghost state = { λ s. s };
 

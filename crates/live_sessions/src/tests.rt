@@ -7,9 +7,10 @@ mod places;
 mod refused;
 pub(crate) mod requests;
 mod sixteen;
+pub(crate) mod steps;
 
 use crate::book::Naming;
-use crate::live::{Live, Started, gate, open};
+use crate::live::{Live, Started, open};
 use crate::publisher::Publisher;
 use crate::receipt::Receipt;
 use crate::shown::Shown;
@@ -31,7 +32,6 @@ pub(crate) enum Case {
     FullHistory,
     Sixteen,
     Refused,
-    Gate,
 }
 
 // The receipts of the sessions that left, where all went well.
@@ -48,7 +48,6 @@ fn played<
         Case::FullHistory => places::full_history(rt, alloc, live),
         Case::Sixteen => sixteen::twenty_each(rt, alloc, live),
         Case::Refused => refused::submits(rt, alloc, live),
-        Case::Gate => gate::reads_go_on(rt, alloc, live),
     }
 }
 

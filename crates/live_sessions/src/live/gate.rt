@@ -1,76 +1,136 @@
-//! Reads that go on while a submit is stopped inside, with the lock still held.
+//! A publish that waits: reads go on while a submit is inside it, under the lock.
+ghost use Rattle.std.specs.Prelude.{◌≡◌, []};
+ghost use Rattle.live_sessions.specs.Events.{opening_of};
+
 use crate::book::Naming;
-use crate::live::Live;
+use crate::counted::CountedDesk;
+use crate::live::{Live, Started, writer_of};
+use crate::locked::LockedDesk;
 use crate::pass::Pass;
+use crate::places::Places;
 use crate::publisher::Publisher;
 use crate::receipt::Receipt;
 use crate::shown::Shown;
+use crate::tests::both;
 use crate::tests::requests::{one_new, removal, wait_for};
-use crate::tests::{Case, both, desk_after};
+use crate::tests::steps::{leaves, submits};
+use edit_desk::desk::Desk;
 use edit_desk::replies::Reply;
 use std::alloc::Global;
+use std::marker::Brand;
 use std::process::Abort;
-use std::sync::Wait;
 use std::sync::atomic::{AtomicU64, Ordering};
+use std::sync::{Mutex, Wait};
 use std::test::Fail;
 use std::thread;
 use std::thread::Threads;
 
-// Submits as `Live::submit` does, but keeps the lock until the other session has read.
-fn holds<J: Naming, W: Publisher<Value = Shown<J>>, S: Wait + Abort>(
+// Tells that a publish has begun, and waits until the reads are done before it publishes.
+#[derive(Drop)]
+struct Waiting<'a, P, R> {
+    publisher: P,
+    rt: R,
+    turn: &'a AtomicU64,
+}
+
+impl<P: Publisher, R: Wait + Drop> Publisher for Waiting<'_, P, R> {
+    type Value = P::Value;
+
+    ghost shown = { λ w. P.shown w.publisher };
+
+    fn show(&mut self, next: P::Value) {
+        self.turn.store(1, Ordering::SeqCst);
+        wait_for(&self.rt, self.turn, 2);
+        self.publisher.show(next);
+    }
+
+    fn stands(&self) -> &P::Value
+        ensures { result.now ≡ P.shown self.now.publisher }
+    {
+        self.publisher.stands()
+    }
+}
+
+// Submits, which waits inside for the other session's reads.
+fn removes<J: Naming, W: Publisher<Value = Shown<J>>, S: Wait + Abort>(
     rt: &S,
     alloc: Global,
     live: &Live<J, W>,
     mut pass: Pass<J>,
-    turn: &AtomicU64,
 ) -> Option<Receipt<J>> {
-    let request = removal(alloc, 0, 1)?;
-    let mut desk = live.desk.lock(rt);
-    let reply = desk.submit(&live.book, &mut pass, request).ok();
-    turn.store(1, Ordering::SeqCst);
-    wait_for(rt, turn, 2);
-    drop(desk);
-    assert!(rt; reply == Some(Reply::Accepted(1)));
-    live.leave(rt, pass).ok()
+    submits(
+        rt,
+        live,
+        &mut pass,
+        removal(alloc, 0, 1),
+        Reply::Accepted(1),
+    )?;
+    leaves(rt, live, pass, 1)
 }
 
-// Reads many times while the lock is held.
-fn reads<J: Naming, W: Publisher<Value = Shown<J>>, S: Wait + Abort>(
-    rt: &S,
-    live: &Live<J, W>,
-    mut pass: Pass<J>,
-    turn: &AtomicU64,
-) -> Option<Receipt<J>> {
+// Reads many times while the submit is inside, and sees the version that stood before it.
+fn reads<J: Naming, S: Wait + Abort>(rt: &S, mut pass: Pass<J>, turn: &AtomicU64) -> Pass<J> {
     wait_for(rt, turn, 1);
     for _ in 0..10_000u32 {
-        assert!(rt; pass.read().version() == 1);
+        assert!(rt; pass.read().version() == 0);
     }
     turn.store(2, Ordering::SeqCst);
-    live.leave(rt, pass).ok()
+    pass
 }
 
-pub(crate) fn reads_go_on<
+fn side_by_side<
     J: Naming + Send + Sync,
     W: Publisher<Value = Shown<J>> + Send,
     S: Threads + Wait + Abort + Sync + Send,
->(rt: &S, alloc: Global, live: &Live<J, W>) -> Option<Vec<Receipt<J>>> {
-    let a = live.join(rt).ok()?;
-    let b = live.join(rt).ok()?;
-    let turn = AtomicU64::new(0);
-    let flag = &turn;
-    let (a, b) = thread::join(
+>(rt: &S, alloc: Global, live: &Live<J, W>, turn: &AtomicU64) -> Option<Vec<Receipt<J>>> {
+    let first = live.join(rt).ok()?;
+    let second = live.join(rt).ok()?;
+    let (left, mut pass) = thread::join(
         rt,
-        move || holds(rt, alloc, live, a, flag),
-        move || reads(rt, live, b, flag),
+        move || removes(rt, alloc, live, first),
+        move || reads(rt, second, turn),
     );
-    both(alloc, a?, b?)
+    assert!(rt; pass.read().version() == 1);
+    both(alloc, left?, leaves(rt, live, pass, 0)?)
+}
+
+fn with_waiting<J: Naming + Send + Sync, S: Threads + Wait + Abort + Sync + Send>(
+    rt: &S,
+    alloc: Global,
+    started: Started,
+) -> Option<Desk>
+    requires book { started.begun.seen.book ≡ J.book }
+    requires opening { opening_of started.begun.seen.log ≡ J.opening }
+    requires fresh { (started.desk.standing.opening ≡ J.opening) × (started.desk.standing.history ≡ []) }
+{
+    let Started { begun, desk } = started;
+    let desk = CountedDesk::new(desk);
+    let (book, front) = begun.named::<J>();
+    let writer = writer_of::<J, &S>(rt, alloc, &desk, &front).ok()?;
+    let places = Places::new(alloc, &writer, &desk, &front).ok()?;
+    let turn = AtomicU64::new(0);
+    let waiting = Waiting {
+        publisher: writer,
+        rt,
+        turn: &turn,
+    };
+    let live = Live {
+        book,
+        desk: Mutex::new(LockedDesk::new(alloc, desk, front, waiting)),
+        places: Mutex::new(places),
+    };
+    let receipts = side_by_side(rt, alloc, &live, &turn)?;
+    live.close(receipts).ok()
+}
+
+fn desk_waited_for<S: Threads + Wait + Abort + Sync + Send>(rt: &S, alloc: Global) -> Option<Desk> {
+    let started = Started::new(alloc, one_new(alloc)?).ok()?;
+    with_waiting::<Brand, _>(rt, alloc, started)
 }
 
 #[test]
-fn reads_go_on_under_the_lock(rt: HostRuntime) -> Result<(), Fail> {
-    let alloc = rt.alloc();
-    let trace = one_new(alloc).ok_or("memory")?;
-    let desk = desk_after(&rt, alloc, trace, Case::Gate).ok_or("both sessions leave")?;
+fn reads_go_on_inside_a_submit(rt: HostRuntime) -> Result<(), Fail> {
+    let desk = desk_waited_for(&rt, rt.alloc()).ok_or("both sessions leave")?;
     assert_eq!(rt; desk.len(), 1);
     Ok(())
 }

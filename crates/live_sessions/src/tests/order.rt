@@ -6,6 +6,7 @@ use crate::publisher::Publisher;
 use crate::receipt::Receipt;
 use crate::shown::Shown;
 use crate::tests::requests::{insertion, new_and_clone, one_new, removal, wait_for};
+use crate::tests::steps::{leaves, submits};
 use crate::tests::{Case, both, desk_after};
 use edit_desk::published::Published;
 use edit_desk::replies::Reply;
@@ -50,13 +51,12 @@ fn clones<J: Naming, W: Publisher<Value = Shown<J>>, S: Wait + Abort>(
     mut pass: Pass<J>,
     turn: &AtomicU64,
 ) -> Option<Receipt<J>> {
-    let clone = insertion(alloc, 0, 1, 2, Kind::Clone { from: 0, to: 1 })?;
-    let reply = live.submit(rt, &mut pass, clone).ok()?;
-    assert!(rt; reply == Reply::Accepted(1));
+    let clone = insertion(alloc, 0, 1, 2, Kind::Clone { from: 0, to: 1 });
+    submits(rt, live, &mut pass, clone, Reply::Accepted(1))?;
     turn.store(1, Ordering::SeqCst);
     wait_for(rt, turn, 2);
     assert!(rt; shows_both(pass.read()));
-    live.leave(rt, pass).ok()
+    leaves(rt, live, pass, 1)
 }
 
 // Session 1 inserts a downgrade, which is stale at first.
@@ -68,15 +68,13 @@ fn downgrades<J: Naming, W: Publisher<Value = Shown<J>>, S: Wait + Abort>(
     turn: &AtomicU64,
 ) -> Option<Receipt<J>> {
     wait_for(rt, turn, 1);
-    let early = insertion(alloc, 0, 1, 3, Kind::Downgrade { from: 0, to: 2 })?;
-    let reply = live.submit(rt, &mut pass, early).ok()?;
-    assert!(rt; reply == Reply::Stale(1));
-    let late = insertion(alloc, 1, 1, 3, Kind::Downgrade { from: 0, to: 2 })?;
-    let reply = live.submit(rt, &mut pass, late).ok()?;
-    assert!(rt; reply == Reply::Accepted(2));
+    let early = insertion(alloc, 0, 1, 3, Kind::Downgrade { from: 0, to: 2 });
+    submits(rt, live, &mut pass, early, Reply::Stale(1))?;
+    let late = insertion(alloc, 1, 1, 3, Kind::Downgrade { from: 0, to: 2 });
+    submits(rt, live, &mut pass, late, Reply::Accepted(2))?;
     assert!(rt; shows_both(pass.read()));
     turn.store(2, Ordering::SeqCst);
-    live.leave(rt, pass).ok()
+    leaves(rt, live, pass, 2)
 }
 
 pub fn two_sessions<
@@ -96,8 +94,7 @@ pub fn two_sessions<
     both(alloc, a?, b?)
 }
 
-// Submits the removal of operation 2 for version 0, and where that is stale for the version that stands. Answers how many
-// submits it took.
+// Submits the removal of operation 2 for version 0, and where that is stale for the version that stands.
 fn removes<J: Naming, W: Publisher<Value = Shown<J>>, S: Wait + Abort>(
     rt: &S,
     alloc: Global,
@@ -107,8 +104,8 @@ fn removes<J: Naming, W: Publisher<Value = Shown<J>>, S: Wait + Abort>(
     let first = live.submit(rt, &mut pass, removal(alloc, 0, 2)?).ok()?;
     if first != Reply::Accepted(1) {
         assert!(rt; first == Reply::Stale(1));
-        let then = live.submit(rt, &mut pass, removal(alloc, 1, 2)?).ok()?;
-        assert!(rt; then == Reply::Refused(Refusal::NoSuchOp(0)));
+        let none = Reply::Refused(Refusal::NoSuchOp(0));
+        submits(rt, live, &mut pass, removal(alloc, 1, 2), none)?;
     }
     assert!(rt; pass.read().version() == 1);
     live.leave(rt, pass).ok()

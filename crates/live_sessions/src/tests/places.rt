@@ -7,7 +7,8 @@ use crate::publisher::Publisher;
 use crate::receipt::Receipt;
 use crate::shown::Shown;
 use crate::tests::requests::{no_edits, one_new, removal};
-use crate::tests::{Case, desk_after};
+use crate::tests::steps::{joins, leaves, reads, submits};
+use crate::tests::{Case, both, desk_after};
 use edit_desk::replies::Reply;
 use std::alloc::Global;
 use std::process::Abort;
@@ -29,15 +30,14 @@ fn join_all<J: Naming, W: Publisher<Value = Shown<J>>, S: Wait + Abort>(
 ) -> Option<Vec<Pass<J>>> {
     let mut passes = Vec::new(alloc);
     for session in 0..PLACES {
-        let pass = live.join(rt).ok()?;
-        assert!(rt; pass.session() == session);
-        passes.push(pass).ok()?;
+        passes.push(joins(rt, live, session)?).ok()?;
     }
     assert!(rt; live.join(rt).is_err());
     Some(passes)
 }
 
-// Session 3 leaves, and joins again: it is the only one that can. A pass that is dropped keeps its place.
+// Session 9 leaves, and then session 3: they are the ones that can join, the lower first. A pass that is dropped keeps its
+// place.
 pub fn sixteen_places<J: Naming, W: Publisher<Value = Shown<J>>, S: Wait + Abort>(
     rt: &S,
     alloc: Global,
@@ -47,14 +47,13 @@ pub fn sixteen_places<J: Naming, W: Publisher<Value = Shown<J>>, S: Wait + Abort
     if passes.len() < PLACES as usize {
         return None;
     }
-    let third = passes.swap_remove(3);
-    let receipt = live.leave(rt, third).ok()?;
-    let again = live.join(rt).ok()?;
-    assert!(rt; again.session() == 3);
+    let ninth = leaves(rt, live, passes.swap_remove(9), 0)?;
+    let third = leaves(rt, live, passes.swap_remove(3), 0)?;
+    for session in [3u32, 9] {
+        let _again = joins(rt, live, session)?;
+    }
     assert!(rt; live.join(rt).is_err());
-    drop(again);
-    assert!(rt; live.join(rt).is_err());
-    lone(alloc, receipt)
+    both(alloc, ninth, third)
 }
 
 // Two requests of session 3, and after it left and came back a third one.
@@ -68,21 +67,25 @@ pub fn comes_back<J: Naming, W: Publisher<Value = Shown<J>>, S: Wait + Abort>(
         return None;
     }
     let mut pass = passes.swap_remove(3);
-    let first = live.submit(rt, &mut pass, removal(alloc, 0, 1)?).ok()?;
-    assert!(rt; first == Reply::Accepted(1));
-    let second = live.submit(rt, &mut pass, removal(alloc, 0, 1)?).ok()?;
-    assert!(rt; second == Reply::Stale(1));
-    let receipt = live.leave(rt, pass).ok()?;
-    assert!(rt; receipt.answered() == 2);
-    let mut again = live.join(rt).ok()?;
-    assert!(rt; again.session() == 3);
-    assert!(rt; again.answered() == 2);
-    assert!(rt; again.read().version() == 1);
-    let third = live.submit(rt, &mut again, no_edits(alloc, 0)).ok()?;
-    assert!(rt; third == Reply::Stale(1));
-    let receipt = live.leave(rt, again).ok()?;
-    assert!(rt; receipt.session() == 3);
-    assert!(rt; receipt.answered() == 3);
+    submits(
+        rt,
+        live,
+        &mut pass,
+        removal(alloc, 0, 1),
+        Reply::Accepted(1),
+    )?;
+    submits(rt, live, &mut pass, removal(alloc, 0, 1), Reply::Stale(1))?;
+    let _first = leaves(rt, live, pass, 2)?;
+    let mut again = joins(rt, live, 3)?;
+    reads(rt, &mut again, 2, 2, 1);
+    submits(
+        rt,
+        live,
+        &mut again,
+        Some(no_edits(alloc, 0)),
+        Reply::Stale(1),
+    )?;
+    let receipt = leaves(rt, live, again, 3)?;
     lone(alloc, receipt)
 }
 
@@ -94,11 +97,21 @@ pub fn full_history<J: Naming, W: Publisher<Value = Shown<J>>, S: Wait + Abort>(
 ) -> Option<Vec<Receipt<J>>> {
     let mut pass = live.join(rt).ok()?;
     for _ in 0..MAX_ENTRIES {
-        let reply = live.submit(rt, &mut pass, no_edits(alloc, 1)).ok()?;
-        assert!(rt; reply == Reply::Stale(0));
+        submits(
+            rt,
+            live,
+            &mut pass,
+            Some(no_edits(alloc, 1)),
+            Reply::Stale(0),
+        )?;
     }
-    let reply = live.submit(rt, &mut pass, removal(alloc, 0, 1)?).ok()?;
-    assert!(rt; reply == Reply::HistoryFull);
+    submits(
+        rt,
+        live,
+        &mut pass,
+        removal(alloc, 0, 1),
+        Reply::HistoryFull,
+    )?;
     lone(alloc, live.leave(rt, pass).ok()?)
 }
 
@@ -106,7 +119,7 @@ pub fn full_history<J: Naming, W: Publisher<Value = Shown<J>>, S: Wait + Abort>(
 fn sixteen_places_are_given(rt: HostRuntime) -> Result<(), Fail> {
     let alloc = rt.alloc();
     let trace = one_new(alloc).ok_or("memory")?;
-    let desk = desk_after(&rt, alloc, trace, Case::Places).ok_or("session 3 leaves")?;
+    let desk = desk_after(&rt, alloc, trace, Case::Places).ok_or("two sessions leave")?;
     assert_eq!(rt; desk.len(), 0);
     Ok(())
 }

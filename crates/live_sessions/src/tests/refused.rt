@@ -7,6 +7,7 @@ use crate::publisher::Publisher;
 use crate::receipt::Receipt;
 use crate::shown::Shown;
 use crate::tests::requests::{new_and_clone, removal};
+use crate::tests::steps::leaves;
 use crate::tests::{Case, desk_after};
 use edit_desk::desk::Desk;
 use edit_desk::entries::Request;
@@ -41,7 +42,8 @@ fn desk<S: Threads + Wait + Abort + Sync + Send>(rt: &S, alloc: Global) -> Optio
     }
 }
 
-// Submits the removal. Where that finds no memory, the other pass reads nothing new, and the same call goes well afterwards.
+// Submits the removal. Where that finds no memory, the other pass reads no new version and no entry, and the same call goes
+// well afterwards.
 fn removes<J: Naming, W: Publisher<Value = Shown<J>>, S: Wait + Abort>(
     rt: &S,
     alloc: Global,
@@ -52,9 +54,8 @@ fn removes<J: Naming, W: Publisher<Value = Shown<J>>, S: Wait + Abort>(
     match live.submit(rt, pass, request(alloc)?) {
         Ok(reply) => Some(reply),
         Err(fault) => {
-            assert!(rt; fault == SubmitFault::Memory);
-            assert!(rt; other.read().version() == 0);
-            assert!(rt; pass.answered() == 0);
+            assert!(rt; fault == SubmitFault::Memory && pass.answered() == 0);
+            assert!(rt; other.read().version() == 0 && other.front().len() == 0);
             live.submit(rt, pass, request(alloc)?).ok()
         }
     }
@@ -70,9 +71,7 @@ pub fn submits<J: Naming, W: Publisher<Value = Shown<J>>, S: Wait + Abort>(
     let mut other = live.join(rt).ok()?;
     let reply = removes(rt, alloc, live, &mut pass, &mut other)?;
     assert!(rt; reply == Reply::Accepted(1));
-    let receipt = live.leave(rt, pass).ok()?;
-    assert!(rt; receipt.answered() == 1);
-    receipts.push(receipt).ok()?;
+    receipts.push(leaves(rt, live, pass, 1)?).ok()?;
     Some(receipts)
 }
 

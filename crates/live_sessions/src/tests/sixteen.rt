@@ -7,10 +7,13 @@ use crate::publisher::Publisher;
 use crate::receipt::Receipt;
 use crate::shown::Shown;
 use crate::tests::requests::{insertion, one_new};
+use crate::tests::steps::leaves;
 use crate::tests::{Case, desk_after};
 use edit_desk::desk::Desk;
 use edit_desk::entries::Entry;
 use edit_desk::replies::Reply;
+use op_step::meter::Meter;
+use op_step::replay::replay;
 use ownership_model::plain::plain_replay;
 use run_engine::edits::apply;
 use run_engine::run::Run;
@@ -22,6 +25,16 @@ use std::thread;
 use std::thread::Threads;
 use trace_types::kinds::Kind;
 use trace_types::trace::Trace;
+
+// Whether a reply to a request for a version that was read may be: the next version, or a later one that stands.
+fn is_fitting(base: u32, reply: Reply) -> bool {
+    match reply {
+        Reply::Accepted(version) => Some(version) == base.checked_add(1),
+        Reply::Stale(version) => base < version,
+        Reply::Refused(_) => false,
+        Reply::HistoryFull => false,
+    }
+}
 
 // Twenty insertions of a session, with numbers of its own, each for the version that it read last.
 fn insert_twenty<J: Naming, W: Publisher<Value = Shown<J>>, S: Wait + Abort>(
@@ -35,12 +48,9 @@ fn insert_twenty<J: Naming, W: Publisher<Value = Shown<J>>, S: Wait + Abort>(
         let base = pass.read().version();
         let request = insertion(alloc, base, 1, at + 2, Kind::Null { to: at + 1 })?;
         let reply = live.submit(rt, &mut pass, request).ok()?;
-        let next = base.wrapping_add(1);
-        assert!(rt; reply == Reply::Accepted(next) || reply != Reply::Stale(base));
+        assert!(rt; is_fitting(base, reply));
     }
-    let receipt = live.leave(rt, pass).ok()?;
-    assert!(rt; receipt.answered() == 20);
-    Some(receipt)
+    leaves(rt, live, pass, 20)
 }
 
 pub fn twenty_each<
@@ -58,6 +68,20 @@ pub fn twenty_each<
         receipts.push(receipt?).ok()?;
     }
     Some(receipts)
+}
+
+// How many entries of a session the history has.
+fn entries_of(desk: &Desk, session: u32) -> usize {
+    let mut own = 0usize;
+    for place in 0..desk.len() {
+        if desk
+            .entry(place)
+            .is_some_and(|entry| entry.session == session)
+        {
+            own = own.saturating_add(1);
+        }
+    }
+    own
 }
 
 // The trace and its version after an entry, where the reply is the one that is due.
@@ -87,9 +111,14 @@ fn folded(alloc: Global, desk: &Desk) -> Option<Trace> {
     Some(trace)
 }
 
-// Whether the run shows what the replay of the trace by the plain program gives.
+// Whether the run shows what the replay of the trace by the plain program gives, and ends with the same heap as a replay from
+// nothing.
 fn is_replay(alloc: Global, run: &Run, trace: &Trace) -> Option<bool> {
     let (outcomes, _) = plain_replay(alloc, trace).ok()?;
+    let (_, end) = replay(alloc, trace, &mut Meter::new()).ok()?;
+    if !run.end().same(&end) {
+        return Some(false);
+    }
     if run.len() != trace.len() || outcomes.len() != trace.len() {
         return Some(false);
     }
@@ -107,6 +136,9 @@ fn sixteen_threads_submit_twenty_each(rt: HostRuntime) -> Result<(), Fail> {
     let trace = one_new(alloc).ok_or("memory")?;
     let desk = desk_after(&rt, alloc, trace, Case::Sixteen).ok_or("all sessions leave")?;
     assert_eq!(rt; desk.len(), 320);
+    for session in 0..PLACES {
+        assert_eq!(rt; entries_of(&desk, session), 20);
+    }
     let trace = folded(alloc, &desk).ok_or("each reply is the one that is due")?;
     let alike = is_replay(alloc, desk.published().run(), &trace).ok_or("memory")?;
     assert!(rt; alike);

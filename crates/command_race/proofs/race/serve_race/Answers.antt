@@ -1,7 +1,6 @@
 use Rattle.std.proofs.Common.{sym, ◌∙◌, subst}
 use Rattle.std.specs.Io.KnownBytes.{Appends}
-use Rattle.command_serve.proofs.Served.{never_device}
-use Rattle.command_race.proofs.Due.{none_written, all_written}
+use Rattle.command_race.proofs.Due.{none_written, all_written, never_device}
 use Rattle.command_race.proofs.race.serve_race.Goals as goal
 
 pub returns-in-Err-clause-served : goal.returns-in-Err-clause-served

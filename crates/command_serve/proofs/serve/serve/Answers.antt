@@ -2,29 +2,28 @@ use Rattle.std.proofs.Common.{◌≤◌, length, ap, sym, subst, ◌∙◌, arit
 use Rattle.command_serve.specs.declared.exits.Exit.TheVariants.{Device, Memory}
 use Rattle.trace_types.specs.declared.limits.TheConstants.{MAX_INPUT}
 use Rattle.command_serve.specs.Serve.{too_long, IsAnswered}
-use Rattle.command_serve.proofs.Served.{IsInput-whole, IsInput-long, due-long, due-short, read-short, read-long, served, served_none}
+use Rattle.command_serve.proofs.Served.{due-long, due-short, served, served_none}
 use Rattle.command_serve.proofs.serve.serve.Goals as goal
 
 pub returns-in-Ok-clause-served : goal.returns-in-Ok-clause-served
 returns-in-Ok-clause-served g c =
-    let read = c.in-Ok.ensures.ok in
+    let read = c.in-Ok.ensures.input in
     let same = c.as_slice.ensures.value in
-    let short : length c.in-Ok.input.items ≤ MAX_INPUT = omega (arith, ap length same, c.as_slice.ensures.len, read.2) in
+    let short : length c.in-Ok.input.items ≤ MAX_INPUT = omega (arith, ap length same, c.as_slice.ensures.len, c.in-Ok.ensures.ok.2) in
     let due = ap g.C.Answers.due same ∙ sym (due-short g.C.Answers.due c.in-Ok.input.items short) in (
       c.in-Ok.input.items,
-      IsInput-whole _ _ _ read.0 read.1,
-      served _ _ _ _ _ _ _ (read-short _ _ _ short read.1)
+      read.0,
+      served _ _ _ _ _ _ _ read.1
           (subst (λ d. IsAnswered d (g.K.Sink.held c.args.sink.now) (g.K.Sink.held c.answer.new.sink) c.answer.result) due c.answer.ensures.answered),
     )
 
 pub returns-in-Err-TooLong-clause-served : goal.returns-in-Err-TooLong-clause-served
 returns-in-Err-TooLong-clause-served g c =
-    let read = c.in-Err-TooLong.ensures.too_long (ap Err c.in-Err-TooLong.field-0-is) in
-    let long = IsInput-long _ _ read.0 read.1 (omega (arith, read.2)) in (
+    let long = c.in-Err-TooLong.ensures.long_input (ap Err c.in-Err-TooLong.field-0-is) in (
       long.0,
       long.1,
-      served _ _ _ _ _ _ _ (read-long _ _ long.0 read.0 long.2 read.1 read.2)
-          (subst (λ d. IsAnswered d (g.K.Sink.held c.args.sink.now) (g.K.Sink.held c.write_text.new.sink) c.write_text.result) (sym (due-long g.C.Answers.due long.0 long.2))
+      served _ _ _ _ _ _ _ long.2
+          (subst (λ d. IsAnswered d (g.K.Sink.held c.args.sink.now) (g.K.Sink.held c.write_text.new.sink) c.write_text.result) (sym (due-long g.C.Answers.due long.0 long.3))
           (c.write_text.ensures.answered too_long c.too_long.ensures.ok c.too_long.ensures.err)),
     )
 

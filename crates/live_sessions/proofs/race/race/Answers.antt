@@ -13,7 +13,7 @@ use Rattle.live_sessions.proofs.race.race.Goals as goal
 pub returns-clause-asked : goal.returns-clause-asked
 returns-clause-asked g c s =
     let requests = c.args.requests.items in
-    let runners = c.in_ok-runners.runners.items in
+    let submitters = c.in_ok-submitters.submitters.items in
     let left = c.in-Ok.left.items in
     let receipts = c.in_ok-receipts.receipts.items in
     let h = c.in-Ok-close_counted.desk.history in
@@ -25,8 +25,8 @@ returns-clause-asked g c s =
     let sessions : All (λ (e : Entry). e.session < PLACES) h = c.len-len.ensures.sessions in
     let most : length h ≤ MAX_ENTRIES = c.len-len.ensures.most in
     let sixteen : length requests ≡ PLACES = search rules in
-    let as_many : length left ≡ length runners = search rules in
-    let asks : AllAsk runners left = c.in-Ok.ensures.each in
+    let as_many : length left ≡ length submitters = search rules in
+    let asks : AllAsk submitters left = c.in-Ok.ensures.each in
     let all_of : map Some receipts ≡ left = c.in_ok-receipts.ensures in
     subst (λ (x : List Entry). AreAsked (slice_index_or requests s []) (asked_by s x) (length x)) (sym c.into_desk.ensures.value.0)
-    (raced requests runners left receipts h sixteen c.in_ok-runners.ensures.given c.in_ok-runners.ensures.fresh asks as_many all_of begun sums sessions most s)
+    (raced requests submitters left receipts h sixteen c.in_ok-submitters.ensures.given c.in_ok-submitters.ensures.fresh asks as_many all_of begun sums sessions most s)

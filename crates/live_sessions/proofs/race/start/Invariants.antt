@@ -5,7 +5,7 @@ use Rattle.live_sessions.proofs.race.start.Given as goal
 
 abbrev pub invariant-loop-own : goal.invariant-loop-own
 invariant-loop-own g l = record {
-  number : l.session ≡ length l.runners.items;
-  handed : map given l.runners.items ++ into_iter_items l.own-iterator ≡ l.fn.requests.items;
-  started : AllFresh l.runners.items;
+  number : l.session ≡ length l.submitters.items;
+  handed : map given l.submitters.items ++ into_iter_items l.own-iterator ≡ l.fn.requests.items;
+  started : AllFresh l.submitters.items;
 }

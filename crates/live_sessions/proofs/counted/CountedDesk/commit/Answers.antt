@@ -6,9 +6,8 @@ use Rattle.edit_desk.specs.Versions.{IsDue}
 use Rattle.live_sessions.specs.Desks.{CountedView, IsCounted}
 use Rattle.live_sessions.specs.Fronts.{standing_of}
 use Rattle.live_sessions.proofs.Counts.{count_of-le-length, counted-more}
-use Rattle.live_sessions.proofs.Legal.{standing_seen, history_after}
+use Rattle.live_sessions.proofs.Legal.{standing_seen}
 use Rattle.live_sessions.specs.declared.limits.TheConstants.{PLACES}
-use Rattle.trace_types.specs.declared.limits.TheConstants.{MAX_ENTRIES}
 use Rattle.live_sessions.proofs.counted.CountedDesk.commit.Goals as goal
 
 pub commit-reply-requires-clause-due : goal.commit-reply-requires-clause-due
@@ -28,29 +27,16 @@ overflow_add-self c =
 
 pub invariant_of-self : goal.invariant_of-self
 invariant_of-self c =
-    let s = c.self.inside.desk.standing in
-    let v = c.args.self.now in
-    let h = s.history in
-    let p = c.args.prepared in
+    let h = c.self.inside.desk.standing.history in
     let e = c.entry.result.now in
     let counts = c.self.inside.counts in
     let small : e.session < PLACES = omega (arith, c.requires.session, ap (λ (x : Entry). x.session) c.entry.ensures) in
-    let seen : s ≡ standing_of v.opening v.history = standing_seen s v c.self.inside.desk.room c.opening-opening.ensures.legal c.self.view_is in
-    let due : IsDue s p = subst (λ (x : Standing). IsDue x p) (sym seen) c.requires.due in
-    let less : length h < MAX_ENTRIES = omega (arith, c.requires.history, ap (λ (w : CountedView). length w.history) c.self.view_is) in
-    let is : h ++ e ∷ [] ≡ c.commit-reply.new.self.standing.history =
-    ap (λ (x : Entry). h ++ x ∷ []) c.entry.ensures ∙ sym (ap (λ (x : Standing). x.history) c.commit-reply.ensures.after ∙ history_after s p.entry less due.reply) in
+    let is : h ++ e ∷ [] ≡ c.commit-reply.new.self.standing.history = ap (λ (x : Entry). h ++ x ∷ []) c.entry.ensures ∙ sym c.commit-reply.ensures.history in
     subst (λ (g : List Entry). IsCounted (set counts e.session (slice_index counts e.session + 1)) g) is (counted-more counts h e small c.self.invariant)
 
 pub returns-clause-after : goal.returns-clause-after
 returns-clause-after c =
-    let s = c.self.inside.desk.standing in
-    let v = c.args.self.now in
-    let h = s.history in
-    let p = c.args.prepared in
-    let seen : s ≡ standing_of v.opening v.history = standing_seen s v c.self.inside.desk.room c.opening-opening.ensures.legal c.self.view_is in
-    let due : IsDue s p = subst (λ (x : Standing). IsDue x p) (sym seen) c.requires.due in
-    let less : length h < MAX_ENTRIES = omega (arith, c.requires.history, ap (λ (w : CountedView). length w.history) c.self.view_is) in (
-      ap (λ (x : Standing). x.history) c.commit-reply.ensures.after ∙ (history_after s p.entry less due.reply ∙ ap (λ (w : CountedView). w.history ++ p.entry ∷ []) c.self.view_is),
+    let p = c.args.prepared in (
+      c.commit-reply.ensures.history ∙ ap (λ (w : CountedView). w.history ++ p.entry ∷ []) c.self.view_is,
       ap (λ (x : Standing). x.opening) c.commit-reply.ensures.after ∙ ap (λ (w : CountedView). w.opening) c.self.view_is,
     )

@@ -1,10 +1,10 @@
 use Rattle.std.proofs.Common.{rules, arith, ◌≡◌, ◌∷◌, ◌++◌, ◌∙◌, inl}
 use Rattle.std.proofs.lemmas.Grind.{common_steps}
 use Rattle.std.specs.Vec.Iter.{into_iter_items}
-use Rattle.live_sessions.specs.declared.runner.End.TheVariants.{Stored, Full}
+use Rattle.live_sessions.specs.declared.submitter.End.TheVariants.{Stored, Full}
 use Rattle.live_sessions.specs.Races.{asked_by, Stepped}
 use Rattle.live_sessions.proofs.Races.{asks_more, asks_full}
-use Rattle.live_sessions.proofs.runner.ask_all.Goals as goal
+use Rattle.live_sessions.proofs.submitter.ask_all.Goals as goal
 
 pub loop-request-preserved : goal.loop-request-preserved
 loop-request-preserved g c =

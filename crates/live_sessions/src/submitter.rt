@@ -16,15 +16,15 @@ use trace_types::sequence::Sequence;
 
 /// A session's pass, with the requests that it is to submit, in order. Contracts see a record of the two.
 #[derive(Drop)]
-pub struct Runner<J: Naming> {
+pub struct Submitter<J: Naming> {
     pass: Pass<J>,
     requests: Sequence<Request>,
 }
 
-impl<J: Naming> Model for Runner<J> {
-    ghost use Rattle.live_sessions.specs.Races.{RunnerView};
+impl<J: Naming> Model for Submitter<J> {
+    ghost use Rattle.live_sessions.specs.Races.{SubmitterView};
 
-    ghost Value = { RunnerView };
+    ghost Value = { SubmitterView };
 
     ghost view = { λ r. record { pass = r.pass; requests = r.requests } };
 }
@@ -36,11 +36,11 @@ enum End {
     Fault,
 }
 
-impl<J: Naming> Runner<J> {
-    pub fn new(pass: Pass<J>, requests: Sequence<Request>) -> Runner<J>
+impl<J: Naming> Submitter<J> {
+    pub fn new(pass: Pass<J>, requests: Sequence<Request>) -> Submitter<J>
         ensures { (result.pass ≡ pass) × (result.requests ≡ requests) }
     {
-        Runner { pass, requests }
+        Submitter { pass, requests }
     }
 }
 
@@ -92,14 +92,14 @@ fn ask_all<J: Naming, W: Publisher<Value = Shown<J>>, S: Wait>(
 
 /// Submits the requests in order, as far as the history has room for them, and leaves; or answers nothing where a request was
 /// not answered, or the pass could not leave.
-pub fn run<J: Naming, W: Publisher<Value = Shown<J>>, S: Wait>(
+pub fn submit_all<J: Naming, W: Publisher<Value = Shown<J>>, S: Wait>(
     rt: &S,
     live: &Live<J, W>,
-    runner: Runner<J>,
+    submitter: Submitter<J>,
 ) -> Option<Receipt<J>>
-    ensures { IfSome result (λ r. Asks runner.pass runner.requests r) }
+    ensures { IfSome result (λ r. Asks submitter.pass submitter.requests r) }
 {
-    let Runner { pass, requests } = runner;
+    let Submitter { pass, requests } = submitter;
     let pass = ask_all(rt, live, pass, requests.into_vec())?;
     match live.leave(rt, pass) {
         Ok(receipt) => Some(receipt),

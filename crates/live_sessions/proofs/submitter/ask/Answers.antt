@@ -1,8 +1,8 @@
 use Rattle.std.proofs.Common.{sym, subst}
-use Rattle.live_sessions.specs.declared.runner.End.{End}
+use Rattle.live_sessions.specs.declared.submitter.End.{End}
 use Rattle.live_sessions.specs.Races.{Stepped}
 use Rattle.live_sessions.proofs.Races.{stepped}
-use Rattle.live_sessions.proofs.runner.ask.Goals as goal
+use Rattle.live_sessions.proofs.submitter.ask.Goals as goal
 
 pub returns-in-Ok : goal.returns-in-Ok
 returns-in-Ok g c =

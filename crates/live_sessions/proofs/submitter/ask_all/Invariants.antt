@@ -1,7 +1,7 @@
 use Rattle.std.proofs.Common.{◌≡◌, ◌++◌}
 use Rattle.std.specs.Vec.Iter.{into_iter_items}
 use Rattle.live_sessions.specs.Races.{asked_by}
-use Rattle.live_sessions.proofs.runner.ask_all.Given as goal
+use Rattle.live_sessions.proofs.submitter.ask_all.Given as goal
 
 abbrev pub invariant-loop-request : goal.invariant-loop-request
 invariant-loop-request g l = record {

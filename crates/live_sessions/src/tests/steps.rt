@@ -1,0 +1,60 @@
+//! What a session of a test does, one step a function.
+use crate::book::Naming;
+use crate::live::Live;
+use crate::pass::Pass;
+use crate::publisher::Publisher;
+use crate::receipt::Receipt;
+use crate::shown::Shown;
+use edit_desk::entries::Request;
+use edit_desk::replies::Reply;
+use std::process::Abort;
+use std::sync::Wait;
+
+// Joins at this session's place.
+pub fn joins<J: Naming, W: Publisher<Value = Shown<J>>, S: Wait + Abort>(
+    rt: &S,
+    live: &Live<J, W>,
+    session: u32,
+) -> Option<Pass<J>> {
+    let pass = live.join(rt).ok()?;
+    assert!(rt; pass.session() == session);
+    Some(pass)
+}
+
+// Submits a request, to which this is the reply.
+pub fn submits<J: Naming, W: Publisher<Value = Shown<J>>, S: Wait + Abort>(
+    rt: &S,
+    live: &Live<J, W>,
+    pass: &mut Pass<J>,
+    request: Option<Request>,
+    due: Reply,
+) -> Option<()> {
+    let reply = live.submit(rt, pass, request?).ok()?;
+    assert!(rt; reply == due);
+    Some(())
+}
+
+// Has had so many replies, and has seen so many entries, before it reads this version.
+pub fn reads<J: Naming, S: Abort>(
+    rt: &S,
+    pass: &mut Pass<J>,
+    answered: u32,
+    entries: u64,
+    version: u32,
+) {
+    assert!(rt; pass.answered() == answered && pass.front().len() == entries);
+    assert!(rt; pass.read().version() == version);
+}
+
+// Leaves with so many replies.
+pub fn leaves<J: Naming, W: Publisher<Value = Shown<J>>, S: Wait + Abort>(
+    rt: &S,
+    live: &Live<J, W>,
+    pass: Pass<J>,
+    answered: u32,
+) -> Option<Receipt<J>> {
+    let session = pass.session();
+    let receipt = live.leave(rt, pass).ok()?;
+    assert!(rt; receipt.session() == session && receipt.answered() == answered);
+    Some(receipt)
+}
