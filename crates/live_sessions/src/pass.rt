@@ -108,7 +108,7 @@ impl<J: Naming> Pass<J> {
     pub fn read(&mut self) -> &Published
         ensures* reads { let row = the_row J.row (record { book = J.book; opening = J.opening }) in
             sem 𝓛 (follows_so row row self.entry.ghost_name none (λ _ _. ⊤)
-                (λ new. Reads J.opening self.old new × IsAfter J.opening result.now new.front)) }
+            (λ new. Reads J.opening self.old new × IsAfter J.opening result.now new.front)) }
     {
         self.look();
         self.last()
