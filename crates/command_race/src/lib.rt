@@ -3,9 +3,5 @@
 
 pub mod history;
 pub mod race;
-#[cfg(test)]
-mod report_tests;
 pub mod reports;
 pub mod split;
-#[cfg(test)]
-mod tests;

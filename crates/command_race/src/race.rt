@@ -11,7 +11,6 @@ use crate::split::by_session;
 use command_serve::exits::Exit;
 use command_serve::input::{InputFault, read_all};
 use live_sessions::book::Naming;
-use live_sessions::limits::MAX_WORKERS;
 use live_sessions::live::{Started, open};
 use live_sessions::race::race;
 use std::alloc::{AllocError, Global};
@@ -20,6 +19,7 @@ use std::sync::Wait;
 use std::thread::Threads;
 use trace_reader::{LineCause, RequestLine, Script, fault_line, read_script};
 use trace_types::devices::{Sink, Source, write_all};
+use trace_types::limits::MAX_WORKERS;
 
 /// Reads a trace and requests to edit it, submits each session's requests in order on a thread of its own, and writes
 /// each stored entry's session and reply and the report of the last version, or the line that tells the first fault.

@@ -1,6 +1,7 @@
-use command_words::{Command, MAX_WORKERS, WordsFault, read_words};
+use command_words::{Command, WordsFault, read_words};
 use std::alloc::{AllocError, Global};
 use std::test::Fail;
+use trace_types::limits::MAX_WORKERS;
 
 fn words(alloc: Global, texts: &[&str]) -> Result<Vec<String>, AllocError> {
     let mut words = Vec::new(alloc);

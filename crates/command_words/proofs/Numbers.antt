@@ -3,7 +3,7 @@ use Rattle.std.proofs.Common.{◌≡◌, ◌≤◌, ◌<◌, ◌^◌, ℕ, Optio
 use Rattle.std.specs.Prelude.{IfNone}
 use Rattle.std.specs.Str.Parse.{IsNumeral, digits_value, without_leading_plus}
 use Rattle.clap.specs.Words.{Text}
-use Rattle.command_words.specs.declared.TheConstants.{MAX_WORKERS}
+use Rattle.trace_types.specs.declared.limits.TheConstants.{MAX_WORKERS}
 use Rattle.command_words.specs.Named.{IsWorkers}
 
 -- it was read, and is from 1 to the most

@@ -11,9 +11,7 @@ use clap::error::ErrorKind;
 use clap::{Arg, ArgMatches};
 use std::alloc::{AllocError, Global};
 use thiserror::Error;
-
-/// How many workers `race` may be told of; the fewest are 1.
-pub const MAX_WORKERS: u32 = 16;
+use trace_types::limits::MAX_WORKERS;
 
 /// What the program is to do.
 #[derive(Clone, Copy, Debug, PartialEq, Eq)]
@@ -161,4 +159,3 @@ fn scope_command<'a>(alloc: Global) -> Result<clap::Command<'a>, AllocError>
         .subcommand(whatif)?
         .subcommand(race)
 }
-

@@ -15,5 +15,3 @@ pub mod race;
 pub mod receipt;
 pub mod shown;
 pub mod submitter;
-#[cfg(test)]
-mod tests;

@@ -1,4 +1,4 @@
-//! How many sessions and workers there may be.
+//! How many sessions there may be, and who reads.
 use trace_types::limits::MAX_SESSION;
 
 /// How many places a `Live` has: one for each session.
@@ -6,6 +6,3 @@ pub const PLACES: u32 = MAX_SESSION + 1;
 
 /// How many readers what publishes has room for: one for each place, and one to spare.
 pub const READERS: usize = 17;
-
-/// How many workers may guess ahead; the fewest are 1.
-pub const MAX_WORKERS: u32 = 16;

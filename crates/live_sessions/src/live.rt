@@ -8,7 +8,7 @@ ghost use Rattle.live_sessions.specs.Events.{opening_of};
 use crate::book::{Begun, Book, Front, Naming};
 use crate::counted::CountedDesk;
 use crate::faults::{NoMeeting, NoPlace, OpenFault, SubmitFault};
-use crate::limits::{MAX_WORKERS, READERS};
+use crate::limits::READERS;
 use crate::locked::LockedDesk;
 use crate::pass::Pass;
 use crate::places::Places;
@@ -21,6 +21,7 @@ use edit_desk::replies::Reply;
 use left_right::WriteHandle;
 use std::alloc::{AllocError, Global};
 use std::sync::{Mutex, Wait};
+use trace_types::limits::MAX_WORKERS;
 use trace_types::trace::Trace;
 
 /// A desk that has opened, with the book of its history, which has no name yet.
@@ -54,8 +55,8 @@ impl Started {
 /// What publishes the versions of a `Live` that `open` made.
 pub type Writer<J, R> = WriteHandle<Shown<J>, Shown<J>, R>;
 
-// What publishes, with room for all that a publish of one version takes.
-fn writer_of<J: Naming, R: Wait + Drop>(
+/// What publishes, with room for all that a publish of one version takes.
+pub fn writer_of<J: Naming, R: Wait + Drop>(
     rt: R,
     alloc: Global,
     desk: &CountedDesk,
@@ -110,14 +111,29 @@ pub fn open<J: Naming, R: Wait + Drop>(
     let (book, front) = begun.named::<J>();
     let writer = writer_of(rt, alloc, &desk, &front)?;
     let places = Places::new(alloc, &writer, &desk, &front)?;
-    Ok(Live {
-        book,
-        desk: Mutex::new(LockedDesk::new(alloc, desk, front, writer)),
-        places: Mutex::new(places),
-    })
+    Ok(Live::over(alloc, book, desk, front, places, writer))
 }
 
 impl<J: Naming, W: Publisher<Value = Shown<J>>> Live<J, W> {
+    /// A `Live` over any publisher; `open` makes one over `left_right`.
+    pub fn over(
+        alloc: Global,
+        book: Book<J>,
+        desk: CountedDesk,
+        front: Front<J>,
+        places: Places<J>,
+        publisher: W,
+    ) -> Live<J, W>
+        requires opening { desk.opening ≡ J.opening }
+        requires front { front ≡ desk.history }
+    {
+        Live {
+            book,
+            desk: Mutex::new(LockedDesk::new(alloc, desk, front, publisher)),
+            places: Mutex::new(places),
+        }
+    }
+
     /// The lowest free place. It goes on from what its last pass left; a pass that was dropped keeps its place. Takes no
     /// memory.
     pub fn join<S: Wait>(&self, rt: &S) -> Result<Pass<J>, NoPlace> {
@@ -177,6 +193,3 @@ impl<J: Naming, W: Publisher<Value = Shown<J>>> Live<J, W> {
         locked.close(receipts)
     }
 }
-
-#[cfg(test)]
-mod gate;

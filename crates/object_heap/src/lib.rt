@@ -9,4 +9,3 @@ pub mod heap;
 pub mod reach;
 
 pub use heap::Heap;
-

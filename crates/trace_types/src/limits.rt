@@ -35,6 +35,9 @@ pub const MAX_VERSION: u32 = MAX_ENTRIES as u32;
 /// The greatest number of a session; the first is 0.
 pub const MAX_SESSION: u32 = 15;
 
+/// How many workers may guess ahead; the fewest are 1.
+pub const MAX_WORKERS: u32 = 16;
+
 /// How many bytes a line may have, without its newline.
 pub const MAX_LINE: usize = 4_096;
 

@@ -2,7 +2,7 @@ use Rattle.std.proofs.Common.{◌≤◌, arith}
 use Rattle.clap.specs.Words.{found_of, one_of, rows_of}
 use Rattle.clap.specs.Matches.{one_text}
 use Rattle.clap.proofs.WalkLemmas.{one_text-rows}
-use Rattle.command_words.specs.declared.TheConstants.{MAX_WORKERS}
+use Rattle.trace_types.specs.declared.limits.TheConstants.{MAX_WORKERS}
 use Rattle.command_words.specs.Named.{workers_id}
 use Rattle.command_words.proofs.Numbers.{some_workers, no_workers, other_workers, if_none}
 use Rattle.command_words.proofs.workers.Goals as goal

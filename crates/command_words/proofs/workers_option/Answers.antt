@@ -1,7 +1,7 @@
 use Rattle.std.proofs.Common.{ap, ◌∙◌, ◌≡◌, codes, Some, [], ◌∷◌, rules}
 use Rattle.clap.specs.Words.{Rule, new_rule, rule_of}
 use Rattle.clap.specs.declared.builder.value_parser.ValueParser.TheVariants.{Unsigned}
-use Rattle.command_words.specs.declared.TheConstants.{MAX_WORKERS}
+use Rattle.trace_types.specs.declared.limits.TheConstants.{MAX_WORKERS}
 use Rattle.command_words.specs.Named.{workers_id, workers_rule}
 use Rattle.command_words.proofs.workers_option.Goals as goal
 

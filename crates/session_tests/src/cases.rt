@@ -2,19 +2,13 @@
 ghost use Rattle.std.specs.Prelude.{◌≡◌, [], IfOk};
 ghost use Rattle.live_sessions.specs.Events.{opening_of};
 
-mod order;
-mod places;
-mod refused;
-pub(crate) mod requests;
-mod sixteen;
-pub(crate) mod steps;
-
-use crate::book::Naming;
-use crate::live::{Live, Started, open};
-use crate::publisher::Publisher;
-use crate::receipt::Receipt;
-use crate::shown::Shown;
+use crate::{order, places, refused, sixteen};
 use edit_desk::desk::Desk;
+use live_sessions::book::Naming;
+use live_sessions::live::{Live, Started, open};
+use live_sessions::publisher::Publisher;
+use live_sessions::receipt::Receipt;
+use live_sessions::shown::Shown;
 use std::alloc::Global;
 use std::marker::Brand;
 use std::process::Abort;

@@ -2,25 +2,24 @@
 ghost use Rattle.std.specs.Prelude.{◌≡◌, []};
 ghost use Rattle.live_sessions.specs.Events.{opening_of};
 
-use crate::book::Naming;
-use crate::counted::CountedDesk;
-use crate::live::{Live, Started, writer_of};
-use crate::locked::LockedDesk;
-use crate::pass::Pass;
-use crate::places::Places;
-use crate::publisher::Publisher;
-use crate::receipt::Receipt;
-use crate::shown::Shown;
-use crate::tests::both;
-use crate::tests::requests::{one_new, removal, wait_for};
-use crate::tests::steps::{leaves, submits};
+use crate::cases::both;
+use crate::requests::{one_new, removal, wait_for};
+use crate::steps::{leaves, submits};
 use edit_desk::desk::Desk;
 use edit_desk::replies::Reply;
+use live_sessions::book::Naming;
+use live_sessions::counted::CountedDesk;
+use live_sessions::live::{Live, Started, writer_of};
+use live_sessions::pass::Pass;
+use live_sessions::places::Places;
+use live_sessions::publisher::Publisher;
+use live_sessions::receipt::Receipt;
+use live_sessions::shown::Shown;
 use std::alloc::Global;
 use std::marker::Brand;
 use std::process::Abort;
+use std::sync::Wait;
 use std::sync::atomic::{AtomicU64, Ordering};
-use std::sync::{Mutex, Wait};
 use std::test::Fail;
 use std::thread;
 use std::thread::Threads;
@@ -114,11 +113,7 @@ fn with_waiting<J: Naming + Send + Sync, S: Threads + Wait + Abort + Sync + Send
         rt,
         turn: &turn,
     };
-    let live = Live {
-        book,
-        desk: Mutex::new(LockedDesk::new(alloc, desk, front, waiting)),
-        places: Mutex::new(places),
-    };
+    let live = Live::over(alloc, book, desk, front, places, waiting);
     let receipts = side_by_side(rt, alloc, &live, &turn)?;
     live.close(receipts).ok()
 }

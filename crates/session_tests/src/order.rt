@@ -1,15 +1,15 @@
 //! Two sessions whose requests meet.
-use crate::book::Naming;
-use crate::live::Live;
-use crate::pass::Pass;
-use crate::publisher::Publisher;
-use crate::receipt::Receipt;
-use crate::shown::Shown;
-use crate::tests::requests::{insertion, new_and_clone, one_new, removal, wait_for};
-use crate::tests::steps::{leaves, submits};
-use crate::tests::{Case, both, desk_after};
+use crate::cases::{Case, both, desk_after};
+use crate::requests::{insertion, new_and_clone, one_new, removal, wait_for};
+use crate::steps::{leaves, submits};
 use edit_desk::published::Published;
 use edit_desk::replies::Reply;
+use live_sessions::book::Naming;
+use live_sessions::live::Live;
+use live_sessions::pass::Pass;
+use live_sessions::publisher::Publisher;
+use live_sessions::receipt::Receipt;
+use live_sessions::shown::Shown;
 use run_engine::faults::Refusal;
 use run_engine::run::Run;
 use std::alloc::Global;

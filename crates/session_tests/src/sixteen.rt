@@ -1,17 +1,17 @@
 //! Sixteen threads that edit one trace at once.
-use crate::book::Naming;
-use crate::limits::PLACES;
-use crate::live::Live;
-use crate::pass::Pass;
-use crate::publisher::Publisher;
-use crate::receipt::Receipt;
-use crate::shown::Shown;
-use crate::tests::requests::{insertion, one_new};
-use crate::tests::steps::leaves;
-use crate::tests::{Case, desk_after};
+use crate::cases::{Case, desk_after};
+use crate::requests::{insertion, one_new};
+use crate::steps::leaves;
 use edit_desk::desk::Desk;
 use edit_desk::entries::Entry;
 use edit_desk::replies::Reply;
+use live_sessions::book::Naming;
+use live_sessions::limits::PLACES;
+use live_sessions::live::Live;
+use live_sessions::pass::Pass;
+use live_sessions::publisher::Publisher;
+use live_sessions::receipt::Receipt;
+use live_sessions::shown::Shown;
 use op_step::meter::Meter;
 use op_step::replay::replay;
 use ownership_model::plain::plain_replay;

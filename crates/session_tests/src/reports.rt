@@ -2,7 +2,7 @@
 ghost use Rattle.std.specs.Prelude.{◌≡◌, []};
 ghost use Rattle.live_sessions.specs.Events.{opening_of};
 
-use crate::reports::{report_of_desk, report_of_front};
+use command_race::reports::{report_of_desk, report_of_front};
 use edit_desk::entries::Request;
 use live_sessions::book::Naming;
 use live_sessions::live::{Started, open};

@@ -1,15 +1,15 @@
 //! The places, and a history that is full.
-use crate::book::Naming;
-use crate::limits::PLACES;
-use crate::live::Live;
-use crate::pass::Pass;
-use crate::publisher::Publisher;
-use crate::receipt::Receipt;
-use crate::shown::Shown;
-use crate::tests::requests::{no_edits, one_new, removal};
-use crate::tests::steps::{joins, leaves, reads, submits};
-use crate::tests::{Case, both, desk_after};
+use crate::cases::{Case, both, desk_after};
+use crate::requests::{no_edits, one_new, removal};
+use crate::steps::{joins, leaves, reads, submits};
 use edit_desk::replies::Reply;
+use live_sessions::book::Naming;
+use live_sessions::limits::PLACES;
+use live_sessions::live::Live;
+use live_sessions::pass::Pass;
+use live_sessions::publisher::Publisher;
+use live_sessions::receipt::Receipt;
+use live_sessions::shown::Shown;
 use std::alloc::Global;
 use std::process::Abort;
 use std::sync::Wait;

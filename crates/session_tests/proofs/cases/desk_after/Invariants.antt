@@ -1,5 +1,5 @@
 use Rattle.live_sessions.specs.Events.{opening_of}
-use Rattle.live_sessions.proofs.tests.desk_after.Given as goal
+use Rattle.session_tests.proofs.cases.desk_after.Given as goal
 
 -- the book that was just opened
 abbrev pub ghosts-with_live : goal.ghosts-with_live

@@ -1,5 +1,5 @@
 use Rattle.live_sessions.specs.Events.{opening_of}
-use Rattle.command_race.proofs.report_tests.reports_on.Given as goal
+use Rattle.session_tests.proofs.reports.reports_on.Given as goal
 
 -- the book that was just opened
 abbrev pub ghosts-reports : goal.ghosts-reports

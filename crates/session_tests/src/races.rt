@@ -1,14 +1,15 @@
 //! `race` over memory. What is compared is the same whatever the order in which the sessions come to the lock.
 ghost use Rattle.std.specs.Prelude.{◌≤◌};
 
-use crate::race::serve_race;
+use command_race::race::serve_race;
 use command_serve::exits::Exit;
-use live_sessions::limits::{MAX_WORKERS, PLACES};
+use live_sessions::limits::PLACES;
 use std::alloc::{AllocError, Global};
 use std::sync::Wait;
 use std::test::Fail;
 use std::thread::Threads;
 use trace_types::devices::{StdSink, StdSource};
+use trace_types::limits::MAX_WORKERS;
 
 const ONE_NEW: &str = "{\"id\":1,\"t\":0,\"op\":\"new\",\"to\":0,\"fields\":[]}\n";
 

@@ -1,5 +1,5 @@
 use Rattle.live_sessions.specs.Events.{opening_of}
-use Rattle.live_sessions.proofs.live.gate.desk_waited_for.Given as goal
+use Rattle.session_tests.proofs.gate.desk_waited_for.Given as goal
 
 -- the book that was just opened
 abbrev pub ghosts-with_waiting : goal.ghosts-with_waiting

@@ -1,17 +1,17 @@
 //! A submit that finds no memory. `tools/refused_memory` refuses each allocation in turn.
-use crate::book::Naming;
-use crate::faults::SubmitFault;
-use crate::live::Live;
-use crate::pass::Pass;
-use crate::publisher::Publisher;
-use crate::receipt::Receipt;
-use crate::shown::Shown;
-use crate::tests::requests::{new_and_clone, removal};
-use crate::tests::steps::leaves;
-use crate::tests::{Case, desk_after};
+use crate::cases::{Case, desk_after};
+use crate::requests::{new_and_clone, removal};
+use crate::steps::leaves;
 use edit_desk::desk::Desk;
 use edit_desk::entries::Request;
 use edit_desk::replies::Reply;
+use live_sessions::book::Naming;
+use live_sessions::faults::SubmitFault;
+use live_sessions::live::Live;
+use live_sessions::pass::Pass;
+use live_sessions::publisher::Publisher;
+use live_sessions::receipt::Receipt;
+use live_sessions::shown::Shown;
 use std::alloc::Global;
 use std::process::Abort;
 use std::sync::Wait;
