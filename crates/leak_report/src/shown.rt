@@ -40,7 +40,7 @@ impl<'a> Model for Report<'a> {
 }
 
 impl<'a> Report<'a> {
-    /// A report on these stretches of a replay, one after another, with these lives and leaks.
+    /// A report on these stretches, one behind the other, with these lives and leaks.
     pub fn new(stretches: Vec<Stretch<'a>>, lives: Sequence<Life>, leaks: Leaks) -> Self
         requires { length (ops_of stretches.items) ≤ MAX_OPS }
         ensures { result ≡ record { lines = lines_of (ops_of stretches.entry.items) (outcomes_of stretches.entry.items); lives = lives; leaks = leaks } }

@@ -76,18 +76,15 @@ pub fn writer_of<J: Naming, R: Wait + Drop>(
     let Ok(mut writer) = WriteHandle::new(alloc, rt, first, second, READERS) else {
         return Err(OpenFault::Memory);
     };
-    // With these four the list of what was appended grows once, and it keeps its room: a later publish, which appends one,
-    // wants no memory for it.
-    for _ in 0..4 {
+    // What was appended stands until the next publish has brought the other copy up. So two values stand in the list at most,
+    // and after these two publishes it has the room for them: a later one wants no memory.
+    for _ in 0..2 {
         let Ok(run) = desk.published().share() else {
             return Err(OpenFault::Memory);
         };
-        if writer.append(Shown::new(run, front.again())).is_err() {
+        if writer.append(Shown::new(run, front.again())).is_err() || writer.publish().is_err() {
             return Err(OpenFault::Memory);
         }
-    }
-    if writer.publish().is_err() {
-        return Err(OpenFault::Memory);
     }
     Ok(writer)
 }
@@ -115,7 +112,7 @@ pub fn open<J: Naming, R: Wait + Drop>(
 }
 
 impl<J: Naming, W: Publisher<Value = Shown<J>>> Live<J, W> {
-    /// A `Live` over any publisher; `open` makes one over `left_right`.
+    /// A `Live` over any publisher, whose readers the places have; `open` makes one over `left_right`.
     pub fn over(
         alloc: Global,
         book: Book<J>,
@@ -143,7 +140,7 @@ impl<J: Naming, W: Publisher<Value = Shown<J>>> Live<J, W> {
     /// Submits a request of the pass's session, and answers with the reply to it.
     ///
     /// After `Ok` the entry stands, save where the reply is `HistoryFull`; and a read of any pass shows it or a later version,
-    /// save where memory was wanting to publish it: the next submit publishes it first. After `Err` nothing has changed:
+    /// save where memory was wanting to publish it: the next submit publishes it first. After `Err` neither the pass nor the history has changed:
     /// `NoMeeting` comes where what the pass has seen, or the number of its session's entries, is not the history's, and
     /// `Memory` where memory was wanting.
     pub fn submit<S: Wait>(

@@ -1,6 +1,6 @@
 //! The places of a `Live`, one for each session.
-ghost use Rattle.std.specs.Prelude.{◌≡◌, None, Some, MatchOption, All, slice_set};
-ghost use Rattle.live_sessions.specs.Places.{IsFirst, Gives};
+ghost use Rattle.std.specs.Prelude.{◌≡◌, None, Some, IfOk, MatchOption, All, slice_set};
+ghost use Rattle.live_sessions.specs.Places.{IsFirst, IsUnused, Gives};
 
 use crate::book::{Front, Naming};
 use crate::counted::CountedDesk;
@@ -32,7 +32,7 @@ impl<J: Naming> Model for Places<J> {
 }
 
 impl<J: Naming> Places<J> {
-    /// A pass at each place, which has seen nothing.
+    /// A pass at each place, which has seen this front. Its readers take what the writer publishes.
     pub fn new<R: Wait + Drop>(
         alloc: Global,
         writer: &WriteHandle<Shown<J>, Shown<J>, R>,
@@ -41,6 +41,7 @@ impl<J: Naming> Places<J> {
     ) -> Result<Places<J>, OpenFault>
         requires opening { desk.now.opening ≡ J.opening }
         requires front { front.now ≡ desk.now.history }
+        ensures { IfOk result (All (IsUnused front.now)) }
     {
         let mut passes = Vec::new(alloc);
         for session in 0..PLACES {

@@ -23,7 +23,7 @@ pub record Members : Type 0 where
   pub cell : Option ℕ
   pub fields : List Field
 
--- this handle, or else what comes
+-- the handle that this value is, or else the one given
 abbrev pub handle_or : Value → Option ℕ → Option ℕ
 handle_or (table.Handle h) rest = Some h
 handle_or (table.PerhapsHandle h) rest = h
@@ -36,7 +36,7 @@ abbrev pub first_handle : List Member → Option ℕ
 first_handle [] = None
 first_handle (m ∷ ms) = handle_or m.value (first_handle ms)
 
--- the members behind this one, if it is a handle, or else what comes
+-- the members behind this one where it is a handle, or else those given
 abbrev pub behind_or : Value → List Member → List Member → List Member
 behind_or (table.Handle h) ms rest = ms
 behind_or (table.PerhapsHandle h) ms rest = ms

@@ -1,4 +1,4 @@
-//! A publish that waits: reads go on while a submit is inside it, under the lock.
+//! A publish that waits before and after it is made: reads go on while a submit is inside, under the lock.
 ghost use Rattle.std.specs.Prelude.{◌≡◌, []};
 ghost use Rattle.live_sessions.specs.Events.{opening_of};
 
@@ -24,7 +24,7 @@ use std::test::Fail;
 use std::thread;
 use std::thread::Threads;
 
-// Tells that a publish has begun, and waits until the reads are done before it publishes.
+// Waits for reads before it publishes, and for more of them afterwards.
 #[derive(Drop)]
 struct Waiting<'a, P, R> {
     publisher: P,
@@ -41,6 +41,8 @@ impl<P: Publisher, R: Wait + Drop> Publisher for Waiting<'_, P, R> {
         self.turn.store(1, Ordering::SeqCst);
         wait_for(&self.rt, self.turn, 2);
         self.publisher.show(next);
+        self.turn.store(3, Ordering::SeqCst);
+        wait_for(&self.rt, self.turn, 4);
     }
 
     fn stands(&self) -> &P::Value
@@ -67,13 +69,18 @@ fn removes<J: Naming, W: Publisher<Value = Shown<J>>, S: Wait + Abort>(
     leaves(rt, live, pass, 1)
 }
 
-// Reads many times while the submit is inside, and sees the version that stood before it.
+// Reads many times while the submit is inside: the version that stood before it, and then the one that was published.
 fn reads<J: Naming, S: Wait + Abort>(rt: &S, mut pass: Pass<J>, turn: &AtomicU64) -> Pass<J> {
     wait_for(rt, turn, 1);
     for _ in 0..10_000u32 {
         assert!(rt; pass.read().version() == 0);
     }
     turn.store(2, Ordering::SeqCst);
+    wait_for(rt, turn, 3);
+    for _ in 0..10_000u32 {
+        assert!(rt; pass.read().version() == 1);
+    }
+    turn.store(4, Ordering::SeqCst);
     pass
 }
 
@@ -84,12 +91,11 @@ fn side_by_side<
 >(rt: &S, alloc: Global, live: &Live<J, W>, turn: &AtomicU64) -> Option<Vec<Receipt<J>>> {
     let first = live.join(rt).ok()?;
     let second = live.join(rt).ok()?;
-    let (left, mut pass) = thread::join(
+    let (left, pass) = thread::join(
         rt,
         move || removes(rt, alloc, live, first),
         move || reads(rt, second, turn),
     );
-    assert!(rt; pass.read().version() == 1);
     both(alloc, left?, leaves(rt, live, pass, 0)?)
 }
 
@@ -127,5 +133,6 @@ fn desk_waited_for<S: Threads + Wait + Abort + Sync + Send>(rt: &S, alloc: Globa
 fn reads_go_on_inside_a_submit(rt: HostRuntime) -> Result<(), Fail> {
     let desk = desk_waited_for(&rt, rt.alloc()).ok_or("both sessions leave")?;
     assert_eq!(rt; desk.len(), 1);
+    assert_eq!(rt; desk.version(), 1);
     Ok(())
 }

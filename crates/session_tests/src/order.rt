@@ -102,13 +102,14 @@ fn removes<J: Naming, W: Publisher<Value = Shown<J>>, S: Wait + Abort>(
     mut pass: Pass<J>,
 ) -> Option<Receipt<J>> {
     let first = live.submit(rt, &mut pass, removal(alloc, 0, 2)?).ok()?;
-    if first != Reply::Accepted(1) {
+    let is_second = first != Reply::Accepted(1);
+    if is_second {
         assert!(rt; first == Reply::Stale(1));
         let none = Reply::Refused(Refusal::NoSuchOp(0));
         submits(rt, live, &mut pass, removal(alloc, 1, 2), none)?;
     }
     assert!(rt; pass.read().version() == 1);
-    live.leave(rt, pass).ok()
+    leaves(rt, live, pass, if is_second { 2 } else { 1 })
 }
 
 pub fn both_remove<

@@ -112,7 +112,8 @@ pub fn full_history<J: Naming, W: Publisher<Value = Shown<J>>, S: Wait + Abort>(
         removal(alloc, 0, 1),
         Reply::HistoryFull,
     )?;
-    lone(alloc, live.leave(rt, pass).ok()?)
+    let receipt = leaves(rt, live, pass, MAX_ENTRIES as u32)?;
+    lone(alloc, receipt)
 }
 
 #[test]

@@ -71,6 +71,7 @@ pub fn submits<J: Naming, W: Publisher<Value = Shown<J>>, S: Wait + Abort>(
     let mut other = live.join(rt).ok()?;
     let reply = removes(rt, alloc, live, &mut pass, &mut other)?;
     assert!(rt; reply == Reply::Accepted(1));
+    assert!(rt; other.read().version() == 1);
     receipts.push(leaves(rt, live, pass, 1)?).ok()?;
     Some(receipts)
 }

@@ -2,6 +2,8 @@
 use crate::cases::{Case, desk_after};
 use crate::requests::{insertion, one_new};
 use crate::steps::leaves;
+use command_race::reports::report_of_desk;
+use command_serve::replay::report_on;
 use edit_desk::desk::Desk;
 use edit_desk::entries::Entry;
 use edit_desk::replies::Reply;
@@ -26,7 +28,8 @@ use std::thread::Threads;
 use trace_types::kinds::Kind;
 use trace_types::trace::Trace;
 
-// Whether a reply to a request for a version that was read may be: the next version, or a later one that stands.
+// Whether this reply may come to a request for version `base`, which was read: the next version, or stale where a later one
+// stands.
 fn is_fitting(base: u32, reply: Reply) -> bool {
     match reply {
         Reply::Accepted(version) => Some(version) == base.checked_add(1),
@@ -101,14 +104,14 @@ fn after(alloc: Global, trace: Trace, version: u32, entry: &Entry) -> Option<(Tr
     Some((edited, next))
 }
 
-// The trace after all entries, one after another.
-fn folded(alloc: Global, desk: &Desk) -> Option<Trace> {
+// The trace and its version after all entries, one after another.
+fn folded(alloc: Global, desk: &Desk) -> Option<(Trace, u32)> {
     let mut trace = one_new(alloc)?;
     let mut version = 0;
     for place in 0..desk.len() {
         (trace, version) = after(alloc, trace, version, desk.entry(place)?)?;
     }
-    Some(trace)
+    Some((trace, version))
 }
 
 // Whether the run shows what the replay of the trace by the plain program gives, and ends with the same heap as a replay from
@@ -139,8 +142,12 @@ fn sixteen_threads_submit_twenty_each(rt: HostRuntime) -> Result<(), Fail> {
     for session in 0..PLACES {
         assert_eq!(rt; entries_of(&desk, session), 20);
     }
-    let trace = folded(alloc, &desk).ok_or("each reply is the one that is due")?;
+    let (trace, version) = folded(alloc, &desk).ok_or("each reply is the one that is due")?;
+    assert_eq!(rt; desk.version(), version);
     let alike = is_replay(alloc, desk.published().run(), &trace).ok_or("memory")?;
     assert!(rt; alike);
+    let told = report_of_desk(alloc, &desk)?;
+    let due = report_on(alloc, &trace)?;
+    assert!(rt; told.as_slice() == due.as_slice());
     Ok(())
 }

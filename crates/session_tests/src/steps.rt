@@ -34,7 +34,7 @@ pub fn submits<J: Naming, W: Publisher<Value = Shown<J>>, S: Wait + Abort>(
     Some(())
 }
 
-// Has had so many replies, and has seen so many entries, before it reads this version.
+// The pass has had so many replies and seen so many entries; then it reads this version.
 pub fn reads<J: Naming, S: Abort>(
     rt: &S,
     pass: &mut Pass<J>,
