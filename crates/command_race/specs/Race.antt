@@ -6,7 +6,6 @@ use Rattle.trace_types.specs.Devices.{IsInput, AppendsFront}
 use Rattle.trace_reader.specs.declared.fault.LineFault.{LineFault}
 use Rattle.trace_reader.specs.declared.request.RequestLine.{RequestLine}
 use Rattle.trace_reader.specs.declared.script.Script.{Script}
-use Rattle.trace_reader.specs.FaultText.{fault_text}
 use Rattle.trace_reader.specs.Scripts.{read_script}
 use Rattle.edit_desk.specs.declared.entries.Entry.{Entry}
 use Rattle.edit_desk.specs.declared.entries.Request.{Request}
@@ -17,7 +16,8 @@ use Rattle.command_serve.specs.declared.exits.Exit.{Exit}
 use Rattle.command_serve.specs.declared.exits.Exit.TheVariants.{Fine, Trace, Usage, Device, Memory}
 use Rattle.command_serve.specs.Replay.{report_of_replay}
 use Rattle.command_serve.specs.Script.{request_of}
-use Rattle.command_serve.specs.Serve.{Due, too_long, is_too_long, IsDone}
+use Rattle.command_serve.specs.declared.due.Due.{Due}
+use Rattle.command_serve.specs.Serve.{fault_due, too_long, is_too_long, IsDone}
 
 -- the request of a line before these, where the line counts
 abbrev pub ask_if : Bool → RequestLine → List Request → List Request
@@ -60,7 +60,7 @@ race_text trace h = history_text h ++ report_of_replay (trace_after trace h)
 -- the text of a race over what was read, or the line of the first fault
 abbrev pub MayTell : Result Script LineFault → Due → Type 0
 MayTell (Ok script) due = (h : List Entry) × IsRaced script.trace script.requests h × (due ≡ record { text = race_text script.trace h; is_fault = false })
-MayTell (Err fault) due = due ≡ record { text = fault_text fault ++ 10 ∷ []; is_fault = true }
+MayTell (Err fault) due = due ≡ fault_due fault
 
 -- what may be due for an input that is not too long
 unfoldable pub MayAnswer : List ℕ → Due → Type 0

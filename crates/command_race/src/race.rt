@@ -1,15 +1,15 @@
 //! The command `race`: a trace and requests in, each stored entry's reply and the last version's report out.
-ghost use Rattle.std.specs.Prelude.{◌≡◌, ◌≢◌, ◌⊎◌, ◌≤◌, ℕ, List, [], true, codes, IfOk, IfErr, IfSome, OnOk};
-ghost use Rattle.trace_types.specs.Devices.{IsInput};
+ghost use Rattle.std.specs.Prelude.{◌≡◌, ◌≢◌, ◌⊎◌, ◌≤◌, ℕ, List, [], true, IfOk, IfSome};
 ghost use Rattle.edit_desk.specs.declared.entries.Entry.{Entry};
-ghost use Rattle.command_serve.specs.Serve.{Due, IsRead, exit_of};
 ghost use Rattle.live_sessions.specs.Events.{opening_of};
-ghost use Rattle.command_race.specs.Race.{IsRaced, MayAnswer, MayBeDue, ServesRace, race_text};
+ghost use Rattle.command_race.specs.Race.{IsRaced, MayAnswer, ServesRace, race_text};
 
 use crate::history::text_on;
 use crate::split::by_session;
+use command_serve::due::{Due, fault_due, too_long};
 use command_serve::exits::Exit;
 use command_serve::input::{InputFault, read_all};
+use command_serve::serve::write_due;
 use live_sessions::book::Naming;
 use live_sessions::live::{Started, open};
 use live_sessions::race::race;
@@ -17,8 +17,8 @@ use std::alloc::{AllocError, Global};
 use std::marker::Brand;
 use std::sync::Wait;
 use std::thread::Threads;
-use trace_reader::{LineCause, RequestLine, Script, fault_line, read_script};
-use trace_types::devices::{Sink, Source, write_all};
+use trace_reader::{RequestLine, Script, read_script};
+use trace_types::devices::{Sink, Source};
 use trace_types::limits::MAX_WORKERS;
 
 /// Reads a trace and requests to edit it, submits each session's requests in order on a thread of its own, and writes
@@ -39,64 +39,30 @@ pub fn serve_race<R: Threads + Wait + Sync, S: Source, K: Sink>(
     ensures device { result ≡ Exit.Device → ((S.failed source.new ≡ true) ⊎ (K.failed sink.new ≡ true)) }
     ensures other { result ≢ Exit.Device → (S.failed source.new ≡ S.failed source.old) × (K.failed sink.new ≡ K.failed sink.old) }
 {
-    let (text, exit) = match answered(rt, alloc, source, workers) {
-        Ok(answer) => answer,
-        Err(exit) => return exit,
-    };
-    match write_all(sink, text.as_slice()) {
-        Ok(()) => exit,
-        Err(_) => Exit::Device,
-    }
-}
-
-// Reads the input, and makes a text that may be due, with the exit.
-fn answered<R: Threads + Wait + Sync, S: Source>(
-    rt: &R,
-    alloc: Global,
-    source: &mut S,
-    workers: u32,
-) -> Result<(Vec<u8>, Exit), Exit>
-    requires { (1 ≤ workers) × (workers ≤ MAX_WORKERS) }
-    ensures ok { IfOk result (λ r. (input : List ℕ) × IsInput (S.left source.old) input × IsRead (S.left source.old) (S.left source.new) input
-        × (due : Due) × MayBeDue input due × (r.0.items ≡ due.text) × (r.1 ≡ exit_of due)) }
-    ensures err { IfErr result (λ e. (e ≡ Exit.Memory) ⊎ ((e ≡ Exit.Device) × (S.failed source.new ≡ true))) }
-    ensures read { OnOk result (S.failed source.new ≡ S.failed source.old) }
-    ensures other { IfErr result (λ e. e ≢ Exit.Device → S.failed source.new ≡ S.failed source.old) }
-{
     match read_all(alloc, source) {
-        Ok(input) => answer_to(rt, alloc, input.as_slice(), workers),
-        Err(InputFault::TooLong) => match too_long(alloc) {
-            Ok(text) => Ok((text, Exit::Trace)),
-            Err(_) => Err(Exit::Memory),
-        },
-        Err(InputFault::Device) => Err(Exit::Device),
-        Err(InputFault::Memory) => Err(Exit::Memory),
+        Ok(input) => write_due(sink, race_due(rt, alloc, input.as_slice(), workers)),
+        Err(InputFault::TooLong) => write_due(sink, too_long(alloc)),
+        Err(InputFault::Device) => Exit::Device,
+        Err(InputFault::Memory) => Exit::Memory,
     }
 }
 
-// A text that may be due for an input that is not too long, with the exit.
-fn answer_to<R: Threads + Wait + Sync>(
+// What may be due for an input that is not too long.
+fn race_due<R: Threads + Wait + Sync>(
     rt: &R,
     alloc: Global,
     input: &[u8],
     workers: u32,
-) -> Result<(Vec<u8>, Exit), Exit>
+) -> Result<Due, AllocError>
     requires { (1 ≤ workers) × (workers ≤ MAX_WORKERS) }
-    ensures ok { IfOk result (λ r. (due : Due) × MayAnswer input.now due × (r.0.items ≡ due.text) × (r.1 ≡ exit_of due)) }
-    ensures err { IfErr result (λ e. e ≡ Exit.Memory) }
+    ensures { IfOk result (MayAnswer input.now) }
 {
     match read_script(alloc, input, false) {
         Ok(script) => match raced(rt, alloc, script, workers) {
-            Some(text) => Ok((text, Exit::Fine)),
-            None => Err(Exit::Memory),
+            Some(text) => Ok(Due::answer(text)),
+            None => Err(AllocError),
         },
-        Err(fault) => {
-            if fault.cause == LineCause::Memory {
-                return Err(Exit::Memory);
-            }
-            let line = fault_line(alloc, &fault).map_err(|_| Exit::Memory)?;
-            Ok((line.into_bytes(), Exit::Trace))
-        }
+        Err(fault) => fault_due(alloc, &fault),
     }
 }
 
@@ -135,10 +101,4 @@ fn race_on<J: Naming + Send + Sync, R: Threads + Wait + Sync>(
         Ok(text) => Some(text),
         Err(_) => None,
     }
-}
-
-fn too_long(alloc: Global) -> Result<Vec<u8>, AllocError>
-    ensures { IfOk result (λ text. text.items ≡ codes "fault input TooLong\n") }
-{
-    Vec::from_slice(alloc, b"fault input TooLong\n")
 }

@@ -5,7 +5,8 @@ use Rattle.std.specs.Io.KnownBytes.{Appends, Consumes, IsAtEnd}
 use Rattle.std.proofs.KnownBytes.{Appends-nil}
 use Rattle.trace_types.specs.Devices.{IsInput, AppendsFront}
 use Rattle.trace_types.specs.declared.limits.TheConstants.{MAX_INPUT}
-use Rattle.command_serve.specs.Serve.{is_too_long, Due, too_long, exit_of, due_of, IsAnswered, IsRead, IsServed}
+use Rattle.command_serve.specs.declared.due.Due.{Due}
+use Rattle.command_serve.specs.Serve.{is_too_long, too_long, exit_of, due_of, IsWritten, IsRead, IsServed}
 use Rattle.command_serve.specs.declared.exits.Exit.{Exit}
 use Rattle.command_serve.specs.declared.exits.Exit.TheVariants.{Fine, Trace, Usage, Device, Memory}
 
@@ -45,16 +46,16 @@ read-short left left' input l ended = (λ _. ended, λ long. let e : is_too_long
 pub read-long : (left left' : Option (List ℕ)) (input bytes : List ℕ) → MAX_INPUT < length input → Consumes left left' bytes → length bytes ≡ MAX_INPUT + 1 → IsRead left left' input
 read-long left left' input bytes l h n = ((λ short. absurd (omega (arith, l))), (λ _. (bytes, h, n)))
 
-at : (b : Bool) (held held' : Option (List ℕ)) (due : Due) → due.is_fault ≡ b → Appends held held' due.text → IsAnswered due held held' (if b then Trace else Fine)
+at : (b : Bool) (held held' : Option (List ℕ)) (due : Due) → due.is_fault ≡ b → Appends held held' due.text → IsWritten due held held' (if b then Trace else Fine)
 at true held held' due e text = (ap (λ b. if b then Trace else Fine) (sym e), text)
 at false held held' due e text = (ap (λ b. if b then Trace else Fine) (sym e), text)
 
 -- the whole text was written
-pub answered_all : (held held' : Option (List ℕ)) (due : Due) (exit : Exit) → exit ≡ exit_of due → Appends held held' due.text → IsAnswered due held held' exit
-answered_all held held' due exit e text = subst (IsAnswered due held held') (sym e) (at due.is_fault held held' due refl text)
+pub all_written : (held held' : Option (List ℕ)) (due : Due) (exit : Exit) → exit ≡ exit_of due → Appends held held' due.text → IsWritten due held held' exit
+all_written held held' due exit e text = subst (IsWritten due held held') (sym e) (at due.is_fault held held' due refl text)
 
 -- an input that was read is served by its answer
-pub served : (left left' held held' : Option (List ℕ)) (input : List ℕ) (due : Due) (exit : Exit) → IsRead left left' input → IsAnswered due held held' exit
+pub served : (left left' held held' : Option (List ℕ)) (input : List ℕ) (due : Due) (exit : Exit) → IsRead left left' input → IsWritten due held held' exit
     → IsServed left left' held held' input due exit
 served left left' held held' input due Fine read answer = (answer.0, read, answer.1)
 served left left' held held' input due Trace read answer = (answer.0, read, answer.1)
@@ -72,5 +73,5 @@ never_device due e = not_device due.is_fault e
 -- nothing was written
 pub served_none : (answer : List ℕ → Due) (left left' held : Option (List ℕ)) (exit : Exit) → (exit ≡ Memory) ⊎ (exit ≡ Device)
     → (input : List ℕ) × IsInput left input × IsServed left left' held held input (due_of answer input) exit
-served_none answer left left' held exit (inl e) = (told left, IsInput-told left, subst (IsServed left left' held held (told left) (due_of answer (told left))) (sym e) (front_none held _))
+served_none answer left left' held exit (inl e) = (told left, IsInput-told left, subst (IsServed left left' held held (told left) (due_of answer (told left))) (sym e) (Appends-nil held))
 served_none answer left left' held exit (inr e) = (told left, IsInput-told left, subst (IsServed left left' held held (told left) (due_of answer (told left))) (sym e) (front_none held _))

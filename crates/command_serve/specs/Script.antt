@@ -1,21 +1,15 @@
--- What `script` and `whatif` write for an input.
-use Rattle.std.specs.Prelude.{ℕ, List, [], ◌∷◌, ◌++◌, codes, flat_map, true, false, Result, Ok, Err}
-use Rattle.trace_types.specs.Operation.{Operation}
-use Rattle.trace_types.specs.declared.edits.Edit.{Edit}
+-- What `script` writes for an input.
+use Rattle.std.specs.Prelude.{ℕ, List, [], ◌∷◌, ◌++◌, flat_map, false, Result, Ok, Err}
 use Rattle.trace_reader.specs.declared.fault.LineFault.{LineFault}
 use Rattle.trace_reader.specs.declared.request.RequestLine.{RequestLine}
 use Rattle.trace_reader.specs.declared.script.Script.{Script}
-use Rattle.trace_reader.specs.FaultText.{fault_text}
 use Rattle.trace_reader.specs.Scripts.{read_script}
-use Rattle.trace_reader.specs.Writing.{lines_text}
-use Rattle.run_engine.specs.declared.faults.Refusal.{Refusal}
-use Rattle.run_engine.specs.Edited.{edited_by}
 use Rattle.edit_desk.specs.declared.entries.Request.{Request}
 use Rattle.edit_desk.specs.declared.replies.Reply.{Reply}
-use Rattle.edit_desk.specs.declared.replies.Reply.TheVariants.{Refused}
 use Rattle.edit_desk.specs.Answers.{Standing, opened, reply_to, after}
 use Rattle.edit_desk.specs.ReplyText.{reply_text}
-use Rattle.command_serve.specs.Serve.{Due}
+use Rattle.command_serve.specs.declared.due.Due.{Due}
+use Rattle.command_serve.specs.Serve.{fault_due}
 use Rattle.command_serve.specs.Replay.{report_of_replay}
 
 abbrev pub request_of : RequestLine → Request
@@ -40,26 +34,8 @@ script_text script = replies_text (replies_from (opened script.trace) script.req
 
 abbrev pub script_answer : Result Script LineFault → Due
 script_answer (Ok script) = record { text = script_text script; is_fault = false }
-script_answer (Err fault) = record { text = fault_text fault ++ 10 ∷ []; is_fault = true }
+script_answer (Err fault) = fault_due fault
 
 -- what the command writes for an input that is not too long
 unfoldable pub script_due : List ℕ → Due
 script_due input = script_answer (read_script false input)
-
--- the edits of the one request; without a request there is none
-abbrev pub only_batch : List RequestLine → List Edit
-only_batch [] = []
-only_batch (line ∷ lines) = line.batch
-
--- the canonical lines of the edited trace and its report, or the line of the refusal
-abbrev pub whatif_edited : Result (List Operation) Refusal → Due
-whatif_edited (Ok ops) = record { text = lines_text ops ++ codes "--\n" ++ report_of_replay ops; is_fault = false }
-whatif_edited (Err why) = record { text = reply_text (Refused why) ++ 10 ∷ []; is_fault = true }
-
-abbrev pub whatif_answer : Result Script LineFault → Due
-whatif_answer (Ok script) = whatif_edited (edited_by script.trace (only_batch script.requests))
-whatif_answer (Err fault) = record { text = fault_text fault ++ 10 ∷ []; is_fault = true }
-
--- what the command writes for an input that is not too long
-unfoldable pub whatif_due : List ℕ → Due
-whatif_due input = whatif_answer (read_script true input)

@@ -1,18 +1,16 @@
 -- What a command has read and written when it ends, for what is due for an input.
-use Rattle.std.specs.Prelude.{◌≡◌, ℕ, ◌+◌, ◌≤◌, List, length, Bool, true, nat_lt, if◌then◌else◌, codes, Option}
+use Rattle.std.specs.Prelude.{◌≡◌, ℕ, ◌+◌, ◌≤◌, List, [], ◌∷◌, ◌++◌, length, Bool, true, nat_lt, if◌then◌else◌, codes, Option}
 use Rattle.std.specs.Io.KnownBytes.{Appends, Consumes, IsAtEnd}
 use Rattle.trace_types.specs.Devices.{IsInput, AppendsFront}
 use Rattle.trace_types.specs.declared.limits.TheConstants.{MAX_INPUT}
+use Rattle.trace_reader.specs.declared.fault.LineFault.{LineFault}
+use Rattle.trace_reader.specs.FaultText.{fault_text}
+use Rattle.command_serve.specs.declared.due.Due.{Due}
 use Rattle.command_serve.specs.declared.exits.Exit.{Exit}
 use Rattle.command_serve.specs.declared.exits.Exit.TheVariants.{Fine, Trace, Usage, Device, Memory}
 
 abbrev pub is_too_long : List ℕ → Bool
 is_too_long input = nat_lt MAX_INPUT (length input)
-
--- the text that is to be written for an input, and whether it tells a fault of the input
-pub record Due : Type 0 where
-  pub text : List ℕ
-  pub is_fault : Bool
 
 -- how a command ends that has written it
 abbrev pub exit_of : Due → Exit
@@ -25,13 +23,17 @@ too_long = record { text = codes "fault input TooLong\n"; is_fault = true }
 unfoldable pub due_of : (List ℕ → Due) → List ℕ → Due
 due_of answer input = if is_too_long input then too_long else answer input
 
--- all of what is due was written, with the exit that tells so; or a front of it, where the sink failed or memory ran out
-abbrev pub IsAnswered : Due → Option (List ℕ) → Option (List ℕ) → Exit → Type 0
-IsAnswered due held held' Fine = (Fine ≡ exit_of due) × Appends held held' due.text
-IsAnswered due held held' Trace = (Trace ≡ exit_of due) × Appends held held' due.text
-IsAnswered due held held' Usage = ⊥
-IsAnswered due held held' Device = AppendsFront held held' due.text
-IsAnswered due held held' Memory = AppendsFront held held' due.text
+-- the line that tells the first faulty line
+abbrev pub fault_due : LineFault → Due
+fault_due fault = record { text = fault_text fault ++ 10 ∷ []; is_fault = true }
+
+-- the whole text was written, with the exit that tells so; a front of it, where the sink failed; nothing, where memory ran out
+abbrev pub IsWritten : Due → Option (List ℕ) → Option (List ℕ) → Exit → Type 0
+IsWritten due held held' Fine = (Fine ≡ exit_of due) × Appends held held' due.text
+IsWritten due held held' Trace = (Trace ≡ exit_of due) × Appends held held' due.text
+IsWritten due held held' Usage = ⊥
+IsWritten due held held' Device = AppendsFront held held' due.text
+IsWritten due held held' Memory = Appends held held' []
 
 -- an input was read until a read gave no bytes, or until one byte more than is allowed
 abbrev pub IsRead : Option (List ℕ) → Option (List ℕ) → List ℕ → Type 0
@@ -42,13 +44,13 @@ IsRead left left' input = (length input ≤ MAX_INPUT → IsAtEnd left')
 abbrev pub IsDone : Option (List ℕ) → Option (List ℕ) → Option (List ℕ) → Option (List ℕ) → List ℕ → Due → Exit → Type 0
 IsDone left left' held held' input due exit = (exit ≡ exit_of due) × IsRead left left' input × Appends held held' due.text
 
--- an exit Fine or Trace says that all was done; Device and Memory that a front of what is due was written
+-- an exit Fine or Trace says that all was done, Device that a front of what is due was written, Memory that nothing was
 abbrev pub IsServed : Option (List ℕ) → Option (List ℕ) → Option (List ℕ) → Option (List ℕ) → List ℕ → Due → Exit → Type 0
 IsServed left left' held held' input due Fine = IsDone left left' held held' input due Fine
 IsServed left left' held held' input due Trace = IsDone left left' held held' input due Trace
 IsServed left left' held held' input due Usage = ⊥
 IsServed left left' held held' input due Device = AppendsFront held held' due.text
-IsServed left left' held held' input due Memory = AppendsFront held held' due.text
+IsServed left left' held held' input due Memory = Appends held held' []
 
 -- there is an input, which is all that the source had left where that is told, and it was served
 abbrev pub Serves : (List ℕ → Due) → Option (List ℕ) → Option (List ℕ) → Option (List ℕ) → Option (List ℕ) → Exit → Type 0

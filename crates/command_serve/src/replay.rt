@@ -1,22 +1,21 @@
 //! The command `replay`: a trace in, its report out.
-ghost use Rattle.std.specs.Prelude.{◌≡◌, ◌≢◌, ◌⊎◌, ◌++◌, ◌∷◌, [], true, Ok, IfOk, IfErr, OnOk};
+ghost use Rattle.std.specs.Prelude.{◌≡◌, ◌≢◌, ◌⊎◌, true, IfOk};
 ghost use Rattle.ownership_model.specs.State.{nothing_held};
 ghost use Rattle.ownership_model.specs.Step.{outcomes_from, end_from};
-ghost use Rattle.trace_reader.specs.FaultText.{fault_text};
-ghost use Rattle.command_serve.specs.Serve.{Serves, IsAnswered};
-ghost use Rattle.command_serve.specs.Replay.{replay_due, answer_of, report_of_replay};
+ghost use Rattle.command_serve.specs.Serve.{Serves};
+ghost use Rattle.command_serve.specs.Replay.{replay_due, report_of_replay};
 
+use crate::due::{Due, fault_due};
 use crate::exits::Exit;
-use crate::serve::{Answers, serve, write_text};
+use crate::serve::{Answers, serve};
 use leak_report::report::{report, report_of_stretches};
 use leak_report::text::text_of;
-use leak_report::write::{WriteFault, write_report};
 use object_heap::heap::Heap;
 use op_step::meter::Meter;
 use op_step::replay::replay;
 use run_engine::run::Run;
 use std::alloc::{AllocError, Global};
-use trace_reader::{LineCause, LineFault, fault_line, read_trace};
+use trace_reader::read_trace;
 use trace_types::devices::{Sink, Source};
 use trace_types::outcomes::Outcome;
 use trace_types::trace::Trace;
@@ -37,55 +36,19 @@ impl Answers for Replay {
 
     ghost due = { replay_due };
 
-    fn answer<K: Sink>(alloc: Global, input: &[u8], sink: &mut K) -> Exit {
-        answer_to(alloc, input, sink)
+    fn answer(alloc: Global, input: &[u8]) -> Result<Due, AllocError> {
+        replay_due(alloc, input)
     }
 }
 
-// Writes what is due for an input.
 #[tactic(auto, unfolding(crate::specs::Replay::replay_due))]
-fn answer_to<K: Sink>(alloc: Global, input: &[u8], sink: &mut K) -> Exit
-    ensures answered { IsAnswered (replay_due input.now) (K.held sink.old) (K.held sink.new) result }
-    ensures device { result ≡ Exit.Device → K.failed sink.new ≡ true }
-    ensures other { result ≢ Exit.Device → K.failed sink.new ≡ K.failed sink.old }
+fn replay_due(alloc: Global, input: &[u8]) -> Result<Due, AllocError>
+    ensures { IfOk result (λ d. d ≡ replay_due input.now) }
 {
     match read_trace(alloc, input) {
-        Ok(trace) => report_to(alloc, &trace, sink),
-        Err(fault) => write_text(sink, told(alloc, &fault)),
+        Ok(trace) => Ok(Due::answer(report_on(alloc, &trace)?)),
+        Err(fault) => fault_due(alloc, &fault),
     }
-}
-
-// Writes the report of a trace's replay.
-fn report_to<K: Sink>(alloc: Global, trace: &Trace, sink: &mut K) -> Exit
-    ensures answered { IsAnswered (answer_of (Ok trace.now)) (K.held sink.old) (K.held sink.new) result }
-    ensures device { result ≡ Exit.Device → K.failed sink.new ≡ true }
-    ensures other { result ≢ Exit.Device → K.failed sink.new ≡ K.failed sink.old }
-{
-    let mut meter = Meter::new();
-    let Ok((outcomes, end)) = replay(alloc, trace, &mut meter) else {
-        return Exit::Memory;
-    };
-    let Ok(report) = report(alloc, trace, outcomes.as_slice(), &end) else {
-        return Exit::Memory;
-    };
-    match write_report(alloc, sink, &report) {
-        Ok(()) => Exit::Fine,
-        Err(WriteFault::Device) => Exit::Device,
-        Err(WriteFault::Memory) => Exit::Memory,
-    }
-}
-
-// The line that tells a fault of the input, with the exit.
-fn told(alloc: Global, fault: &LineFault) -> Result<(Vec<u8>, Exit), Exit>
-    ensures cause { OnOk result (fault.now.cause ≢ LineCause.Memory) }
-    ensures ok { IfOk result (λ t. (t.0.items ≡ fault_text fault.now ++ 10 ∷ []) × (t.1 ≡ Exit.Trace)) }
-    ensures err { IfErr result (λ e. e ≡ Exit.Memory) }
-{
-    if fault.cause == LineCause::Memory {
-        return Err(Exit::Memory);
-    }
-    let line = fault_line(alloc, fault).map_err(|_| Exit::Memory)?;
-    Ok((line.into_bytes(), Exit::Trace))
 }
 
 /// The text of the report of a trace's replay.

@@ -1,18 +1,19 @@
 //! The command `script`: a trace and requests in, the replies and the last version's report out.
-ghost use Rattle.std.specs.Prelude.{◌≡◌, ◌≢◌, ◌⊎◌, ◌++◌, ◌∷◌, [], true, string_bytes, IfOk, IfErr, OnOk};
-ghost use Rattle.command_serve.specs.Serve.{Serves, exit_of};
+ghost use Rattle.std.specs.Prelude.{◌≡◌, ◌≢◌, ◌⊎◌, ◌++◌, ◌∷◌, [], true, string_bytes, IfOk, OnOk};
+ghost use Rattle.command_serve.specs.Serve.{Serves};
 ghost use Rattle.edit_desk.specs.Answers.{reply_to, after};
 ghost use Rattle.edit_desk.specs.ReplyText.{reply_text};
 ghost use Rattle.command_serve.specs.Script.{script_due, script_text, replies_text, replies_from, standing_from, request_of};
 
+use crate::due::{Due, fault_due};
 use crate::exits::Exit;
 use crate::replay::report_on_run;
-use crate::serve::{Answers, serve, write_text};
+use crate::serve::{Answers, serve};
 use edit_desk::desk::Desk;
 use edit_desk::entries::Request;
 use edit_desk::replies::push_reply;
 use std::alloc::{AllocError, Global};
-use trace_reader::{LineCause, RequestLine, Script, fault_line, read_script};
+use trace_reader::{RequestLine, Script, read_script};
 use trace_types::devices::{Sink, Source};
 
 /// Reads a trace and requests to edit it, and writes the reply to each and the report of the last version, or the line
@@ -32,29 +33,18 @@ impl Answers for Replies {
 
     ghost due = { script_due };
 
-    fn answer<K: Sink>(alloc: Global, input: &[u8], sink: &mut K) -> Exit {
-        write_text(sink, answer_to(alloc, input))
+    fn answer(alloc: Global, input: &[u8]) -> Result<Due, AllocError> {
+        script_due(alloc, input)
     }
 }
 
-// The text that is due for an input, with the exit.
 #[tactic(auto, unfolding(crate::specs::Script::script_due))]
-fn answer_to(alloc: Global, input: &[u8]) -> Result<(Vec<u8>, Exit), Exit>
-    ensures ok { IfOk result (λ r. (r.0.items ≡ (script_due input.now).text) × (r.1 ≡ exit_of (script_due input.now))) }
-    ensures err { IfErr result (λ e. e ≡ Exit.Memory) }
+fn script_due(alloc: Global, input: &[u8]) -> Result<Due, AllocError>
+    ensures { IfOk result (λ d. d ≡ script_due input.now) }
 {
     match read_script(alloc, input, false) {
-        Ok(script) => {
-            let text = text_of(alloc, script).map_err(|_| Exit::Memory)?;
-            Ok((text, Exit::Fine))
-        }
-        Err(fault) => {
-            if fault.cause == LineCause::Memory {
-                return Err(Exit::Memory);
-            }
-            let line = fault_line(alloc, &fault).map_err(|_| Exit::Memory)?;
-            Ok((line.into_bytes(), Exit::Trace))
-        }
+        Ok(script) => Ok(Due::answer(text_of(alloc, script)?)),
+        Err(fault) => fault_due(alloc, &fault),
     }
 }
 

@@ -1,22 +1,22 @@
 //! Serving a command: all of the input in, and then the whole text that is due out.
-ghost use Rattle.std.specs.Prelude.{◌≡◌, ◌≢◌, ◌⊎◌, ℕ, List, true, IfOk, IfErr};
-ghost use Rattle.command_serve.specs.Serve.{Due, Serves, IsAnswered, too_long, exit_of};
+ghost use Rattle.std.specs.Prelude.{◌≡◌, ◌≢◌, ◌⊎◌, ℕ, List, true, IfOk};
+ghost use Rattle.command_serve.specs.declared.due.Due.{Due};
+ghost use Rattle.command_serve.specs.Serve.{Serves, IsWritten};
 
+use crate::due::{Due, too_long};
 use crate::exits::Exit;
 use crate::input::{InputFault, read_all};
-use std::alloc::Global;
+use std::alloc::{AllocError, Global};
 use trace_types::devices::{Sink, Source, write_all};
 
-/// What a command writes for an input, and how it ends.
+/// What a command writes for an input.
 pub trait Answers {
     /// What is due for an input that is not too long.
     ghost due: { List ℕ → Due };
 
-    /// Makes the whole text that is due for an input, and then writes it.
-    fn answer<K: Sink>(alloc: Global, input: &[u8], sink: &mut K) -> Exit
-        ensures answered { IsAnswered (due input.now) (K.held sink.old) (K.held sink.new) result }
-        ensures device { result ≡ Exit.Device → K.failed sink.new ≡ true }
-        ensures other { result ≢ Exit.Device → K.failed sink.new ≡ K.failed sink.old };
+    /// Makes what is due for an input.
+    fn answer(alloc: Global, input: &[u8]) -> Result<Due, AllocError>
+        ensures { IfOk result (λ d. d ≡ due input.now) };
 }
 
 /// Reads all input, and writes what the command has due for it.
@@ -29,35 +29,24 @@ pub fn serve<C: Answers, S: Source, K: Sink>(alloc: Global, source: &mut S, sink
     ensures other { result ≢ Exit.Device → (S.failed source.new ≡ S.failed source.old) × (K.failed sink.new ≡ K.failed sink.old) }
 {
     match read_all(alloc, source) {
-        Ok(input) => C::answer(alloc, input.as_slice(), sink),
-        Err(InputFault::TooLong) => write_text(sink, too_long(alloc)),
+        Ok(input) => write_due(sink, C::answer(alloc, input.as_slice())),
+        Err(InputFault::TooLong) => write_due(sink, too_long(alloc)),
         Err(InputFault::Device) => Exit::Device,
         Err(InputFault::Memory) => Exit::Memory,
     }
 }
 
-/// Writes a whole text and ends with its exit, or ends at once where there is no memory for the text.
-pub fn write_text<K: Sink>(sink: &mut K, text: Result<(Vec<u8>, Exit), Exit>) -> Exit
-    ensures answered { (due : Due) → IfOk text (λ t. (t.0.items ≡ due.text) × (t.1 ≡ exit_of due)) → IfErr text (λ e. e ≡ Exit.Memory) → IsAnswered due (K.held sink.old) (K.held sink.new) result }
-    ensures device { (due : Due) → IfOk text (λ t. (t.0.items ≡ due.text) × (t.1 ≡ exit_of due)) → IfErr text (λ e. e ≡ Exit.Memory) → result ≡ Exit.Device → K.failed sink.new ≡ true }
+/// Writes the whole text, or nothing where there was no memory for it, and tells how the command ends.
+pub fn write_due<K: Sink>(sink: &mut K, due: Result<Due, AllocError>) -> Exit
+    ensures written { (d : Due) → IfOk due (λ x. x ≡ d) → IsWritten d (K.held sink.old) (K.held sink.new) result }
+    ensures device { result ≡ Exit.Device → K.failed sink.new ≡ true }
     ensures other { result ≢ Exit.Device → K.failed sink.new ≡ K.failed sink.old }
 {
-    let (text, exit) = match text {
-        Ok(whole) => whole,
-        Err(exit) => return exit,
+    let Ok(due) = due else {
+        return Exit::Memory;
     };
-    match write_all(sink, text.as_slice()) {
-        Ok(()) => exit,
+    match write_all(sink, due.text.as_slice()) {
+        Ok(()) => due.exit(),
         Err(_) => Exit::Device,
-    }
-}
-
-fn too_long(alloc: Global) -> Result<(Vec<u8>, Exit), Exit>
-    ensures ok { IfOk result (λ t. (t.0.items ≡ too_long.text) × (t.1 ≡ exit_of too_long)) }
-    ensures err { IfErr result (λ e. e ≡ Exit.Memory) }
-{
-    match Vec::from_slice(alloc, b"fault input TooLong\n") {
-        Ok(text) => Ok((text, Exit::Trace)),
-        Err(_) => Err(Exit::Memory),
     }
 }

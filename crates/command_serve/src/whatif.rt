@@ -1,22 +1,23 @@
 //! The command `whatif`: a trace and one request in, the edited trace and its report out.
-ghost use Rattle.std.specs.Prelude.{◌≡◌, ◌≢◌, ◌⊎◌, ◌++◌, ◌∷◌, [], codes, true, string_bytes, IfOk, IfErr};
+ghost use Rattle.std.specs.Prelude.{◌≡◌, ◌≢◌, ◌⊎◌, ◌++◌, ◌∷◌, [], codes, true, string_bytes, IfOk};
 ghost use Rattle.trace_reader.specs.Writing.{lines_text};
 ghost use Rattle.run_engine.specs.Edited.{edited_by};
 ghost use Rattle.edit_desk.specs.ReplyText.{reply_text};
 ghost use Rattle.edit_desk.specs.declared.replies.Reply.TheVariants.{Refused};
-ghost use Rattle.command_serve.specs.Serve.{Serves, exit_of};
+ghost use Rattle.command_serve.specs.Serve.{Serves};
 ghost use Rattle.command_serve.specs.Replay.{report_of_replay};
-ghost use Rattle.command_serve.specs.Script.{whatif_due, whatif_edited};
-ghost use Rattle.command_serve.specs.Script as Script;
+ghost use Rattle.command_serve.specs.Whatif.{whatif_due, edited_due};
+ghost use Rattle.command_serve.specs.Whatif as Whatif;
 
+use crate::due::{Due, fault_due};
 use crate::exits::Exit;
 use crate::replay::report_on;
-use crate::serve::{Answers, serve, write_text};
+use crate::serve::{Answers, serve};
 use edit_desk::replies::{Reply, push_reply};
 use run_engine::edits::apply;
 use run_engine::faults::Refusal;
 use std::alloc::{AllocError, Global};
-use trace_reader::{LineCause, RequestLine, fault_line, read_script, write_trace};
+use trace_reader::{RequestLine, read_script, write_trace};
 use trace_types::devices::{Sink, Source};
 use trace_types::edits::Batch;
 use trace_types::sequence::Sequence;
@@ -35,39 +36,31 @@ pub fn serve_whatif<S: Source, K: Sink>(alloc: Global, source: &mut S, sink: &mu
 struct Whatif;
 
 impl Answers for Whatif {
-    ghost use Rattle.command_serve.specs.Script.{whatif_due};
+    ghost use Rattle.command_serve.specs.Whatif.{whatif_due};
 
     ghost due = { whatif_due };
 
-    fn answer<K: Sink>(alloc: Global, input: &[u8], sink: &mut K) -> Exit {
-        write_text(sink, answer_to(alloc, input))
+    fn answer(alloc: Global, input: &[u8]) -> Result<Due, AllocError> {
+        whatif_due(alloc, input)
     }
 }
 
-// The text that is due for an input, with the exit.
-#[tactic(auto, unfolding(crate::specs::Script::whatif_due))]
-fn answer_to(alloc: Global, input: &[u8]) -> Result<(Vec<u8>, Exit), Exit>
-    ensures ok { IfOk result (λ r. (r.0.items ≡ (whatif_due input.now).text) × (r.1 ≡ exit_of (whatif_due input.now))) }
-    ensures err { IfErr result (λ e. e ≡ Exit.Memory) }
+#[tactic(auto, unfolding(crate::specs::Whatif::whatif_due))]
+fn whatif_due(alloc: Global, input: &[u8]) -> Result<Due, AllocError>
+    ensures { IfOk result (λ d. d ≡ whatif_due input.now) }
 {
     match read_script(alloc, input, true) {
         Ok(script) => {
             let batch = only_batch(alloc, script.requests);
-            edited(alloc, &script.trace, &batch)
+            edited_due(alloc, &script.trace, &batch)
         }
-        Err(fault) => {
-            if fault.cause == LineCause::Memory {
-                return Err(Exit::Memory);
-            }
-            let line = fault_line(alloc, &fault).map_err(|_| Exit::Memory)?;
-            Ok((line.into_bytes(), Exit::Trace))
-        }
+        Err(fault) => fault_due(alloc, &fault),
     }
 }
 
 // The edits of the one request.
 fn only_batch(alloc: Global, requests: Sequence<RequestLine>) -> Batch
-    ensures { result ≡ Script.only_batch requests }
+    ensures { result ≡ Whatif.only_batch requests }
 {
     match requests.into_vec().into_iter().next() {
         Some(request) => request.batch,
@@ -76,21 +69,14 @@ fn only_batch(alloc: Global, requests: Sequence<RequestLine>) -> Batch
 }
 
 // The edited trace and its report, or the refusal.
-fn edited(alloc: Global, trace: &Trace, batch: &Batch) -> Result<(Vec<u8>, Exit), Exit>
-    ensures ok { IfOk result (λ r. (r.0.items ≡ (whatif_edited (edited_by trace.now batch.now)).text) × (r.1 ≡ exit_of (whatif_edited (edited_by trace.now batch.now)))) }
-    ensures err { IfErr result (λ e. e ≡ Exit.Memory) }
+fn edited_due(alloc: Global, trace: &Trace, batch: &Batch) -> Result<Due, AllocError>
+    ensures { IfOk result (λ d. d ≡ edited_due (edited_by trace.now batch.now)) }
 {
     match apply(alloc, trace, batch) {
-        Ok(edited) => {
-            let text = told(alloc, &edited).map_err(|_| Exit::Memory)?;
-            Ok((text, Exit::Fine))
-        }
+        Ok(edited) => Ok(Due::answer(told(alloc, &edited)?)),
         Err(fault) => match fault.refusal() {
-            Some(why) => {
-                let line = refusal(alloc, why).map_err(|_| Exit::Memory)?;
-                Ok((line, Exit::Trace))
-            }
-            None => Err(Exit::Memory),
+            Some(why) => Ok(Due::fault(refusal(alloc, why)?)),
+            None => Err(AllocError),
         },
     }
 }

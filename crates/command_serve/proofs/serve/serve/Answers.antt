@@ -1,7 +1,7 @@
 use Rattle.std.proofs.Common.{◌≤◌, length, ap, sym, subst, ◌∙◌, arith, Err, refl, inl, inr}
 use Rattle.command_serve.specs.declared.exits.Exit.TheVariants.{Device, Memory}
 use Rattle.trace_types.specs.declared.limits.TheConstants.{MAX_INPUT}
-use Rattle.command_serve.specs.Serve.{too_long, IsAnswered}
+use Rattle.command_serve.specs.Serve.{too_long, IsWritten}
 use Rattle.command_serve.proofs.Served.{due-long, due-short, served, served_none}
 use Rattle.command_serve.proofs.serve.serve.Goals as goal
 
@@ -14,7 +14,7 @@ returns-in-Ok-clause-served g c =
       c.in-Ok.input.items,
       read.0,
       served _ _ _ _ _ _ _ read.1
-          (subst (λ d. IsAnswered d (g.K.Sink.held c.args.sink.now) (g.K.Sink.held c.answer.new.sink) c.answer.result) due c.answer.ensures.answered),
+          (subst (λ d. IsWritten d (g.K.Sink.held c.args.sink.now) (g.K.Sink.held c.write_due.new.sink) c.write_due.result) due (c.write_due.ensures.written _ c.answer.ensures)),
     )
 
 pub returns-in-Err-TooLong-clause-served : goal.returns-in-Err-TooLong-clause-served
@@ -23,12 +23,9 @@ returns-in-Err-TooLong-clause-served g c =
       long.0,
       long.1,
       served _ _ _ _ _ _ _ long.2
-          (subst (λ d. IsAnswered d (g.K.Sink.held c.args.sink.now) (g.K.Sink.held c.write_text.new.sink) c.write_text.result) (sym (due-long g.C.Answers.due long.0 long.3))
-          (c.write_text.ensures.answered too_long c.too_long.ensures.ok c.too_long.ensures.err)),
+          (subst (λ d. IsWritten d (g.K.Sink.held c.args.sink.now) (g.K.Sink.held c.write_due.new.sink) c.write_due.result) (sym (due-long g.C.Answers.due long.0 long.3))
+          (c.write_due.ensures.written too_long c.too_long.ensures)),
     )
-
-pub returns-in-Err-TooLong-clause-device : goal.returns-in-Err-TooLong-clause-device
-returns-in-Err-TooLong-clause-device g c = λ e. inr (c.write_text.ensures.device too_long c.too_long.ensures.ok c.too_long.ensures.err e)
 
 pub returns-in-Err-Device-clause-served : goal.returns-in-Err-Device-clause-served
 returns-in-Err-Device-clause-served g c = served_none g.C.Answers.due (g.S.Source.left c.args.source.now) (g.S.Source.left c.read_all.new.source) (g.K.Sink.held c.args.sink.now) Device (inr refl)
