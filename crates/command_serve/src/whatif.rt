@@ -7,7 +7,7 @@ ghost use Rattle.edit_desk.specs.declared.replies.Reply.TheVariants.{Refused};
 ghost use Rattle.command_serve.specs.Serve.{Serves};
 ghost use Rattle.command_serve.specs.Replay.{report_of_replay};
 ghost use Rattle.command_serve.specs.Whatif.{whatif_due, edited_due};
-ghost use Rattle.command_serve.specs.Whatif as Whatif;
+ghost use Rattle.command_serve.specs.Whatif as specs;
 
 use crate::due::{Due, fault_due};
 use crate::exits::Exit;
@@ -60,7 +60,7 @@ fn whatif_due(alloc: Global, input: &[u8]) -> Result<Due, AllocError>
 
 // The edits of the one request.
 fn only_batch(alloc: Global, requests: Sequence<RequestLine>) -> Batch
-    ensures { result ≡ Whatif.only_batch requests }
+    ensures { result ≡ specs.only_batch requests }
 {
     match requests.into_vec().into_iter().next() {
         Some(request) => request.batch,

@@ -23,8 +23,8 @@ returns-in-Err-TooLong-clause-served g c =
       long.0,
       long.1,
       served _ _ _ _ _ _ _ long.2
-          (subst (λ d. IsWritten d (g.K.Sink.held c.args.sink.now) (g.K.Sink.held c.write_due.new.sink) c.write_due.result) (sym (due-long g.C.Answers.due long.0 long.3))
-          (c.write_due.ensures.written too_long c.too_long.ensures)),
+          (subst (λ d. IsWritten d (g.K.Sink.held c.args.sink.now) (g.K.Sink.held c.write_due-in-Err-TooLong.new.sink) c.write_due-in-Err-TooLong.result) (sym (due-long g.C.Answers.due long.0 long.3))
+          (c.write_due-in-Err-TooLong.ensures.written too_long c.too_long.ensures)),
     )
 
 pub returns-in-Err-Device-clause-served : goal.returns-in-Err-Device-clause-served
