@@ -1,5 +1,5 @@
 -- What was read and written makes a served input.
-use Rattle.std.proofs.Common.{◌≡◌, ℕ, ◌+◌, ◌<◌, ◌≤◌, List, [], ◌++◌, length, Bool, true, false, Option, Some, None, refl, ap, ◌∙◌, sym, subst, arith, append-nil, length-append, lt-ltb, le-ltb, ◌⊎◌, inl, inr}
+use Rattle.std.proofs.Common.{◌≡◌, ℕ, ◌+◌, ◌<◌, ◌≤◌, List, [], Result, Ok, Err, IfOk, IsErr, ◌++◌, length, Bool, true, false, Option, Some, None, refl, ap, ◌∙◌, sym, subst, arith, append-nil, length-append, lt-ltb, le-ltb, ◌⊎◌, inl, inr}
 use Rattle.std.specs.Bool.{if◌then◌else◌}
 use Rattle.std.specs.Io.KnownBytes.{Appends, Consumes, IsAtEnd}
 use Rattle.std.proofs.KnownBytes.{Appends-nil}
@@ -69,6 +69,12 @@ not_device false e = cc
 
 pub never_device : (due : Due) → exit_of due ≡ Device → ⊥
 never_device due e = not_device due.is_fault e
+
+-- what was written of what is due, or nothing where it could not be made
+pub written_due : {E : Type 0} (made : Result Due E) (due : Due) (held held' : Option (List ℕ)) (exit : Exit) → IfOk made (λ d. d ≡ due) → IfOk made (λ d. IsWritten d held held' exit)
+    → (IsErr made → (exit ≡ Memory) × Appends held held' []) → IsWritten due held held' exit
+written_due (Ok d) due held held' exit is done none = subst (λ d. IsWritten d held held' exit) is done
+written_due (Err e) due held held' exit is done none = subst (IsWritten due held held') (sym (none refl).0) (none refl).1
 
 -- nothing was written
 pub served_none : (answer : List ℕ → Due) (left left' held : Option (List ℕ)) (exit : Exit) → (exit ≡ Memory) ⊎ (exit ≡ Device)

@@ -1,5 +1,6 @@
 //! Serving a command: all of the input in, and then the whole text that is due out.
-ghost use Rattle.std.specs.Prelude.{◌≡◌, ◌≢◌, ◌⊎◌, ℕ, List, true, IfOk};
+ghost use Rattle.std.specs.Prelude.{◌≡◌, ◌≢◌, ◌⊎◌, ℕ, List, [], true, IfOk, IsErr};
+ghost use Rattle.std.specs.Io.KnownBytes.{Appends};
 ghost use Rattle.command_serve.specs.declared.due.Due.{Due};
 ghost use Rattle.command_serve.specs.Serve.{Serves, IsWritten};
 
@@ -38,7 +39,8 @@ pub fn serve<C: Answers, S: Source, K: Sink>(alloc: Global, source: &mut S, sink
 
 /// Writes the whole text, or nothing where there was no memory for it, and tells how the command ends.
 pub fn write_due<K: Sink>(sink: &mut K, due: Result<Due, AllocError>) -> Exit
-    ensures written { (d : Due) → IfOk due (λ x. x ≡ d) → IsWritten d (K.held sink.old) (K.held sink.new) result }
+    ensures written { IfOk due (λ d. IsWritten d (K.held sink.old) (K.held sink.new) result) }
+    ensures memory { IsErr due → (result ≡ Exit.Memory) × Appends (K.held sink.old) (K.held sink.new) [] }
     ensures device { result ≡ Exit.Device → K.failed sink.new ≡ true }
     ensures other { result ≢ Exit.Device → K.failed sink.new ≡ K.failed sink.old }
 {

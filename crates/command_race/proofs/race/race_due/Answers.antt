@@ -1,6 +1,14 @@
-use Rattle.std.proofs.Common.{rules, ◌≡◌, false, subst, sym, Err}
-use Rattle.trace_reader.specs.Scripts.{read_script}
-use Rattle.command_serve.specs.Serve.{fault_due}
+use Rattle.std.proofs.Common.{◌∙◌, ap, false, sym, subst}
 use Rattle.command_race.specs.Race.{MayAnswer}
-use Rattle.command_race.proofs.Due.{race_due, may_race, may_fault}
+use Rattle.command_race.proofs.Due.{may_race, may_tell}
 use Rattle.command_race.proofs.race.race_due.Goals as goal
+
+pub returns-in-Some : goal.returns-in-Some
+returns-in-Some g c =
+    let script = c.in-Ok.script in
+    let race = c.in-Some.ensures in
+    let due = c.answer.ensures ∙ ap (λ x. record { text = x; is_fault = false }) race.2 in
+    subst (MayAnswer c.args.input.now) (sym due) (may_race c.args.input.now script race.0 c.in-Ok.ensures.ok race.1)
+
+pub returns-in-Err : goal.returns-in-Err
+returns-in-Err g c = may_tell c.args.input.now c.in-Err.fault c.fault_due.result c.fault_due.ensures.due c.fault_due.ensures.cause c.in-Err.ensures.fault

@@ -2,7 +2,7 @@ use Rattle.std.proofs.Common.{◌≤◌, length, ap, sym, subst, ◌∙◌, arit
 use Rattle.command_serve.specs.declared.exits.Exit.TheVariants.{Device, Memory}
 use Rattle.trace_types.specs.declared.limits.TheConstants.{MAX_INPUT}
 use Rattle.command_serve.specs.Serve.{too_long, IsWritten}
-use Rattle.command_serve.proofs.Served.{due-long, due-short, served, served_none}
+use Rattle.command_serve.proofs.Served.{due-long, due-short, served, served_none, written_due}
 use Rattle.command_serve.proofs.serve.serve.Goals as goal
 
 pub returns-in-Ok-clause-served : goal.returns-in-Ok-clause-served
@@ -14,7 +14,7 @@ returns-in-Ok-clause-served g c =
       c.in-Ok.input.items,
       read.0,
       served _ _ _ _ _ _ _ read.1
-          (subst (λ d. IsWritten d (g.K.Sink.held c.args.sink.now) (g.K.Sink.held c.write_due.new.sink) c.write_due.result) due (c.write_due.ensures.written _ c.answer.ensures)),
+          (subst (λ d. IsWritten d (g.K.Sink.held c.args.sink.now) (g.K.Sink.held c.write_due.new.sink) c.write_due.result) due (written_due _ _ _ _ _ c.answer.ensures c.write_due.ensures.written c.write_due.ensures.memory)),
     )
 
 pub returns-in-Err-TooLong-clause-served : goal.returns-in-Err-TooLong-clause-served
@@ -24,7 +24,7 @@ returns-in-Err-TooLong-clause-served g c =
       long.1,
       served _ _ _ _ _ _ _ long.2
           (subst (λ d. IsWritten d (g.K.Sink.held c.args.sink.now) (g.K.Sink.held c.write_due-in-Err-TooLong.new.sink) c.write_due-in-Err-TooLong.result) (sym (due-long g.C.Answers.due long.0 long.3))
-          (c.write_due-in-Err-TooLong.ensures.written too_long c.too_long.ensures)),
+          (written_due _ _ _ _ _ c.too_long.ensures c.write_due-in-Err-TooLong.ensures.written c.write_due-in-Err-TooLong.ensures.memory)),
     )
 
 pub returns-in-Err-Device-clause-served : goal.returns-in-Err-Device-clause-served
