@@ -5,7 +5,8 @@ use Rattle.command_words.specs.declared.Command.TheVariants.{Replay, Script, Wha
 use Rattle.command_serve.specs.declared.exits.Exit.{Exit}
 use Rattle.command_serve.specs.Serve.{Serves}
 use Rattle.command_serve.specs.Replay.{replay_due}
-use Rattle.command_serve.specs.Script.{script_due, whatif_due}
+use Rattle.command_serve.specs.Script.{script_due}
+use Rattle.command_serve.specs.Whatif.{whatif_due}
 use Rattle.command_race.specs.Race.{ServesRace}
 
 -- what the command reads of what a source has, and writes behind what a sink holds, with this exit

@@ -47,7 +47,7 @@ all_written left left' held held' input due Fine is may read done = (input, is, 
 all_written left left' held held' input due Trace is may read done = (input, is, due, may, (done.0, read, done.1))
 all_written left left' held held' input due Usage is may read done = done
 all_written left left' held held' input due Device is may read done = inr (input, is, due, may, done)
-all_written left left' held held' input due Memory is may read done = done
+all_written left left' held held' input due Memory is may read done = absurd done
 
 -- of what was made and may be due, all was written, a front of it or nothing
 pub written : {E : Type 0} (left left' held held' : Option (List ℕ)) (input : List ℕ) (made : Result Due E) (exit : Exit) → IsInput left input → IsRead left left' input → IfOk made (MayBeDue input)

@@ -6,7 +6,7 @@ use Rattle.std.proofs.KnownBytes.{Appends-nil}
 use Rattle.trace_types.specs.Devices.{IsInput, AppendsFront}
 use Rattle.trace_types.specs.declared.limits.TheConstants.{MAX_INPUT}
 use Rattle.command_serve.specs.declared.due.Due.{Due}
-use Rattle.command_serve.specs.Serve.{is_too_long, too_long, exit_of, due_of, IsWritten, IsRead, IsServed}
+use Rattle.command_serve.specs.Serve.{is_too_long, too_long, exit_of, due_of, IsWritten, IsRead, IsServedBy}
 use Rattle.command_serve.specs.declared.exits.Exit.{Exit}
 use Rattle.command_serve.specs.declared.exits.Exit.TheVariants.{Fine, Trace, Usage, Device, Memory}
 
@@ -55,13 +55,13 @@ pub all_written : (held held' : Option (List ℕ)) (due : Due) (exit : Exit) →
 all_written held held' due exit e text = subst (IsWritten due held held') (sym e) (at due.is_fault held held' due refl text)
 
 -- an input that was read is served by its answer
-pub served : (left left' held held' : Option (List ℕ)) (input : List ℕ) (due : Due) (exit : Exit) → IsRead left left' input → IsWritten due held held' exit
-    → IsServed left left' held held' input due exit
+served : (left left' held held' : Option (List ℕ)) (input : List ℕ) (due : Due) (exit : Exit) → IsRead left left' input → IsWritten due held held' exit
+    → IsServedBy left left' held held' input due exit
 served left left' held held' input due Fine read answer = (answer.0, read, answer.1)
 served left left' held held' input due Trace read answer = (answer.0, read, answer.1)
 served left left' held held' input due Usage read answer = answer
 served left left' held held' input due Device read answer = answer
-served left left' held held' input due Memory read answer = answer
+served left left' held held' input due Memory read answer = absurd answer
 
 not_device : (b : Bool) → (if b then Trace else Fine) ≡ Device → ⊥
 not_device true e = cc
@@ -70,14 +70,14 @@ not_device false e = cc
 pub never_device : (due : Due) → exit_of due ≡ Device → ⊥
 never_device due e = not_device due.is_fault e
 
--- what was written of what is due, or nothing where it could not be made
-pub written_due : {E : Type 0} (made : Result Due E) (due : Due) (held held' : Option (List ℕ)) (exit : Exit) → IfOk made (λ d. d ≡ due) → IfOk made (λ d. IsWritten d held held' exit)
-    → (IsErr made → (exit ≡ Memory) × Appends held held' []) → IsWritten due held held' exit
-written_due (Ok d) due held held' exit is done none = subst (λ d. IsWritten d held held' exit) is done
-written_due (Err e) due held held' exit is done none = subst (IsWritten due held held') (sym (none refl).0) (none refl).1
+-- so is one whose answer was made, or could not be made
+pub served_due : {E : Type 0} (left left' held held' : Option (List ℕ)) (input : List ℕ) (made : Result Due E) (due : Due) (exit : Exit) → IsRead left left' input → IfOk made (λ d. d ≡ due)
+    → IfOk made (λ d. IsWritten d held held' exit) → (IsErr made → (exit ≡ Memory) × Appends held held' []) → IsServedBy left left' held held' input due exit
+served_due left left' held held' input (Ok d) due exit read is done none = served left left' held held' input due exit read (subst (λ d. IsWritten d held held' exit) is done)
+served_due left left' held held' input (Err e) due exit read is done none = subst (IsServedBy left left' held held' input due) (sym (none refl).0) (none refl).1
 
 -- nothing was written
 pub served_none : (answer : List ℕ → Due) (left left' held : Option (List ℕ)) (exit : Exit) → (exit ≡ Memory) ⊎ (exit ≡ Device)
-    → (input : List ℕ) × IsInput left input × IsServed left left' held held input (due_of answer input) exit
-served_none answer left left' held exit (inl e) = (told left, IsInput-told left, subst (IsServed left left' held held (told left) (due_of answer (told left))) (sym e) (Appends-nil held))
-served_none answer left left' held exit (inr e) = (told left, IsInput-told left, subst (IsServed left left' held held (told left) (due_of answer (told left))) (sym e) (front_none held _))
+    → (input : List ℕ) × IsInput left input × IsServedBy left left' held held input (due_of answer input) exit
+served_none answer left left' held exit (inl e) = (told left, IsInput-told left, subst (IsServedBy left left' held held (told left) (due_of answer (told left))) (sym e) (Appends-nil held))
+served_none answer left left' held exit (inr e) = (told left, IsInput-told left, subst (IsServedBy left left' held held (told left) (due_of answer (told left))) (sym e) (front_none held _))

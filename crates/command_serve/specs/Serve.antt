@@ -27,13 +27,13 @@ due_of answer input = if is_too_long input then too_long else answer input
 abbrev pub fault_due : LineFault → Due
 fault_due fault = record { text = fault_text fault ++ 10 ∷ []; is_fault = true }
 
--- the whole text was written, with the exit that tells so; a front of it, where the sink failed; nothing, where memory ran out
+-- the whole text was written, with the exit that tells so, or a front of it, where the sink failed; this wants no memory
 abbrev pub IsWritten : Due → Option (List ℕ) → Option (List ℕ) → Exit → Type 0
 IsWritten due held held' Fine = (Fine ≡ exit_of due) × Appends held held' due.text
 IsWritten due held held' Trace = (Trace ≡ exit_of due) × Appends held held' due.text
 IsWritten due held held' Usage = ⊥
 IsWritten due held held' Device = AppendsFront held held' due.text
-IsWritten due held held' Memory = Appends held held' []
+IsWritten due held held' Memory = ⊥
 
 -- an input was read until a read gave no bytes, or until one byte more than is allowed
 abbrev pub IsRead : Option (List ℕ) → Option (List ℕ) → List ℕ → Type 0
@@ -45,13 +45,13 @@ abbrev pub IsDone : Option (List ℕ) → Option (List ℕ) → Option (List ℕ
 IsDone left left' held held' input due exit = (exit ≡ exit_of due) × IsRead left left' input × Appends held held' due.text
 
 -- an exit Fine or Trace says that all was done, Device that a front of what is due was written, Memory that nothing was
-abbrev pub IsServed : Option (List ℕ) → Option (List ℕ) → Option (List ℕ) → Option (List ℕ) → List ℕ → Due → Exit → Type 0
-IsServed left left' held held' input due Fine = IsDone left left' held held' input due Fine
-IsServed left left' held held' input due Trace = IsDone left left' held held' input due Trace
-IsServed left left' held held' input due Usage = ⊥
-IsServed left left' held held' input due Device = AppendsFront held held' due.text
-IsServed left left' held held' input due Memory = Appends held held' []
+abbrev pub IsServedBy : Option (List ℕ) → Option (List ℕ) → Option (List ℕ) → Option (List ℕ) → List ℕ → Due → Exit → Type 0
+IsServedBy left left' held held' input due Fine = IsDone left left' held held' input due Fine
+IsServedBy left left' held held' input due Trace = IsDone left left' held held' input due Trace
+IsServedBy left left' held held' input due Usage = ⊥
+IsServedBy left left' held held' input due Device = AppendsFront held held' due.text
+IsServedBy left left' held held' input due Memory = Appends held held' []
 
 -- there is an input, which is all that the source had left where that is told, and it was served
 abbrev pub Serves : (List ℕ → Due) → Option (List ℕ) → Option (List ℕ) → Option (List ℕ) → Option (List ℕ) → Exit → Type 0
-Serves answer left left' held held' exit = (input : List ℕ) × IsInput left input × IsServed left left' held held' input (due_of answer input) exit
+Serves answer left left' held held' exit = (input : List ℕ) × IsInput left input × IsServedBy left left' held held' input (due_of answer input) exit
