@@ -1,5 +1,5 @@
 //! The command `race`: a trace and requests in, each stored entry's reply and the last version's report out.
-ghost use Rattle.std.specs.Prelude.{◌≡◌, ◌≢◌, ◌⊎◌, ◌≤◌, ℕ, List, [], true, IfOk, IfSome};
+ghost use Rattle.std.specs.Prelude.{◌≡◌, ◌≢◌, ◌⊎◌, ◌≤◌, List, [], true, IfOk, IfSome};
 ghost use Rattle.edit_desk.specs.declared.entries.Entry.{Entry};
 ghost use Rattle.live_sessions.specs.Events.{opening_of};
 ghost use Rattle.command_race.specs.Race.{IsRaced, MayAnswer, ServesRace, race_text};

@@ -1,5 +1,5 @@
 //! The command `whatif`: a trace and one request in, the edited trace and its report out.
-ghost use Rattle.std.specs.Prelude.{◌≡◌, ◌≢◌, ◌⊎◌, ◌++◌, ◌∷◌, [], codes, true, string_bytes, IfOk};
+ghost use Rattle.std.specs.Prelude.{◌≡◌, ◌≢◌, ◌⊎◌, ◌++◌, ◌∷◌, [], codes, true, IfOk};
 ghost use Rattle.trace_reader.specs.Writing.{lines_text};
 ghost use Rattle.run_engine.specs.Edited.{edited_by};
 ghost use Rattle.edit_desk.specs.ReplyText.{reply_text};

@@ -1,3 +1,4 @@
+//! Words, and what the program says of them.
 use command_words::{Command, WordsFault, read_words};
 use std::alloc::{AllocError, Global};
 use std::test::Fail;

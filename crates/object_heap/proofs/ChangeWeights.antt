@@ -17,7 +17,7 @@ field_weight w (Some (Alive fields)) i = weight_at w (slice_get fields i)
 
 -- the slots that a change brings
 abbrev pub gained : Change → (Slot → ℕ) → ℕ
-gained (SetHandle h x) w = holding_weight w x
+gained (SetHandle t h x) w = holding_weight w x
 gained (EndHandle h) w = 0
 gained (SetCell c s) w = w s
 gained (EndCell c) w = 0
@@ -27,7 +27,7 @@ gained (TurnHusk o) w = 0
 
 -- the slots that go by it
 abbrev pub lost : State → Change → (Slot → ℕ) → ℕ
-lost m (SetHandle h x) w = weight_at (holding_weight w) (get m.handles h)
+lost m (SetHandle t h x) w = weight_at (holding_weight w) (get m.handles h)
 lost m (EndHandle h) w = weight_at (holding_weight w) (get m.handles h)
 lost m (SetCell c s) w = weight_at w (get m.cells c)
 lost m (EndCell c) w = weight_at w (get m.cells c)

@@ -15,10 +15,10 @@ use Rattle.trace_types.specs.declared.slots.Item.TheVariants as item
 use Rattle.trace_types.specs.declared.slots.Change.{Change}
 use Rattle.trace_types.specs.declared.slots.Change.TheVariants.{SetHandle, EndHandle, SetCell, EndCell, SetField, Make, TurnHusk}
 use Rattle.ownership_model.specs.Totals.{total}
-use Rattle.ownership_model.specs.State.{State, ends, weight, names_alike, slots_weight, holding_weight, entry_weight}
+use Rattle.ownership_model.specs.State.{State, ends, weight, names_alike, slots_weight, holding_weight, entry_weight, IsScoped}
 use Rattle.ownership_model.specs.Changes.{changed, changed_by, with_field, HasField, CanBeDone, CanChange}
 use Rattle.ownership_model.specs.Bounds.{IsBounded, ChangeFits, ChangesFit}
-use Rattle.ownership_model.proofs.LawsHold.{bounds}
+use Rattle.ownership_model.proofs.LawsHold.{bounds, scopes}
 use Rattle.ownership_model.proofs.Counting.{weight_at, total-insert, total-remove, total-set, self_strong, self_weak, other_strong, other_weak, same_number, get_inserted, get_removed, names_alike-le}
 use Rattle.object_heap.specs.declared.counters.Counters.{Counters}
 use Rattle.object_heap.specs.declared.draft.Draft.{Draft}
@@ -189,7 +189,7 @@ field_balance w m o i s (Some (Alive fields)) is can = omega (arith, total-set (
 
 -- what stands after a change, and what went by it, is what stood before, and what it brought
 pub balance : (w : Slot → ℕ) (m : State) (c : Change) → CanBeDone m c → weight w (changed_by m c) [] + lost m c w ≡ gained c w + weight w m []
-balance w m (SetHandle h x) can = omega (arith, total-insert (holding_weight w) m.handles h x)
+balance w m (SetHandle t h x) can = omega (arith, total-insert (holding_weight w) m.handles h x)
 balance w m (EndHandle h) can = omega (arith, total-remove (holding_weight w) m.handles h)
 balance w m (SetCell c s) can = omega (arith, total-insert w m.cells c s)
 balance w m (EndCell c) can = omega (arith, total-remove w m.cells c)
@@ -282,3 +282,7 @@ module _ (m n : State) (changes : List Change) (i : ℕ) (x : Change) (within : 
 
   pub changed_next : changed n (drop (i + 1) changes) ≡ changed m (drop i changes)
   changed_next = ap (λ (k : State). changed k (drop (i + 1) changes)) made ∙ sym (ap (λ (cs : List Change). changed m cs) first_change)
+
+-- a change keeps each held handle in one scope
+pub scoped_next : (m n : State) (c : Change) → n ≡ changed_by m c → IsScoped m.handles m.scopes → IsScoped n.handles n.scopes
+scoped_next m n c made scoped = subst (λ (x : State). IsScoped x.handles x.scopes) (sym made) (scopes.changes m (c ∷ []) scoped)

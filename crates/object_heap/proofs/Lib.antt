@@ -3,3 +3,9 @@ pub mod ChangeWeights
 pub mod GainLemmas
 pub mod PendingLemmas
 pub mod DropLemmas
+pub mod LinkLemmas
+pub mod ViewLemmas
+pub mod EarlierLemmas
+pub mod EnterLemmas
+pub mod NeighbourLemmas
+pub mod LeaveLemmas

@@ -1,11 +1,9 @@
 -- The state in which nothing is held.
 use Rattle.std.proofs.Common.{◌≡◌, ℕ, List, [], ◌∷◌, length, refl, ap, ◌∙◌, sym, subst, arith}
-use Rattle.std.specs.Prelude.{Option, None}
 use Rattle.std.specs.Ordering.{nat_cmp}
 use Rattle.std.specs.FinMap.{FinMap, entries, empty, get, get-empty, len-empty, len-entries}
 use Rattle.trace_types.specs.declared.slots.Slot.{Slot}
 use Rattle.trace_types.specs.declared.slots.Slot.TheVariants.{Strong, Weak}
-use Rattle.trace_types.specs.declared.slots.Entry.{Entry}
 use Rattle.ownership_model.specs.Totals.{total, total_in}
 use Rattle.ownership_model.specs.State.{State, nothing_held, weight, holding_weight, entry_weight, names_alike, IsSound}
 use Rattle.ownership_model.specs.Bounds.{IsBounded}

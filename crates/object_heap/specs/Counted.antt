@@ -13,7 +13,7 @@ abbrev pub counters_at : Option Counters → Counters
 counters_at kept = unwrap_or kept (record { strong = 0; weak = 0; ends = 0 })
 
 abbrev pub state_of : Draft → State
-state_of d = record { handles = d.handles; cells = d.cells; objects = d.objects }
+state_of d = record { handles = d.handles; cells = d.cells; objects = d.objects; scopes = d.scopes }
 
 -- the counters count the slots that stand and what is pending
 pub record IsCounted (counts : FinMap nat_cmp Counters) (m : State) (pending : List Item) : Type 0 where

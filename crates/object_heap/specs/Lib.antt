@@ -2,3 +2,4 @@ pub mod StateCode
 pub mod Counted
 pub mod Gains
 pub mod Drops
+pub mod Links

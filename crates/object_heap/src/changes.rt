@@ -3,7 +3,8 @@ ghost use Rattle.std.specs.Prelude.{◌≡◌, ◌<◌, OnOk, IfOk, [], length, 
 ghost use Rattle.std.specs.Option.{option_map_or};
 ghost use Rattle.std.specs.FinMap as map;
 ghost use Rattle.trace_types.specs.declared.slots.Change.TheVariants as change;
-ghost use Rattle.ownership_model.specs.State.{holding_weight, entry_weight};
+ghost use Rattle.ownership_model.specs.State.{holding_weight, entry_weight, IsScoped};
+ghost use Rattle.ownership_model.specs.Scopes.{kept_or_entered};
 ghost use Rattle.ownership_model.specs.Changes.{HasField, CanBeDone, CanChange, changed};
 ghost use Rattle.ownership_model.specs.Bounds.{IsBounded, HoldingFits, AreFew, ChangeFits, ChangesFit};
 ghost use Rattle.object_heap.specs.Counted.{state_of, IsCounted};
@@ -11,19 +12,23 @@ ghost use Rattle.object_heap.specs.Gains.{Changes, CountsMore, HasRoom, HasSlots
 
 use crate::counters::{Counters, hold, hold_all, hold_holding, let_go, let_go_all, let_go_holding};
 use crate::draft::Draft;
+use crate::scopes::Scopes;
 use share_tree::ShareTree;
 use std::alloc::{AllocError, Global};
+use std::mem::replace;
 use trace_types::sequence::Sequence;
 use trace_types::slots::{Change, Entry, Holding, Slot};
 
 impl Draft {
     /// Makes the changes in order. Where memory runs out some are made, and the draft is only good to be let go.
     pub fn apply(&mut self, alloc: Global, changes: &[Change]) -> Result<(), AllocError>
+        requires scoped { IsScoped self.old.handles self.old.scopes }
         requires counted { IsCounted self.old.counts (state_of self.old) [] }
         requires bounded { IsBounded (state_of self.old) }
         requires can { CanChange (state_of self.old) changes.now }
         requires fits { ChangesFit changes.now }
         ensures state { OnOk result (state_of self.new ≡ changed (state_of self.old) changes.now) }
+        ensures scoped { OnOk result (IsScoped self.new.handles self.new.scopes) }
         ensures counted { OnOk result (IsCounted self.new.counts (state_of self.new) []) }
         ensures bounded { OnOk result (IsBounded (state_of self.new)) }
     {
@@ -34,6 +39,7 @@ impl Draft {
     }
 
     fn change(&mut self, alloc: Global, change: &Change) -> Result<(), AllocError>
+        requires scoped { IsScoped self.old.handles self.old.scopes }
         requires counted { IsCounted self.old.counts (state_of self.old) [] }
         requires bounded { IsBounded (state_of self.old) }
         requires can { CanBeDone (state_of self.old) change.now }
@@ -41,7 +47,9 @@ impl Draft {
         ensures { OnOk result (Changes self.old self.new change.now) }
     {
         match change {
-            Change::SetHandle(handle, holding) => self.set_handle(alloc, *handle, holding),
+            Change::SetHandle(label, handle, holding) => {
+                self.set_handle(alloc, *label, *handle, holding)
+            }
             Change::EndHandle(handle) => self.end_handle(alloc, *handle),
             Change::SetCell(cell, slot) => self.set_cell(alloc, *cell, *slot),
             Change::EndCell(cell) => self.end_cell(alloc, *cell),
@@ -57,18 +65,32 @@ impl Draft {
     fn set_handle(
         &mut self,
         alloc: Global,
+        label: u32,
         handle: u32,
         holding: &Holding,
     ) -> Result<(), AllocError>
+        requires scoped { IsScoped self.old.handles self.old.scopes }
         requires counted { IsCounted self.old.counts (state_of self.old) [] }
         requires bounded { IsBounded (state_of self.old) }
         requires fits { HoldingFits holding.now }
-        ensures { OnOk result (Changes self.old self.new (change.SetHandle handle holding.now)) }
+        ensures { OnOk result (Changes self.old self.new (change.SetHandle label handle holding.now)) }
     {
         hold_holding(alloc, &mut self.counts, holding)?;
         let_go_handle(alloc, &mut self.counts, &self.handles, handle)?;
+        self.enter_scope(alloc, label, handle)?;
         let copy = holding.clone()?;
         self.handles.insert(alloc, handle, copy)
+    }
+
+    // A handle that is not held enters the scope of the label.
+    fn enter_scope(&mut self, alloc: Global, label: u32, handle: u32) -> Result<(), AllocError>
+        requires scoped { IsScoped self.old.handles self.old.scopes }
+        ensures { OnOk result (self.new ≡ record self.old { scopes = kept_or_entered (map.get self.old.handles handle) label handle self.old.scopes }) }
+    {
+        if self.handles.get(handle).is_none() {
+            self.scopes = replace(&mut self.scopes, Scopes::empty()).enter(alloc, label, handle)?;
+        }
+        Ok(())
     }
 
     fn end_handle(&mut self, alloc: Global, handle: u32) -> Result<(), AllocError>
@@ -77,6 +99,7 @@ impl Draft {
         ensures { OnOk result (Changes self.old self.new (change.EndHandle handle)) }
     {
         let_go_handle(alloc, &mut self.counts, &self.handles, handle)?;
+        self.scopes = replace(&mut self.scopes, Scopes::empty()).leave(alloc, handle)?;
         self.handles.remove(alloc, handle)
     }
 

@@ -5,17 +5,19 @@ ghost use Rattle.ownership_model.specs.State.{nothing_held};
 ghost use Rattle.object_heap.specs.Counted.{state_of};
 
 use crate::counters::Counters;
+use crate::scopes::Scopes;
 use share_tree::ShareTree;
 use std::alloc::AllocError;
 use trace_types::slots::{Entry, Holding, Slot};
 
-/// What handles and cells hold, which objects stand, and how often each object is named.
+/// What handles and cells hold, which objects stand, how often each is named, and in which scopes the handles stand.
 #[derive(Drop)]
 pub struct Draft {
     pub handles: ShareTree<Holding>,
     pub cells: ShareTree<Slot>,
     pub objects: ShareTree<Entry>,
     pub counts: ShareTree<Counters>,
+    pub scopes: Scopes,
 }
 
 impl Draft {
@@ -29,6 +31,7 @@ impl Draft {
             cells: ShareTree::empty(),
             objects: ShareTree::empty(),
             counts: ShareTree::empty(),
+            scopes: Scopes::empty(),
         }
     }
 
@@ -42,6 +45,7 @@ impl Draft {
             cells: self.cells.share()?,
             objects: self.objects.share()?,
             counts: self.counts.share()?,
+            scopes: self.scopes.share()?,
         })
     }
 
@@ -52,5 +56,6 @@ impl Draft {
         self.handles.same(&other.handles)
             && self.cells.same(&other.cells)
             && self.objects.same(&other.objects)
+            && self.scopes.same(&other.scopes)
     }
 }

@@ -7,6 +7,8 @@ ghost use Rattle.ownership_model.specs.Bounds.{IsBounded, ChangesFit};
 ghost use Rattle.ownership_model.specs.Changes.{changed, CanChange};
 ghost use Rattle.ownership_model.specs.Release.{release};
 ghost use Rattle.ownership_model.specs.Falling.{CascadesTo};
+ghost use Rattle.ownership_model.specs.Scopes.{scope_of};
+ghost use Rattle.object_heap.specs.Links.{first_of, earlier_in};
 
 use crate::counters::counters_of;
 use crate::draft::Draft;
@@ -17,7 +19,7 @@ use trace_types::outcomes::Event;
 use trace_types::sequence::Sequence;
 use trace_types::slots::{Change, Entry, Holding, Item, Slot};
 
-/// What handles and cells hold and which objects stand. Contracts see a sound state within the limits.
+/// What handles and cells hold, which objects stand, and in which scopes the handles stand. Contracts see a sound state within the limits.
 ///
 /// It also counts how often each object is named. Two heaps share what is the same in both.
 pub struct Heap {
@@ -73,6 +75,20 @@ impl Heap {
         self.draft.handles.get(handle)
     }
 
+    /// The handle of the label's scope that was made last. Takes no memory.
+    pub fn last(&self, label: u32) -> Option<u32>
+        ensures { result ≡ first_of (scope_of label self.now.scopes) }
+    {
+        self.draft.scopes.last(label)
+    }
+
+    /// The handle that was made before this one, of those still in its scope. Takes no memory.
+    pub fn earlier(&self, handle: u32) -> Option<u32>
+        ensures { result ≡ earlier_in handle self.now.scopes }
+    {
+        self.draft.scopes.earlier(handle)
+    }
+
     /// What a cell holds.
     pub fn cell(&self, cell: u32) -> Option<Slot>
         ensures { result ≡ map.get self.now.cells cell }
@@ -120,6 +136,15 @@ impl Heap {
         ensures { IfOk result (λ v. v.items ≡ map.keys self.now.objects) }
     {
         self.draft.objects.keys(alloc)
+    }
+
+    /// Whether both have the same roots: handles, cells and scopes.
+    pub fn same_roots(&self, other: &Heap) -> bool
+        ensures { IsTrue result ↔ ((self.now.handles ≡ other.now.handles) × (self.now.cells ≡ other.now.cells) × (self.now.scopes ≡ other.now.scopes)) }
+    {
+        self.draft.handles.same(&other.draft.handles)
+            && self.draft.cells.same(&other.draft.cells)
+            && self.draft.scopes.same(&other.draft.scopes)
     }
 
     /// Whether both hold the same.

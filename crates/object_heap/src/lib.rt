@@ -6,6 +6,8 @@ mod changes;
 mod counters;
 mod draft;
 pub mod heap;
+pub mod place;
 pub mod reach;
+mod scopes;
 
 pub use heap::Heap;

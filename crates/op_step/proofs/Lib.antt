@@ -1,3 +1,4 @@
 mod MeterLemmas
 mod NameLemmas
+mod ScopeLemmas
 mod StepLemmas

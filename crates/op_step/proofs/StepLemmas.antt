@@ -7,6 +7,6 @@ use Rattle.ownership_model.specs.Table.{row}
 use Rattle.ownership_model.specs.Step.{step, carried_out}
 use Rattle.ownership_model.specs.declared.plan.Plan.{Plan}
 
-pub carried_out-step : (m : State) (op : Operation) (id : ℕ) (p : Plan) → id ≡ op.id → p ≡ row op (view_of m op.kind) → carried_out m id p ≡ step m op
+pub carried_out-step : (m : State) (op : Operation) (id : ℕ) (p : Plan) → id ≡ op.id → p ≡ row op (view_of m op.thread op.kind) → carried_out m id p ≡ step m op
 unfolding step
 carried_out-step m op id p e f = ap (λ n. carried_out m n p) e ∙ ap (λ (q : Plan). carried_out m op.id q) f

@@ -12,7 +12,7 @@ use trace_types::slots::{Change, Holding, Item};
 
 /// `atomic<shared_ptr<T>>`'s constructor
 pub fn cell_new(alloc: Global, heap: &Heap, c: u32, from: u32) -> Result<Plan, Stop>
-    ensures { Tells result (row_in heap.now 0 (kind.CellNew c from)) }
+    ensures { Tells result (row_in heap.now 0 0 (kind.CellNew c from)) }
 {
     let slot = pointer_in(from, held(heap, from)?)?;
     absent_cell(heap, c)?;
@@ -21,23 +21,24 @@ pub fn cell_new(alloc: Global, heap: &Heap, c: u32, from: u32) -> Result<Plan, S
 }
 
 /// `atomic<shared_ptr<T>>::load`
-pub fn cell_load(alloc: Global, heap: &Heap, c: u32, to: u32) -> Result<Plan, Stop>
-    ensures { Tells result (row_in heap.now 0 (kind.CellLoad c to)) }
+pub fn cell_load(alloc: Global, heap: &Heap, label: u32, c: u32, to: u32) -> Result<Plan, Stop>
+    ensures { Tells result (row_in heap.now label 0 (kind.CellLoad c to)) }
 {
     let slot = in_cell(heap, c)?;
     unheld(heap, to)?;
-    Ok(Plan::hold(alloc, Answer::Done, to, slot, slot.object())?)
+    Ok(Plan::hold(alloc, label, Answer::Done, to, slot, slot.object())?)
 }
 
 /// `atomic<shared_ptr<T>>::exchange`, or `store` where there is no `to`
 pub fn cell_swap(
     alloc: Global,
     heap: &Heap,
+    label: u32,
     c: u32,
     from: u32,
     to: Option<u32>,
 ) -> Result<Plan, Stop>
-    ensures { Tells result (row_in heap.now 0 (kind.CellSwap c from to)) }
+    ensures { Tells result (row_in heap.now label 0 (kind.CellSwap c from to)) }
 {
     let old = in_cell(heap, c)?;
     let slot = pointer_in(from, held(heap, from)?)?;
@@ -52,7 +53,7 @@ pub fn cell_swap(
             let changes = vec![in alloc;
                 Change::EndHandle(from),
                 Change::SetCell(c, slot),
-                Change::SetHandle(to, Holding::Slot(old)),
+                Change::SetHandle(label, to, Holding::Slot(old)),
             ]?;
             Ok(Plan::act(Answer::Done, changes, Vec::new(alloc), slot.object()))
         }
@@ -63,11 +64,12 @@ pub fn cell_swap(
 pub fn cell_cas(
     alloc: Global,
     heap: &Heap,
+    label: u32,
     c: u32,
     expected: u32,
     desired: u32,
 ) -> Result<Plan, Stop>
-    ensures { Tells result (row_in heap.now 0 (kind.CellCas c expected desired)) }
+    ensures { Tells result (row_in heap.now label 0 (kind.CellCas c expected desired)) }
 {
     let old = in_cell(heap, c)?;
     let expected_held = held(heap, expected)?;
@@ -81,7 +83,7 @@ pub fn cell_cas(
         return Ok(Plan::act(Answer::Yes, changes, pending, slot.object()));
     }
     let changes = vec![in alloc;
-        Change::SetHandle(expected, Holding::Slot(old)),
+        Change::SetHandle(label, expected, Holding::Slot(old)),
         Change::EndHandle(desired),
     ]?;
     let pending = vec![in alloc; Item::Slot(guess), Item::Slot(slot)]?;
@@ -90,7 +92,7 @@ pub fn cell_cas(
 
 /// `atomic<shared_ptr<T>>`'s destructor
 pub fn cell_drop(alloc: Global, heap: &Heap, c: u32) -> Result<Plan, Stop>
-    ensures { Tells result (row_in heap.now 0 (kind.CellDrop c)) }
+    ensures { Tells result (row_in heap.now 0 0 (kind.CellDrop c)) }
 {
     let slot = in_cell(heap, c)?;
     let changes = vec![in alloc; Change::EndCell(c)]?;

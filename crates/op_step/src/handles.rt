@@ -13,17 +13,17 @@ use trace_types::outcomes::Answer;
 use trace_types::slots::{Change, Holding, Item, Slot};
 
 /// `Arc::clone`, `Weak::clone`
-pub fn clone(alloc: Global, heap: &Heap, from: u32, to: u32) -> Result<Plan, Stop>
-    ensures { Tells result (row_in heap.now 0 (kind.Clone from to)) }
+pub fn clone(alloc: Global, heap: &Heap, label: u32, from: u32, to: u32) -> Result<Plan, Stop>
+    ensures { Tells result (row_in heap.now label 0 (kind.Clone from to)) }
 {
     let slot = slot_in(from, held(heap, from)?)?;
     unheld(heap, to)?;
-    Ok(Plan::hold(alloc, Answer::Done, to, slot, slot.object())?)
+    Ok(Plan::hold(alloc, label, Answer::Done, to, slot, slot.object())?)
 }
 
 /// `drop`
 pub fn drop(alloc: Global, heap: &Heap, h: u32) -> Result<Plan, Stop>
-    ensures { Tells result (row_in heap.now 0 (kind.Drop h)) }
+    ensures { Tells result (row_in heap.now 0 0 (kind.Drop h)) }
 {
     let held = held(heap, h)?;
     let changes = vec![in alloc; Change::EndHandle(h)]?;
@@ -40,31 +40,38 @@ pub fn drop(alloc: Global, heap: &Heap, h: u32) -> Result<Plan, Stop>
 }
 
 /// `Arc::downgrade`
-pub fn downgrade(alloc: Global, heap: &Heap, from: u32, to: u32) -> Result<Plan, Stop>
-    ensures { Tells result (row_in heap.now 0 (kind.Downgrade from to)) }
+pub fn downgrade(alloc: Global, heap: &Heap, label: u32, from: u32, to: u32) -> Result<Plan, Stop>
+    ensures { Tells result (row_in heap.now label 0 (kind.Downgrade from to)) }
 {
     let object = strong_in(from, held(heap, from)?)?;
     unheld(heap, to)?;
-    Ok(Plan::hold(alloc, Answer::Done, to, Slot::Weak(object), Some(object))?)
+    Ok(Plan::hold(
+        alloc,
+        label,
+        Answer::Done,
+        to,
+        Slot::Weak(object),
+        Some(object),
+    )?)
 }
 
 /// `Weak::upgrade`
-pub fn upgrade(alloc: Global, heap: &Heap, from: u32, to: u32) -> Result<Plan, Stop>
-    ensures { Tells result (row_in heap.now 0 (kind.Upgrade from to)) }
+pub fn upgrade(alloc: Global, heap: &Heap, label: u32, from: u32, to: u32) -> Result<Plan, Stop>
+    ensures { Tells result (row_in heap.now label 0 (kind.Upgrade from to)) }
 {
     let object = weak_in(from, held(heap, from)?)?;
     unheld(heap, to)?;
     match object {
         Some(named) if is_alive(heap, named) => {
-            Ok(Plan::hold(alloc, Answer::Yes, to, Slot::Strong(named), object)?)
+            Ok(Plan::hold(alloc, label, Answer::Yes, to, Slot::Strong(named), object)?)
         }
-        _ => Ok(Plan::hold(alloc, Answer::No, to, Slot::Nothing, object)?),
+        _ => Ok(Plan::hold(alloc, label, Answer::No, to, Slot::Nothing, object)?),
     }
 }
 
 /// `Arc::strong_count` and `Arc::weak_count`, or those of `Weak`
 pub fn counts(alloc: Global, heap: &Heap, h: u32) -> Result<Plan, Stop>
-    ensures { Tells result (row_in heap.now 0 (kind.Counts h)) }
+    ensures { Tells result (row_in heap.now 0 0 (kind.Counts h)) }
 {
     let object = counted_in(h, held(heap, h)?)?;
     Ok(Plan::say(alloc, Answer::Done, object))
@@ -72,7 +79,7 @@ pub fn counts(alloc: Global, heap: &Heap, h: u32) -> Result<Plan, Stop>
 
 /// `Arc::ptr_eq`
 pub fn ptr_eq(alloc: Global, heap: &Heap, a: u32, b: u32) -> Result<Plan, Stop>
-    ensures { Tells result (row_in heap.now 0 (kind.PtrEq a b)) }
+    ensures { Tells result (row_in heap.now 0 0 (kind.PtrEq a b)) }
 {
     let one = held(heap, a)?;
     let other = held(heap, b)?;

@@ -11,6 +11,7 @@ pub mod meter;
 mod names;
 pub mod replay;
 mod rows;
+mod scope;
 mod unique;
 mod wants;
 

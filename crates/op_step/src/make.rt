@@ -19,44 +19,58 @@ use trace_types::sequence::Sequence;
 use trace_types::slots::{Change, Holding, Slot};
 
 /// `Arc::new`, `Arc::new_cyclic`
-pub fn new(alloc: Global, heap: &Heap, id: u32, to: u32, fields: &[Field]) -> Result<Plan, Stop>
-    ensures { Tells result (new_row id to (elements_of heap.now fields.now) (get heap.now.handles to)) }
+pub fn new(
+    alloc: Global,
+    heap: &Heap,
+    label: u32,
+    id: u32,
+    to: u32,
+    fields: &[Field],
+) -> Result<Plan, Stop>
+    ensures { Tells result (new_row label id to (elements_of heap.now fields.now) (get heap.now.handles to)) }
 {
     all_held(heap, fields)?;
     all_slots(heap, fields)?;
     unheld(heap, to)?;
-    let changes = making(alloc, heap, id, fields, to)?;
+    let changes = making(alloc, heap, label, id, fields, to)?;
     Ok(Plan::act(Answer::Made, changes, Vec::new(alloc), Some(id)))
 }
 
 /// `Arc::new` of a value that was moved out of another `Arc`
-pub fn new_from(alloc: Global, heap: &Heap, id: u32, from: u32, to: u32) -> Result<Plan, Stop>
-    ensures { Tells result (row_in heap.now id (kind.NewFrom from to)) }
+pub fn new_from(
+    alloc: Global,
+    heap: &Heap,
+    label: u32,
+    id: u32,
+    from: u32,
+    to: u32,
+) -> Result<Plan, Stop>
+    ensures { Tells result (row_in heap.now label id (kind.NewFrom from to)) }
 {
     let fields = bare_in(from, held(heap, from)?)?;
     unheld(heap, to)?;
     let changes = vec![in alloc;
         Change::EndHandle(from),
         Change::Make(id, copy_fields(alloc, fields)?),
-        Change::SetHandle(to, Holding::Slot(Slot::Strong(id))),
+        Change::SetHandle(label, to, Holding::Slot(Slot::Strong(id))),
     ]?;
     Ok(Plan::act(Answer::Made, changes, Vec::new(alloc), Some(id)))
 }
 
 /// `Weak::new`
-pub fn weak_new(alloc: Global, heap: &Heap, to: u32) -> Result<Plan, Stop>
-    ensures { Tells result (row_in heap.now 0 (kind.WeakNew to)) }
+pub fn weak_new(alloc: Global, heap: &Heap, label: u32, to: u32) -> Result<Plan, Stop>
+    ensures { Tells result (row_in heap.now label 0 (kind.WeakNew to)) }
 {
     unheld(heap, to)?;
-    Ok(Plan::hold(alloc, Answer::Done, to, Slot::Dangling, None)?)
+    Ok(Plan::hold(alloc, label, Answer::Done, to, Slot::Dangling, None)?)
 }
 
 /// An empty pointer.
-pub fn null(alloc: Global, heap: &Heap, to: u32) -> Result<Plan, Stop>
-    ensures { Tells result (row_in heap.now 0 (kind.Null to)) }
+pub fn null(alloc: Global, heap: &Heap, label: u32, to: u32) -> Result<Plan, Stop>
+    ensures { Tells result (row_in heap.now label 0 (kind.Null to)) }
 {
     unheld(heap, to)?;
-    Ok(Plan::hold(alloc, Answer::Done, to, Slot::Nothing, None)?)
+    Ok(Plan::hold(alloc, label, Answer::Done, to, Slot::Nothing, None)?)
 }
 
 // What the handles hold, in order.
@@ -92,11 +106,12 @@ fn slot_of(heap: &Heap, h: u32) -> Slot
 fn making(
     alloc: Global,
     heap: &Heap,
+    label: u32,
     id: u32,
     fields: &[Field],
     to: u32,
 ) -> Result<Vec<Change>, AllocError>
-    ensures { IfOk result (λ v. let es = elements_of heap.now fields.now in v.items ≡ ending es (Table.make id (Table.made_fields id es) to)) }
+    ensures { IfOk result (λ v. let es = elements_of heap.now fields.now in v.items ≡ ending es (Table.make label id (Table.made_fields id es) to)) }
 {
     let made = made_fields(alloc, heap, id, fields)?;
     let mut changes = Vec::new(alloc);
@@ -105,6 +120,6 @@ fn making(
             changes.push(Change::EndHandle(*h))?;
         }
     }
-    push_make(&mut changes, id, Sequence::from_vec(made), to)?;
+    push_make(&mut changes, label, id, Sequence::from_vec(made), to)?;
     Ok(changes)
 }

@@ -40,7 +40,8 @@ pub fn repeated(kind: &Kind) -> Option<u32>
         | Kind::PtrEq { a: _, b: _ }
         | Kind::CellNew { c: _, from: _ }
         | Kind::CellLoad { c: _, to: _ }
-        | Kind::CellDrop { c: _ } => None,
+        | Kind::CellDrop { c: _ }
+        | Kind::ScopeEnd => None,
     }
 }
 

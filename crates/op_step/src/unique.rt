@@ -19,32 +19,32 @@ use trace_types::outcomes::{Answer, Event};
 use trace_types::slots::{Change, Holding, Item, Slot};
 
 /// `Arc::try_unwrap`
-pub fn try_unwrap(alloc: Global, heap: &Heap, h: u32) -> Result<Plan, Stop>
-    ensures { Tells result (row_in heap.now 0 (kind.TryUnwrap h)) }
+pub fn try_unwrap(alloc: Global, heap: &Heap, label: u32, h: u32) -> Result<Plan, Stop>
+    ensures { Tells result (row_in heap.now label 0 (kind.TryUnwrap h)) }
 {
     let object = strong_in(h, held(heap, h)?)?;
     if heap.strong(object) != 1 {
         return Ok(Plan::say(alloc, Answer::No, Some(object)));
     }
-    Ok(unwrapped(alloc, h, object, fields_of(heap, object))?)
+    Ok(unwrapped(alloc, label, h, object, fields_of(heap, object))?)
 }
 
 /// `Arc::into_inner`
-pub fn into_inner(alloc: Global, heap: &Heap, h: u32) -> Result<Plan, Stop>
-    ensures { Tells result (row_in heap.now 0 (kind.IntoInner h)) }
+pub fn into_inner(alloc: Global, heap: &Heap, label: u32, h: u32) -> Result<Plan, Stop>
+    ensures { Tells result (row_in heap.now label 0 (kind.IntoInner h)) }
 {
     let object = strong_in(h, held(heap, h)?)?;
     if heap.strong(object) != 1 {
-        let changes = vec![in alloc; Change::SetHandle(h, Holding::Slot(Slot::Nothing))]?;
+        let changes = vec![in alloc; Change::SetHandle(label, h, Holding::Slot(Slot::Nothing))]?;
         let pending = vec![in alloc; Item::Slot(Slot::Strong(object))]?;
         return Ok(Plan::act(Answer::No, changes, pending, Some(object)));
     }
-    Ok(unwrapped(alloc, h, object, fields_of(heap, object))?)
+    Ok(unwrapped(alloc, label, h, object, fields_of(heap, object))?)
 }
 
 /// `Arc::get_mut`
 pub fn get_mut(alloc: Global, heap: &Heap, h: u32) -> Result<Plan, Stop>
-    ensures { Tells result (row_in heap.now 0 (kind.GetMut h)) }
+    ensures { Tells result (row_in heap.now 0 0 (kind.GetMut h)) }
 {
     let object = strong_in(h, held(heap, h)?)?;
     let is_only = heap.strong(object) == 1 && heap.weak(object) == 0;
@@ -52,39 +52,53 @@ pub fn get_mut(alloc: Global, heap: &Heap, h: u32) -> Result<Plan, Stop>
 }
 
 /// `Arc::make_mut`
-pub fn make_mut(alloc: Global, heap: &Heap, id: u32, h: u32) -> Result<Plan, Stop>
-    ensures { Tells result (row_in heap.now id (kind.MakeMut h)) }
+pub fn make_mut(alloc: Global, heap: &Heap, label: u32, id: u32, h: u32) -> Result<Plan, Stop>
+    ensures { Tells result (row_in heap.now label id (kind.MakeMut h)) }
 {
     let object = strong_in(h, held(heap, h)?)?;
     if heap.strong(object) != 1 {
-        return Ok(cloned(alloc, id, h, object, fields_of(heap, object))?);
+        return Ok(cloned(alloc, label, id, h, object, fields_of(heap, object))?);
     }
     if heap.weak(object) != 0 {
-        return Ok(moved(alloc, id, h, object, fields_of(heap, object))?);
+        return Ok(moved(alloc, label, id, h, object, fields_of(heap, object))?);
     }
     Ok(Plan::say(alloc, Answer::Unique, Some(object)))
 }
 
 // No other Arc is there, and the value moves away from the Weaks.
-fn moved(alloc: Global, id: u32, h: u32, object: u32, fields: &[Slot]) -> Result<Plan, AllocError>
-    ensures { IfOk result (λ p. p ≡ Act Answer.Moved (TurnHusk object ∷ Table.make id fields.now h) (Some (Event.Moved object)) [] (Some id)) }
+fn moved(
+    alloc: Global,
+    label: u32,
+    id: u32,
+    h: u32,
+    object: u32,
+    fields: &[Slot],
+) -> Result<Plan, AllocError>
+    ensures { IfOk result (λ p. p ≡ Act Answer.Moved (TurnHusk object ∷ Table.make label id fields.now h) (Some (Event.Moved object)) [] (Some id)) }
 {
     let changes = vec![in alloc;
         Change::TurnHusk(object),
         Change::Make(id, copy_fields(alloc, fields)?),
-        Change::SetHandle(h, Holding::Slot(Slot::Strong(id))),
+        Change::SetHandle(label, h, Holding::Slot(Slot::Strong(id))),
     ]?;
     let event = Event::Moved(object);
     Ok(Plan::act_naming(Answer::Moved, changes, event, Vec::new(alloc), id))
 }
 
 // The other Arcs keep the value, and the handle gets its own.
-fn cloned(alloc: Global, id: u32, h: u32, object: u32, fields: &[Slot]) -> Result<Plan, AllocError>
-    ensures { IfOk result (λ p. p ≡ Table.act Answer.Cloned (Table.make id fields.now h) (item.Slot (Strong object) ∷ []) (Some id)) }
+fn cloned(
+    alloc: Global,
+    label: u32,
+    id: u32,
+    h: u32,
+    object: u32,
+    fields: &[Slot],
+) -> Result<Plan, AllocError>
+    ensures { IfOk result (λ p. p ≡ Table.act Answer.Cloned (Table.make label id fields.now h) (item.Slot (Strong object) ∷ []) (Some id)) }
 {
     let changes = vec![in alloc;
         Change::Make(id, copy_fields(alloc, fields)?),
-        Change::SetHandle(h, Holding::Slot(Slot::Strong(id))),
+        Change::SetHandle(label, h, Holding::Slot(Slot::Strong(id))),
     ]?;
     let pending = vec![in alloc; Item::Slot(Slot::Strong(object))]?;
     Ok(Plan::act(Answer::Cloned, changes, pending, Some(id)))

@@ -20,7 +20,7 @@ use Rattle.trace_types.specs.declared.outcomes.Answer.{Answer}
 use Rattle.trace_types.specs.declared.outcomes.Answer.TheVariants as answer
 use Rattle.ownership_model.specs.declared.plan.Plan.{Plan}
 use Rattle.ownership_model.specs.declared.plan.Plan.TheVariants.{Skip, Act}
-use Rattle.ownership_model.specs.State.{State, strong, weak, weight, holding_weight, entry_weight, slots_weight, names_alike, IsPointer, HoldPointers, AreCountsSound, IsSound, IsSoundAt, is_alive}
+use Rattle.ownership_model.specs.State.{State, strong, weak, weight, holding_weight, entry_weight, slots_weight, names_alike, IsPointer, HoldPointers, AreCountsSound, IsScoped, IsSound, IsSoundAt, is_alive}
 use Rattle.ownership_model.specs.Release.{drops}
 use Rattle.ownership_model.specs.Changes.{changed, changed_by, CanChange, HasField, with_field}
 use Rattle.ownership_model.specs.Carry.{IsCarriable}
@@ -29,6 +29,8 @@ use Rattle.ownership_model.specs.Step.{step, carried_out, end_from, AreNew}
 use Rattle.trace_types.specs.Operation.{Operation}
 use Rattle.ownership_model.proofs.DropLemmas.{sound-release}
 use Rattle.ownership_model.proofs.EndingLemmas.{CountsCarriable, new_carriable}
+use Rattle.ownership_model.proofs.ScopeLemmas.{changed_scoped}
+use Rattle.ownership_model.proofs.ScopeEndLemmas.{scope_end_carriable}
 use Rattle.ownership_model.specs.Table.{row, row_of, upgraded, unwrapped, made_unique, dropped, swapped, exchanged, set_field, take_field, copy_field, write_field, fields_of, same_pointer, make, act}
 use Rattle.ownership_model.proofs.WalkLemmas as walk
 use Rattle.ownership_model.proofs.MapLemmas.{get_inserted, get_removed}
@@ -38,7 +40,7 @@ use Rattle.ownership_model.proofs.GroupLemmas.{copies_sound, moves_sound, makes_
 there : {X : Type 0} (x : Option X) (y : X) → x ≡ Some y → IsSome x
 there x y is = subst (λ z. IsSome z) (sym is) refl
 
-module _ (m : State) (sound : AreCountsSound m []) where
+module _ (m : State) (label : ℕ) (sound : AreCountsSound m []) (scoped : IsScoped m.handles m.scopes) where
   abbrev P : Plan → Type 0
   P p = CountsCarriable m p
 
@@ -81,10 +83,10 @@ module _ (m : State) (sound : AreCountsSound m []) where
   held_strong h o is = omega (arith, held_within (names_alike (Strong o)) m h (holding.Slot (Strong o)) is, self_strong o)
 
   -- a handle that is free gets a slot
-  add_carriable : (to : ℕ) (s : Slot) (a : Answer) (o : Option ℕ) → get m.handles to ≡ None → Stands s → P (act a (SetHandle to (holding.Slot s) ∷ []) [] o)
+  add_carriable : (to : ℕ) (s : Slot) (a : Answer) (o : Option ℕ) → get m.handles to ≡ None → Stands s → P (act a (SetHandle label to (holding.Slot s) ∷ []) [] o)
   add_carriable to s a o free c = (
     (tt, tt),
-    copies_sound m (changed m (SetHandle to (holding.Slot s) ∷ [])) [] sound (λ t. names_alike t s)
+    copies_sound m (changed m (SetHandle label to (holding.Slot s) ∷ [])) [] sound (λ t. names_alike t s)
         (λ t. omega (arith, total-set (holding_weight (names_alike t)) m.handles to (holding.Slot s) None free)) c.strongly c.weakly (λ q. refl) (λ q. refl),
   )
 
@@ -96,7 +98,7 @@ module _ (m : State) (sound : AreCountsSound m []) where
   alive_strong s w e (Some (Alive fields)) h is = h.0
   alive_strong s w e (Some Husk) h is = absurd cc
 
-  upgraded_carriable : (to o : ℕ) → get m.handles to ≡ None → P (upgraded to (get m.objects o) (Some o))
+  upgraded_carriable : (to o : ℕ) → get m.handles to ≡ None → P (upgraded label to (get m.objects o) (Some o))
   upgraded_carriable to o free =
       walk.at_test P (λ _. tt) (is_alive (get m.objects o)) _ _
       (λ t. add_carriable to (Strong o) answer.Yes (Some o) free (strong_stands o (alive_strong (strong m [] o) (weak m [] o) 0 (get m.objects o) (sound o) t)))
@@ -129,12 +131,12 @@ module _ (m : State) (sound : AreCountsSound m []) where
         (λ t. omega (arith, total-cut (holding_weight (names_alike t)) m.handles from (Some (holding.Slot s)) is, total-set (names_alike t) m.cells c s (Some old) had)) (λ q. refl) (λ q. refl),
   )
 
-  swapped_carriable : (c from : ℕ) (to : Option ℕ) (it : Option Holding) (old s : Slot) → ((k : ℕ) → to ≡ Some k → it ≡ get m.handles k) → get m.cells c ≡ Some old → get m.handles from ≡ Some (holding.Slot s) → IsPointer s → P (swapped c from to it old s)
+  swapped_carriable : (c from : ℕ) (to : Option ℕ) (it : Option Holding) (old s : Slot) → ((k : ℕ) → to ≡ Some k → it ≡ get m.handles k) → get m.cells c ≡ Some old → get m.handles from ≡ Some (holding.Slot s) → IsPointer s → P (swapped label c from to it old s)
   swapped_carriable c from None it old s at had is pointer = store_carriable c from answer.Done old s had is pointer
   swapped_carriable c from (Some to) it old s at had is pointer = walk.at_unheld P (λ _. tt) to it _ (λ none.
       let free : get m.handles to ≡ None = sym (at to refl) ∙ none in (
         (there _ _ is, (pointer, (tt, tt))),
-        moves_sound m (changed m (EndHandle from ∷ SetCell c s ∷ SetHandle to (holding.Slot old) ∷ [])) [] sound
+        moves_sound m (changed m (EndHandle from ∷ SetCell c s ∷ SetHandle label to (holding.Slot old) ∷ [])) [] sound
             (λ t. omega (
               arith,
               total-cut (holding_weight (names_alike t)) m.handles from (Some (holding.Slot s)) is,
@@ -143,7 +145,7 @@ module _ (m : State) (sound : AreCountsSound m []) where
             )) (λ q. refl) (λ q. refl),
       ))
 
-  exchanged_carriable : (c expected desired : ℕ) (old e d : Slot) → (expected == desired) ≡ false → get m.cells c ≡ Some old → get m.handles expected ≡ Some (holding.Slot e) → get m.handles desired ≡ Some (holding.Slot d) → IsPointer d → P (exchanged c expected desired old e d)
+  exchanged_carriable : (c expected desired : ℕ) (old e d : Slot) → (expected == desired) ≡ false → get m.cells c ≡ Some old → get m.handles expected ≡ Some (holding.Slot e) → get m.handles desired ≡ Some (holding.Slot d) → IsPointer d → P (exchanged label c expected desired old e d)
   exchanged_carriable c expected desired old e d apart had is is_too pointer =
       walk.at_test P (λ _. tt) (same_pointer old e) _ _
       (λ _. store_carriable c desired answer.Yes old d had is_too pointer)
@@ -151,7 +153,7 @@ module _ (m : State) (sound : AreCountsSound m []) where
       let still : get (insert m.handles expected (holding.Slot old)) desired ≡ Some (holding.Slot d) = get_set_other m.handles expected (holding.Slot old) desired apart ∙ is_too in
       let c : Stands old = cell_stands c old had in (
         (tt, (there _ _ still, tt)),
-        copies_sound m (changed m (SetHandle expected (holding.Slot old) ∷ EndHandle desired ∷ [])) (item.Slot e ∷ item.Slot d ∷ []) sound (λ t. names_alike t old)
+        copies_sound m (changed m (SetHandle label expected (holding.Slot old) ∷ EndHandle desired ∷ [])) (item.Slot e ∷ item.Slot d ∷ []) sound (λ t. names_alike t old)
             (λ t. omega (arith, total-set (holding_weight (names_alike t)) m.handles expected (holding.Slot old) (Some (holding.Slot e)) is, total-cut (holding_weight (names_alike t)) (insert m.handles expected (holding.Slot old)) desired (Some (holding.Slot d)) still))
             c.strongly c.weakly (λ q. refl) (λ q. refl),
       ))
@@ -159,10 +161,10 @@ module _ (m : State) (sound : AreCountsSound m []) where
   cell_drop_carriable : (c : ℕ) (s : Slot) → get m.cells c ≡ Some s → P (act answer.Done (EndCell c ∷ []) (item.Slot s ∷ []) (named_by s))
   cell_drop_carriable c s is = ((there _ _ is, tt), moves_sound m (changed m (EndCell c ∷ [])) (item.Slot s ∷ []) sound (λ t. omega (arith, total-cut (names_alike t) m.cells c (Some s) is)) (λ q. refl) (λ q. refl))
 
-  not_unwrapped_carriable : (h o : ℕ) → get m.handles h ≡ Some (holding.Slot (Strong o)) → P (act answer.No (SetHandle h (holding.Slot Nothing) ∷ []) (item.Slot (Strong o) ∷ []) (Some o))
+  not_unwrapped_carriable : (h o : ℕ) → get m.handles h ≡ Some (holding.Slot (Strong o)) → P (act answer.No (SetHandle label h (holding.Slot Nothing) ∷ []) (item.Slot (Strong o) ∷ []) (Some o))
   not_unwrapped_carriable h o is = (
     (tt, tt),
-    moves_sound m (changed m (SetHandle h (holding.Slot Nothing) ∷ [])) (item.Slot (Strong o) ∷ []) sound
+    moves_sound m (changed m (SetHandle label h (holding.Slot Nothing) ∷ [])) (item.Slot (Strong o) ∷ []) sound
         (λ t. omega (arith, nothing_hit t, total-set (holding_weight (names_alike t)) m.handles h (holding.Slot Nothing) (Some (holding.Slot (Strong o))) is)) (λ q. refl) (λ q. refl),
   )
     where
@@ -178,12 +180,12 @@ module _ (m : State) (sound : AreCountsSound m []) where
   is_alive_at : (o : ℕ) (fields : List Slot) → get m.objects o ≡ Some (Alive fields) → IsTrue (is_alive (get m.objects o))
   is_alive_at o fields is = ap is_alive is
 
-  unwrapped_carriable : (h o : ℕ) (e : Option Entry) → get m.objects o ≡ e → get m.handles h ≡ Some (holding.Slot (Strong o)) → strong m [] o ≡ 1 → P (unwrapped h o (fields_of e))
+  unwrapped_carriable : (h o : ℕ) (e : Option Entry) → get m.objects o ≡ e → get m.handles h ≡ Some (holding.Slot (Strong o)) → strong m [] o ≡ 1 → P (unwrapped label h o (fields_of e))
   unwrapped_carriable h o None is hold one = absurd (let a : IsSoundAt (strong m [] o) (weak m [] o) 0 None = here o None is in omega (arith, a.0, one))
   unwrapped_carriable h o (Some Husk) is hold one = absurd (let a : IsSoundAt (strong m [] o) (weak m [] o) 0 (Some Husk) = here o (Some Husk) is in omega (arith, a.0, one))
   unwrapped_carriable h o (Some (Alive fields)) is hold one = (
     (is_alive_at o fields is, (tt, tt)),
-    turns_sound m (changed m (TurnHusk o ∷ SetHandle h (holding.Bare fields) ∷ [])) (item.End o ∷ []) sound o one
+    turns_sound m (changed m (TurnHusk o ∷ SetHandle label h (holding.Bare fields) ∷ [])) (item.End o ∷ []) sound o one
         (λ t. omega (arith, total-set (entry_weight (names_alike t)) m.objects o Husk (Some (Alive fields)) is, total-set (holding_weight (names_alike t)) m.handles h (holding.Bare fields) (Some (holding.Slot (Strong o))) hold))
         (λ q. omega arith) (λ q. get_inserted m.objects o Husk q),
   )
@@ -195,7 +197,7 @@ module _ (m : State) (sound : AreCountsSound m []) where
   shape_made : (id : ℕ) (fields : List Slot) (q : ℕ) → shape (get (insert m.objects id (Alive fields)) q) ≡ (if id == q then 1 else shape (get m.objects q))
   shape_made id fields q = ap shape (get_inserted m.objects id (Alive fields) q) ∙ made_shape id q fields (get m.objects q) (id == q)
 
-  unique_carriable : (id h o : ℕ) (e : Option Entry) → get m.objects id ≡ None → get m.objects o ≡ e → get m.handles h ≡ Some (holding.Slot (Strong o)) → P (made_unique id h o (record { entry = e; strong = strong m [] o; weak = weak m [] o }))
+  unique_carriable : (id h o : ℕ) (e : Option Entry) → get m.objects id ≡ None → get m.objects o ≡ e → get m.handles h ≡ Some (holding.Slot (Strong o)) → P (made_unique label id h o (record { entry = e; strong = strong m [] o; weak = weak m [] o }))
   unique_carriable id h o None new is hold = absurd (let a : IsSoundAt (strong m [] o) (weak m [] o) 0 None = here o None is in omega (arith, a.0, held_strong h o hold))
   unique_carriable id h o (Some Husk) new is hold = absurd (let a : IsSoundAt (strong m [] o) (weak m [] o) 0 (Some Husk) = here o (Some Husk) is in omega (arith, a.0, held_strong h o hold))
   unique_carriable id h o (Some (Alive fields)) new is hold =
@@ -206,7 +208,7 @@ module _ (m : State) (sound : AreCountsSound m []) where
       (λ some.
       let free : get (insert m.objects o Husk) id ≡ None = get_set_other m.objects o Husk id apart ∙ new in (
         (is_alive_at o fields is, (free, (tt, tt))),
-        value_moves_sound m (changed m (TurnHusk o ∷ make id fields h)) [] sound o id fields apart (same_number (strong m [] o) 1 one) (positive (weak m [] o) some)
+        value_moves_sound m (changed m (TurnHusk o ∷ make label id fields h)) [] sound o id fields apart (same_number (strong m [] o) 1 one) (positive (weak m [] o) some)
             (λ t. omega (
               arith,
               total-set (entry_weight (names_alike t)) m.objects o Husk (Some (Alive fields)) is,
@@ -218,15 +220,15 @@ module _ (m : State) (sound : AreCountsSound m []) where
       )))
       (λ _. (
         (new, (tt, tt)),
-        makes_sound m (changed m (make id fields h)) (item.Slot (Strong o) ∷ []) sound id (λ t. slots_weight (names_alike t) fields)
+        makes_sound m (changed m (make label id fields h)) (item.Slot (Strong o) ∷ []) sound id (λ t. slots_weight (names_alike t) fields)
             (λ t. omega (arith, total-set (entry_weight (names_alike t)) m.objects id (Alive fields) None new, total-set (holding_weight (names_alike t)) m.handles h (holding.Slot (Strong id)) (Some (holding.Slot (Strong o))) hold))
             (λ q _ p. omega (arith, p, fields_within (names_alike (Strong q)) m o fields is)) (λ q _ p. omega (arith, p, fields_within (names_alike (Weak q)) m o fields is)) (λ q. refl) (shape_made id fields),
       ))
 
-  new_from_carriable : (id from to : ℕ) (fields : List Slot) → get m.objects id ≡ None → get m.handles from ≡ Some (holding.Bare fields) → get m.handles to ≡ None → P (act answer.Made (EndHandle from ∷ make id fields to) [] (Some id))
+  new_from_carriable : (id from to : ℕ) (fields : List Slot) → get m.objects id ≡ None → get m.handles from ≡ Some (holding.Bare fields) → get m.handles to ≡ None → P (act answer.Made (EndHandle from ∷ make label id fields to) [] (Some id))
   new_from_carriable id from to fields new is free = (
     (there _ _ is, (new, (tt, tt))),
-    makes_sound m (changed m (EndHandle from ∷ make id fields to)) [] sound id (λ _. 0)
+    makes_sound m (changed m (EndHandle from ∷ make label id fields to)) [] sound id (λ _. 0)
         (λ t. omega (
           arith,
           total-cut (holding_weight (names_alike t)) m.handles from (Some (holding.Bare fields)) is,
@@ -265,7 +267,7 @@ module _ (m : State) (sound : AreCountsSound m []) where
       omega (arith, total-set (entry_weight w) m.objects o (with_field (get m.objects o) i s) (Some (Alive fields)) is, new, slots_weight-set w fields i old s got)
 
   set_object_carriable : (h i from o : ℕ) (s old : Slot) (e : Option Entry) → get m.objects o ≡ e → get m.handles from ≡ Some (holding.Slot s) → slice_get (fields_of e) i ≡ Some old
-      → P (act answer.Done (EndHandle from ∷ write_field h (Some o) (fields_of e) i s ∷ []) (item.Slot old ∷ []) (Some o))
+      → P (act answer.Done (EndHandle from ∷ write_field label h (Some o) (fields_of e) i s ∷ []) (item.Slot old ∷ []) (Some o))
   set_object_carriable h i from o s old None at is got = absurd cc
   set_object_carriable h i from o s old (Some Husk) at is got = absurd cc
   set_object_carriable h i from o s old (Some (Alive fields)) at is got = (
@@ -284,40 +286,40 @@ module _ (m : State) (sound : AreCountsSound m []) where
   turned_apart a b f = grind (arith, nat_tests, f)
 
   set_bare_carriable : (h i from : ℕ) (s old : Slot) (fields : List Slot) → get m.handles h ≡ Some (holding.Bare fields) → get m.handles from ≡ Some (holding.Slot s) → slice_get fields i ≡ Some old
-      → P (act answer.Done (EndHandle from ∷ write_field h None fields i s ∷ []) (item.Slot old ∷ []) None)
+      → P (act answer.Done (EndHandle from ∷ write_field label h None fields i s ∷ []) (item.Slot old ∷ []) None)
   set_bare_carriable h i from s old fields bare is got =
       let still : get (remove m.handles from) h ≡ Some (holding.Bare fields) = get_cut_other m.handles from h (apart_slot from h s fields is bare) ∙ bare in (
         (there _ _ is, (tt, tt)),
-        moves_sound m (changed m (EndHandle from ∷ SetHandle h (holding.Bare (slice_set fields i s)) ∷ [])) (item.Slot old ∷ []) sound
+        moves_sound m (changed m (EndHandle from ∷ SetHandle label h (holding.Bare (slice_set fields i s)) ∷ [])) (item.Slot old ∷ []) sound
             (λ t. omega (arith, total-cut (holding_weight (names_alike t)) m.handles from (Some (holding.Slot s)) is, total-set (holding_weight (names_alike t)) (remove m.handles from) h (holding.Bare (slice_set fields i s)) (Some (holding.Bare fields)) still, slots_weight-set (names_alike t) fields i old s got)) (λ q. refl) (λ q. refl),
       )
 
   take_object_carriable : (h i to o : ℕ) (s : Slot) (e : Option Entry) → get m.objects o ≡ e → get m.handles to ≡ None → slice_get (fields_of e) i ≡ Some s
-      → P (act answer.Done (SetHandle to (holding.Slot s) ∷ write_field h (Some o) (fields_of e) i Nothing ∷ []) [] (Some o))
+      → P (act answer.Done (SetHandle label to (holding.Slot s) ∷ write_field label h (Some o) (fields_of e) i Nothing ∷ []) [] (Some o))
   take_object_carriable h i to o s None at free got = absurd cc
   take_object_carriable h i to o s (Some Husk) at free got = absurd cc
   take_object_carriable h i to o s (Some (Alive fields)) at free got = (
     (tt, (has_field o fields i s at got, tt)),
-    moves_sound m (changed m (SetHandle to (holding.Slot s) ∷ SetField o i Nothing ∷ [])) [] sound
+    moves_sound m (changed m (SetHandle label to (holding.Slot s) ∷ SetField o i Nothing ∷ [])) [] sound
         (λ t. omega (arith, total-set (holding_weight (names_alike t)) m.handles to (holding.Slot s) None free, object_set (names_alike t) o fields i s Nothing at got, nothing_hits t)) (λ q. refl) (shape_set o fields i Nothing at),
   )
 
   take_bare_carriable : (h i to : ℕ) (s : Slot) (fields : List Slot) → get m.handles h ≡ Some (holding.Bare fields) → get m.handles to ≡ None → slice_get fields i ≡ Some s
-      → P (act answer.Done (SetHandle to (holding.Slot s) ∷ write_field h None fields i Nothing ∷ []) [] None)
+      → P (act answer.Done (SetHandle label to (holding.Slot s) ∷ write_field label h None fields i Nothing ∷ []) [] None)
   take_bare_carriable h i to s fields bare free got =
       let still : get (insert m.handles to (holding.Slot s)) h ≡ Some (holding.Bare fields) = get_set_other m.handles to (holding.Slot s) h (turned_apart h to (apart_of m.handles h to (holding.Bare fields) bare free)) ∙ bare in (
         (tt, (tt, tt)),
-        moves_sound m (changed m (SetHandle to (holding.Slot s) ∷ SetHandle h (holding.Bare (slice_set fields i Nothing)) ∷ [])) [] sound
+        moves_sound m (changed m (SetHandle label to (holding.Slot s) ∷ SetHandle label h (holding.Bare (slice_set fields i Nothing)) ∷ [])) [] sound
             (λ t. omega (arith, total-set (holding_weight (names_alike t)) m.handles to (holding.Slot s) None free, total-set (holding_weight (names_alike t)) (insert m.handles to (holding.Slot s)) h (holding.Bare (slice_set fields i Nothing)) (Some (holding.Bare fields)) still, slots_weight-set (names_alike t) fields i s Nothing got, nothing_hits t)) (λ q. refl) (λ q. refl),
       )
 
-  get_object_carriable : (i to o : ℕ) (s : Slot) (e : Option Entry) → get m.objects o ≡ e → get m.handles to ≡ None → slice_get (fields_of e) i ≡ Some s → P (act answer.Done (SetHandle to (holding.Slot s) ∷ []) [] (Some o))
+  get_object_carriable : (i to o : ℕ) (s : Slot) (e : Option Entry) → get m.objects o ≡ e → get m.handles to ≡ None → slice_get (fields_of e) i ≡ Some s → P (act answer.Done (SetHandle label to (holding.Slot s) ∷ []) [] (Some o))
   get_object_carriable i to o s None at free got = absurd cc
   get_object_carriable i to o s (Some Husk) at free got = absurd cc
   get_object_carriable i to o s (Some (Alive fields)) at free got = add_carriable to s answer.Done (Some o) free
       (counted_stands s (λ w. omega (arith, slots_weight-get w fields i s got, fields_within w m o fields at)))
 
-  get_bare_carriable : (h i to : ℕ) (s : Slot) (fields : List Slot) → get m.handles h ≡ Some (holding.Bare fields) → get m.handles to ≡ None → slice_get fields i ≡ Some s → P (act answer.Done (SetHandle to (holding.Slot s) ∷ []) [] None)
+  get_bare_carriable : (h i to : ℕ) (s : Slot) (fields : List Slot) → get m.handles h ≡ Some (holding.Bare fields) → get m.handles to ≡ None → slice_get fields i ≡ Some s → P (act answer.Done (SetHandle label to (holding.Slot s) ∷ []) [] None)
   get_bare_carriable h i to s fields bare free got = add_carriable to s answer.Done None free
       (counted_stands s (λ w. omega (arith, slots_weight-get w fields i s got, held_within w m h (holding.Bare fields) bare)))
 
@@ -336,26 +338,26 @@ module _ (m : State) (sound : AreCountsSound m []) where
       test false e = refl
 
   set_field_carriable : (h i from : ℕ) (y : Holding) (owner : Option ℕ) (fields : List Slot) → get m.handles from ≡ Some y
-      → ((s old : Slot) → get m.handles from ≡ Some (holding.Slot s) → slice_get fields i ≡ Some old → P (act answer.Done (EndHandle from ∷ write_field h owner fields i s ∷ []) (item.Slot old ∷ []) owner)) → P (set_field h i from y owner fields)
+      → ((s old : Slot) → get m.handles from ≡ Some (holding.Slot s) → slice_get fields i ≡ Some old → P (act answer.Done (EndHandle from ∷ write_field label h owner fields i s ∷ []) (item.Slot old ∷ []) owner)) → P (set_field label h i from y owner fields)
   set_field_carriable h i from y owner fields is f =
       walk.at_slot P (λ _. tt) from y _ (λ s was. walk.at_field P (λ _. tt) i (slice_get fields i) _ (λ old got. f s old (is ∙ ap Some was) got))
 
   take_field_carriable : (h i to : ℕ) (owner : Option ℕ) (fields : List Slot)
-      → ((s : Slot) → get m.handles to ≡ None → slice_get fields i ≡ Some s → P (act answer.Done (SetHandle to (holding.Slot s) ∷ write_field h owner fields i Nothing ∷ []) [] owner)) → P (take_field h i to (get m.handles to) owner fields)
+      → ((s : Slot) → get m.handles to ≡ None → slice_get fields i ≡ Some s → P (act answer.Done (SetHandle label to (holding.Slot s) ∷ write_field label h owner fields i Nothing ∷ []) [] owner)) → P (take_field label h i to (get m.handles to) owner fields)
   take_field_carriable h i to owner fields f =
       walk.at_field P (λ _. tt) i (slice_get fields i) _ (λ s got. walk.at_unheld P (λ _. tt) to (get m.handles to) _ (λ free. f s free got))
 
   copy_field_carriable : (i to : ℕ) (owner : Option ℕ) (fields : List Slot)
-      → ((s : Slot) → get m.handles to ≡ None → slice_get fields i ≡ Some s → P (act answer.Done (SetHandle to (holding.Slot s) ∷ []) [] owner)) → P (copy_field i to (get m.handles to) owner fields)
+      → ((s : Slot) → get m.handles to ≡ None → slice_get fields i ≡ Some s → P (act answer.Done (SetHandle label to (holding.Slot s) ∷ []) [] owner)) → P (copy_field label i to (get m.handles to) owner fields)
   copy_field_carriable i to owner fields f =
       walk.at_field P (λ _. tt) i (slice_get fields i) _ (λ s got. walk.at_unheld P (λ _. tt) to (get m.handles to) _ (λ free. f s free got))
 
   at_to : (to : Option ℕ) (k : ℕ) → to ≡ Some k → held_by m to ≡ get m.handles k
   at_to to k e = ap (held_by m) e
 
-  pub row_of_carriable : (id : ℕ) (k : Kind) → get m.objects id ≡ None → repeated k ≡ None → P (row_of id k (view_of m k))
-  row_of_carriable id (kind.New to fields) new apart = new_carriable m id to fields sound new apart
-  row_of_carriable id (kind.NewCyclic to fields) new apart = new_carriable m id to fields sound new apart
+  pub row_of_carriable : (id : ℕ) (k : Kind) → get m.objects id ≡ None → repeated k ≡ None → P (row_of label id k (view_of m label k))
+  row_of_carriable id (kind.New to fields) new apart = new_carriable m label id to fields sound new apart
+  row_of_carriable id (kind.NewCyclic to fields) new apart = new_carriable m label id to fields sound new apart
   row_of_carriable id (kind.NewFrom from to) new apart =
       walk.at_held P (λ _. tt) from (get m.handles from) _ (λ x is. walk.at_bare P (λ _. tt) from x _ (λ fields was. walk.at_unheld P (λ _. tt) to (get m.handles to) _ (λ free.
       new_from_carriable id from to fields new (is ∙ ap Some was) free)))
@@ -371,38 +373,38 @@ module _ (m : State) (sound : AreCountsSound m []) where
   row_of_carriable id (kind.Upgrade from to) new apart =
       walk.at_held P (λ _. tt) from (get m.handles from) _ (λ x is. walk.at_weak P (λ _. tt) from x _
       (λ o was. walk.at_unheld P (λ _. tt) to (get m.handles to) _ (λ free.
-      subst (λ (it : Seen). P (upgraded to it.entry (Some o))) (sym (seen_weak from o x is was)) (upgraded_carriable to o free)))
+      subst (λ (it : Seen). P (upgraded label to it.entry (Some o))) (sym (seen_weak from o x is was)) (upgraded_carriable to o free)))
       (walk.at_unheld P (λ _. tt) to (get m.handles to) _ (λ free. add_carriable to Nothing answer.No None free nothing_stands)))
   row_of_carriable id (kind.TryUnwrap h) new apart =
       walk.at_held P (λ _. tt) h (get m.handles h) _ (λ x is. walk.at_strong P (λ _. tt) h x _ (λ o was.
-      subst (λ (it : Seen). P (if it.strong == 1 then unwrapped h o (fields_of it.entry) else act answer.No [] [] (Some o))) (sym (seen_is h o x is was))
+      subst (λ (it : Seen). P (if it.strong == 1 then unwrapped label h o (fields_of it.entry) else act answer.No [] [] (Some o))) (sym (seen_is h o x is was))
       (walk.at_test P (λ _. tt) (strong m [] o == 1) _ _ (λ one. unwrapped_carriable h o (get m.objects o) refl (is ∙ ap Some was) (same_number (strong m [] o) 1 one)) (λ _. idle_carriable answer.No (Some o)))))
   row_of_carriable id (kind.IntoInner h) new apart =
       walk.at_held P (λ _. tt) h (get m.handles h) _ (λ x is. walk.at_strong P (λ _. tt) h x _ (λ o was.
-      subst (λ (it : Seen). P (if it.strong == 1 then unwrapped h o (fields_of it.entry) else act answer.No (SetHandle h (holding.Slot Nothing) ∷ []) (item.Slot (Strong o) ∷ []) (Some o))) (sym (seen_is h o x is was))
+      subst (λ (it : Seen). P (if it.strong == 1 then unwrapped label h o (fields_of it.entry) else act answer.No (SetHandle label h (holding.Slot Nothing) ∷ []) (item.Slot (Strong o) ∷ []) (Some o))) (sym (seen_is h o x is was))
       (walk.at_test P (λ _. tt) (strong m [] o == 1) _ _ (λ one. unwrapped_carriable h o (get m.objects o) refl (is ∙ ap Some was) (same_number (strong m [] o) 1 one)) (λ _. not_unwrapped_carriable h o (is ∙ ap Some was)))))
   row_of_carriable id (kind.GetMut h) new apart =
       walk.at_held P (λ _. tt) h (get m.handles h) _ (λ x is. walk.at_strong P (λ _. tt) h x _ (λ o was. (tt, sound)))
   row_of_carriable id (kind.MakeMut h) new apart =
       walk.at_held P (λ _. tt) h (get m.handles h) _ (λ x is. walk.at_strong P (λ _. tt) h x _ (λ o was.
-      subst (λ (it : Seen). P (made_unique id h o it)) (sym (seen_is h o x is was)) (unique_carriable id h o (get m.objects o) new refl (is ∙ ap Some was))))
+      subst (λ (it : Seen). P (made_unique label id h o it)) (sym (seen_is h o x is was)) (unique_carriable id h o (get m.objects o) new refl (is ∙ ap Some was))))
   row_of_carriable id (kind.Counts h) new apart =
       walk.at_held P (λ _. tt) h (get m.handles h) _ (λ x is. walk.at_counted P (λ _. tt) h x _ (λ o was. idle_carriable answer.Done (Some o)) (λ o was. idle_carriable answer.Done (Some o)) (idle_carriable answer.Done None))
   row_of_carriable id (kind.PtrEq a b) new apart =
       walk.at_held P (λ _. tt) a (get m.handles a) _ (λ x is. walk.at_held P (λ _. tt) b (get m.handles b) _ (λ y is_too. walk.at_strong P (λ _. tt) a x _ (λ o was. walk.at_strong P (λ _. tt) b y _ (λ p _. (tt, sound)))))
   row_of_carriable id (kind.Set h i from) new apart =
       walk.at_held P (λ _. tt) h (get m.handles h) _ (λ x is. walk.at_held P (λ _. tt) from (get m.handles from) _ (λ y is_too. walk.at_fields P (λ _. tt) h x _ _
-      (λ o was. subst (λ (it : Seen). P (set_field h i from y (Some o) (fields_of it.entry))) (sym (seen_is h o x is was))
+      (λ o was. subst (λ (it : Seen). P (set_field label h i from y (Some o) (fields_of it.entry))) (sym (seen_is h o x is was))
       (set_field_carriable h i from y (Some o) (fields_of (get m.objects o)) is_too (λ s old slot got. set_object_carriable h i from o s old (get m.objects o) refl slot got)))
       (λ fields was. set_field_carriable h i from y None fields is_too (λ s old slot got. set_bare_carriable h i from s old fields (is ∙ ap Some was) slot got))))
   row_of_carriable id (kind.Take h i to) new apart =
       walk.at_held P (λ _. tt) h (get m.handles h) _ (λ x is. walk.at_fields P (λ _. tt) h x _ _
-      (λ o was. subst (λ (it : Seen). P (take_field h i to (get m.handles to) (Some o) (fields_of it.entry))) (sym (seen_is h o x is was))
+      (λ o was. subst (λ (it : Seen). P (take_field label h i to (get m.handles to) (Some o) (fields_of it.entry))) (sym (seen_is h o x is was))
       (take_field_carriable h i to (Some o) (fields_of (get m.objects o)) (λ s free got. take_object_carriable h i to o s (get m.objects o) refl free got)))
       (λ fields was. take_field_carriable h i to None fields (λ s free got. take_bare_carriable h i to s fields (is ∙ ap Some was) free got)))
   row_of_carriable id (kind.Get h i to) new apart =
       walk.at_held P (λ _. tt) h (get m.handles h) _ (λ x is. walk.at_fields P (λ _. tt) h x _ _
-      (λ o was. subst (λ (it : Seen). P (copy_field i to (get m.handles to) (Some o) (fields_of it.entry))) (sym (seen_is h o x is was))
+      (λ o was. subst (λ (it : Seen). P (copy_field label i to (get m.handles to) (Some o) (fields_of it.entry))) (sym (seen_is h o x is was))
       (copy_field_carriable i to (Some o) (fields_of (get m.objects o)) (λ s free got. get_object_carriable i to o s (get m.objects o) refl free got)))
       (λ fields was. copy_field_carriable i to None fields (λ s free got. get_bare_carriable h i to s fields (is ∙ ap Some was) free got)))
   row_of_carriable id (kind.CellNew c from) new apart =
@@ -418,6 +420,7 @@ module _ (m : State) (sound : AreCountsSound m []) where
       walk.at_pointer P (λ _. tt) expected x _ (λ e was _. walk.at_pointer P (λ _. tt) desired y _ (λ d was_too pointer.
       exchanged_carriable c expected desired old e d (cas_apart expected desired apart) had (is ∙ ap Some was) (is_too ∙ ap Some was_too) pointer)))))
   row_of_carriable id (kind.CellDrop c) new apart = walk.at_cell P (λ _. tt) c (get m.cells c) _ (λ s is. cell_drop_carriable c s is)
+  row_of_carriable id kind.ScopeEnd new apart = scope_end_carriable m label sound scoped
 
 some_same : (a b : Slot) → Some a ≡ Some b → a ≡ b
 some_same a b e = cc
@@ -439,7 +442,7 @@ cut_pointer cells k hold c s is =
 
 pub changed_pointers : (cs : List Change) (m : State) → CanChange m cs → HoldPointers m.cells → HoldPointers (changed m cs).cells
 changed_pointers [] m can hold = hold
-changed_pointers (SetHandle h x ∷ cs) m can hold = changed_pointers cs (changed_by m (SetHandle h x)) can.1 hold
+changed_pointers (SetHandle t h x ∷ cs) m can hold = changed_pointers cs (changed_by m (SetHandle t h x)) can.1 hold
 changed_pointers (EndHandle h ∷ cs) m can hold = changed_pointers cs (changed_by m (EndHandle h)) can.1 hold
 changed_pointers (SetCell c s ∷ cs) m can hold = changed_pointers cs (changed_by m (SetCell c s)) can.1 (put_pointer m.cells c s can.0 hold)
 changed_pointers (EndCell c ∷ cs) m can hold = changed_pointers cs (changed_by m (EndCell c)) can.1 (cut_pointer m.cells c hold)
@@ -447,14 +450,16 @@ changed_pointers (SetField o i s ∷ cs) m can hold = changed_pointers cs (chang
 changed_pointers (Make o fields ∷ cs) m can hold = changed_pointers cs (changed_by m (Make o fields)) can.1 hold
 changed_pointers (TurnHusk o ∷ cs) m can hold = changed_pointers cs (changed_by m (TurnHusk o)) can.1 hold
 
-carriable : (m : State) (p : Plan) → HoldPointers m.cells → CountsCarriable m p → IsCarriable m p
-carriable m (Skip why) hold c = tt
-carriable m (Act answer changes event pending object) hold c = (c.0, record { counts = c.1; cells = changed_pointers changes m c.0 hold })
+carriable : (m : State) (p : Plan) → HoldPointers m.cells → IsScoped m.handles m.scopes → CountsCarriable m p → IsCarriable m p
+carriable m (Skip why) hold scoped c = tt
+carriable m (Act answer changes event pending object) hold scoped c =
+    (c.0, record { counts = c.1; cells = changed_pointers changes m c.0 hold; scopes = changed_scoped changes m scoped })
 
 -- each row can be carried out
-pub row_carriable : (m : State) (op : Operation) → IsSound m [] → get m.objects op.id ≡ None → IsCarriable m (row op (view_of m op.kind))
+pub row_carriable : (m : State) (op : Operation) → IsSound m [] → get m.objects op.id ≡ None → IsCarriable m (row op (view_of m op.thread op.kind))
 row_carriable m op sound new =
-    carriable m (row op (view_of m op.kind)) sound.cells (walk.at_repeated (CountsCarriable m) (λ _. tt) (repeated op.kind) _ (λ apart. row_of_carriable m sound.counts op.id op.kind new apart))
+    carriable m (row op (view_of m op.thread op.kind)) sound.cells sound.scopes
+    (walk.at_repeated (CountsCarriable m) (λ _. tt) (repeated op.kind) _ (λ apart. row_of_carriable m op.thread sound.counts sound.scopes op.id op.kind new apart))
 
 carried_sound : (m : State) (id : ℕ) (p : Plan) → IsSound m [] → IsCarriable m p → IsSound (carried_out m id p).state []
 carried_sound m id (Skip why) sound c = sound
@@ -462,7 +467,7 @@ carried_sound m id (Act answer changes event pending object) sound c = sound-rel
 
 pub step_sound : (m : State) (op : Operation) → IsSound m [] → get m.objects op.id ≡ None → IsSound (step m op).state []
 unfolding step
-step_sound m op sound new = carried_sound m op.id (row op (view_of m op.kind)) sound (row_carriable m op sound new)
+step_sound m op sound new = carried_sound m op.id (row op (view_of m op.thread op.kind)) sound (row_carriable m op sound new)
 
 pub end_sound : (ops : List Operation) (m : State) → IsSound m [] → AreNew m ops → IsSound (end_from m ops) []
 end_sound [] m sound new = sound

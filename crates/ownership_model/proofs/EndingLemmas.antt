@@ -133,8 +133,8 @@ made_shape : (fields : List Slot) (x : Option Entry) (b : Bool) → shape (if b 
 made_shape fields x true = refl
 made_shape fields x false = refl
 
-pub new_carriable : (m : State) (id to : ℕ) (fs : List Field) → AreCountsSound m [] → get m.objects id ≡ None → repeated_in (to ∷ []) (held_fields fs) ≡ None → CountsCarriable m (new_row id to (elements_of m fs) (get m.handles to))
-new_carriable m id to fs sound new apart =
+pub new_carriable : (m : State) (label id to : ℕ) (fs : List Field) → AreCountsSound m [] → get m.objects id ≡ None → repeated_in (to ∷ []) (held_fields fs) ≡ None → CountsCarriable m (new_row label id to (elements_of m fs) (get m.handles to))
+new_carriable m label id to fs sound new apart =
     walk.at_all_held (CountsCarriable m) (λ _. tt) (first_unheld (elements_of m fs)) _ (λ held. walk.at_all_slots (CountsCarriable m) (λ _. tt) (first_bare (elements_of m fs)) _ (λ slots. walk.at_unheld (CountsCarriable m) (λ _. tt) to (get m.handles to) _ (λ free.
     let es : List Element = elements_of m fs in
     let fields : List Slot = made_fields id es in
@@ -142,8 +142,8 @@ new_carriable m id to fs sound new apart =
     let r : Ready m es = ready m m fs (to ∷ []) (λ q _. refl) apart held slots in
     let absent : get n.objects id ≡ None = ap (λ x. get x id) (same_objects m es) ∙ new in
     let none : get n.handles to ≡ None = still_free m es to free in
-    let made : AreCountsSound (changed n (make id fields to)) [] = makes_sound m (changed n (make id fields to)) [] sound id (λ t. me_weight (names_alike t) id es)
+    let made : AreCountsSound (changed n (make label id fields to)) [] = makes_sound m (changed n (make label id fields to)) [] sound id (λ t. me_weight (names_alike t) id es)
     (λ t. omega (arith, total-set (entry_weight (names_alike t)) n.objects id (Alive fields) None absent, total-set (holding_weight (names_alike t)) n.handles to (holding.Slot (Strong id)) None none, weight-ended (names_alike t) m id es (nothing_hits t) r))
     (λ q _ p. absurd (omega (arith, p, me_strong q id es))) (λ q other p. absurd (omega (arith, p, me_other q id es other))) (λ q. refl)
     (λ q. ap (λ x. shape (get (insert x id (Alive fields)) q)) (same_objects m es) ∙ ap shape (get_inserted m.objects id (Alive fields) q) ∙ made_shape fields (get m.objects q) (id == q)) in
-    (can_end m es (make id fields to) r (absent, (tt, tt)), subst (λ (x : State). AreCountsSound x []) (sym (changed-ending m es (make id fields to))) made))))
+    (can_end m es (make label id fields to) r (absent, (tt, tt)), subst (λ (x : State). AreCountsSound x []) (sym (changed-ending m es (make label id fields to))) made))))

@@ -22,6 +22,7 @@ use Rattle.ownership_model.specs.declared.plan.Plan.{Plan}
 use Rattle.ownership_model.specs.declared.plan.Plan.TheVariants.{Skip, Act}
 use Rattle.ownership_model.specs.State.{State, IsSound, is_alive}
 use Rattle.ownership_model.specs.Changes.{changed}
+use Rattle.ownership_model.specs.Scopes.{scope_of}
 use Rattle.ownership_model.specs.View.{Element, Read, Null, Me, Seen, View, members, held_by, seen, elements_of, view_of, repeated}
 use Rattle.ownership_model.specs.Table.{row, row_of, new_row, upgraded, made_unique, dropped, swapped, exchanged, write_field, set_field, take_field, copy_field, fields_of, made_fields, ending, first_unheld, first_bare, same_pointer, make}
 use Rattle.ownership_model.specs.Bounds.{AreFew, HoldingFits, HandleFits, ObjectFits, IsBounded, ChangeFits, ChangesFit, PlanFits}
@@ -45,11 +46,17 @@ other false b h = absurd cc
 below : (a b : ℕ) → IsTrue (nat_le a b) → a ≤ b
 below a b h = grind (arith, nat_tests)
 
+-- the elements of which an object is made
+abbrev pub AreFewElements : Kind → View → Type 0
+AreFewElements (kind.New to fields) v = length v.elements ≤ max_fields
+AreFewElements (kind.NewCyclic to fields) v = length v.elements ≤ max_fields
+AreFewElements _ v = Unit {0}
+
 -- what the view of a bounded state shows
-pub record ViewFits (v : View) : Type 0 where
+pub record ViewFits (k : Kind) (v : View) : Type 0 where
   pub first : IfThere HoldingFits v.first
   pub second : IfThere HoldingFits v.second
-  pub elements : length v.elements ≤ max_fields
+  pub elements : AreFewElements k v
   pub object : AreFew (fields_of v.object.entry)
 
 found : (it : Option Holding) (x : Holding) → IfThere HoldingFits it → it ≡ Some x → HoldingFits x
@@ -77,36 +84,37 @@ module _ (m : State) (b : IsBounded m) where
   seen_few None = omega arith
   seen_few (Some o) = entry_few o (get m.objects o) (b.objects o)
 
-few_members : (k : Kind) → IsTrue (is_kind k) → length (members k).fields ≤ max_fields
-few_members (kind.New to fields) fits = below (length fields) max_fields (one (nat_le (length fields) max_fields) _ (other (is_name to) _ fits))
-few_members (kind.NewCyclic to fields) fits = below (length fields) max_fields (one (nat_le (length fields) max_fields) _ (other (is_name to) _ fits))
-few_members (kind.NewFrom from to) fits = omega arith
-few_members (kind.WeakNew to) fits = omega arith
-few_members (kind.Null to) fits = omega arith
-few_members (kind.Clone from to) fits = omega arith
-few_members (kind.Drop h) fits = omega arith
-few_members (kind.Downgrade from to) fits = omega arith
-few_members (kind.Upgrade from to) fits = omega arith
-few_members (kind.TryUnwrap h) fits = omega arith
-few_members (kind.IntoInner h) fits = omega arith
-few_members (kind.GetMut h) fits = omega arith
-few_members (kind.MakeMut h) fits = omega arith
-few_members (kind.Counts h) fits = omega arith
-few_members (kind.PtrEq a b) fits = omega arith
-few_members (kind.Set h i from) fits = omega arith
-few_members (kind.Take h i to) fits = omega arith
-few_members (kind.Get h i to) fits = omega arith
-few_members (kind.CellNew c from) fits = omega arith
-few_members (kind.CellLoad c to) fits = omega arith
-few_members (kind.CellSwap c from to) fits = omega arith
-few_members (kind.CellCas c expected desired) fits = omega arith
-few_members (kind.CellDrop c) fits = omega arith
+few_elements : (m : State) (t : ℕ) (k : Kind) → IsTrue (is_kind k) → AreFewElements k (view_of m t k)
+few_elements m t (kind.New to fields) fits = omega (arith, length-elements_of m fields, below (length fields) max_fields (one (nat_le (length fields) max_fields) _ (other (is_name to) _ fits)))
+few_elements m t (kind.NewCyclic to fields) fits = omega (arith, length-elements_of m fields, below (length fields) max_fields (one (nat_le (length fields) max_fields) _ (other (is_name to) _ fits)))
+few_elements m t (kind.NewFrom from to) fits = tt
+few_elements m t (kind.WeakNew to) fits = tt
+few_elements m t (kind.Null to) fits = tt
+few_elements m t (kind.Clone from to) fits = tt
+few_elements m t (kind.Drop h) fits = tt
+few_elements m t (kind.Downgrade from to) fits = tt
+few_elements m t (kind.Upgrade from to) fits = tt
+few_elements m t (kind.TryUnwrap h) fits = tt
+few_elements m t (kind.IntoInner h) fits = tt
+few_elements m t (kind.GetMut h) fits = tt
+few_elements m t (kind.MakeMut h) fits = tt
+few_elements m t (kind.Counts h) fits = tt
+few_elements m t (kind.PtrEq a b) fits = tt
+few_elements m t (kind.Set h i from) fits = tt
+few_elements m t (kind.Take h i to) fits = tt
+few_elements m t (kind.Get h i to) fits = tt
+few_elements m t (kind.CellNew c from) fits = tt
+few_elements m t (kind.CellLoad c to) fits = tt
+few_elements m t (kind.CellSwap c from to) fits = tt
+few_elements m t (kind.CellCas c expected desired) fits = tt
+few_elements m t (kind.CellDrop c) fits = tt
+few_elements m t kind.ScopeEnd fits = tt
 
-view_fits : (m : State) (k : Kind) → IsBounded m → IsTrue (is_kind k) → ViewFits (view_of m k)
-view_fits m k b fits = record {
-  first = held_by_fits m b (members k).first;
-  second = held_by_fits m b (members k).second;
-  elements = omega (arith, length-elements_of m (members k).fields, few_members k fits);
+view_fits : (m : State) (t : ℕ) (k : Kind) → IsBounded m → IsTrue (is_kind k) → ViewFits k (view_of m t k)
+view_fits m t k b fits = record {
+  first = held_by_fits m b (members (scope_of t m.scopes) k).first;
+  second = held_by_fits m b (members (scope_of t m.scopes) k).second;
+  elements = few_elements m t k fits;
   object = seen_few m b _;
 }
 
@@ -122,81 +130,81 @@ length-made_fields id (Read h x ∷ es) = omega (arith, length-made_fields id es
 length-made_fields id (Null ∷ es) = omega (arith, length-made_fields id es)
 length-made_fields id (Me ∷ es) = omega (arith, length-made_fields id es)
 
-write_fits : (h : ℕ) (owner : Option ℕ) (fields : List Slot) (i : ℕ) (s : Slot) → h ≤ max_name → AreFew fields → ChangeFits (write_field h owner fields i s)
-write_fits h (Some o) fields i s name few = tt
-write_fits h None fields i s name few = (name, omega (arith, few, length-slice_set fields i s))
+write_fits : (label h : ℕ) (owner : Option ℕ) (fields : List Slot) (i : ℕ) (s : Slot) → label ≤ max_thread → h ≤ max_name → AreFew fields → ChangeFits (write_field label h owner fields i s)
+write_fits label h (Some o) fields i s word name few = tt
+write_fits label h None fields i s word name few = (word, (name, omega (arith, few, length-slice_set fields i s)))
 
 dropped_fits : (h : ℕ) (x : Holding) → PlanFits (dropped h x)
 dropped_fits h (holding.Slot s) = (tt, tt)
 dropped_fits h (holding.Bare fields) = (tt, tt)
 
-module _ (id : ℕ) (low : id ≤ max_id) where
-  make_fits : (fields : List Slot) (to : ℕ) → AreFew fields → to ≤ max_name → ChangesFit (make id fields to)
-  make_fits fields to few name = ((low, few), ((name, tt), tt))
+module _ (label id : ℕ) (word : label ≤ max_thread) (low : id ≤ max_id) where
+  make_fits : (fields : List Slot) (to : ℕ) → AreFew fields → to ≤ max_name → ChangesFit (make label id fields to)
+  make_fits fields to few name = ((low, few), ((word, (name, tt)), tt))
 
-  new_fits : (to : ℕ) (es : List Element) (it : Option Holding) → length es ≤ max_fields → to ≤ max_name → PlanFits (new_row id to es it)
+  new_fits : (to : ℕ) (es : List Element) (it : Option Holding) → length es ≤ max_fields → to ≤ max_name → PlanFits (new_row label id to es it)
   new_fits to es it few name =
       walk.at_all_held PlanFits (λ _. tt) (first_unheld es) _ (λ _. walk.at_all_slots PlanFits (λ _. tt) (first_bare es) _ (λ _. walk.at_unheld PlanFits (λ _. tt) to it _ (λ _.
-      ending_fits es (make id (made_fields id es) to) (make_fits (made_fields id es) to (omega (arith, few, length-made_fields id es)) name))))
+      ending_fits es (make label id (made_fields id es) to) (make_fits (made_fields id es) to (omega (arith, few, length-made_fields id es)) name))))
 
-  unique_fits : (h o : ℕ) (it : Seen) → h ≤ max_name → AreFew (fields_of it.entry) → PlanFits (made_unique id h o it)
+  unique_fits : (h o : ℕ) (it : Seen) → h ≤ max_name → AreFew (fields_of it.entry) → PlanFits (made_unique label id h o it)
   unique_fits h o it name few =
       walk.at_test PlanFits (λ _. tt) (it.strong == 1) _ _
       (λ _. walk.at_test PlanFits (λ _. tt) (it.weak == 0) _ _ (λ _. tt) (λ _. (tt, make_fits (fields_of it.entry) h few name)))
       (λ _. make_fits (fields_of it.entry) h few name)
 
-  upgraded_fits : (to : ℕ) (e : Option Entry) (o : Option ℕ) → to ≤ max_name → PlanFits (upgraded to e o)
-  upgraded_fits to e None name = ((name, tt), tt)
-  upgraded_fits to e (Some o) name = walk.at_test PlanFits (λ _. tt) (is_alive e) _ _ (λ _. ((name, tt), tt)) (λ _. ((name, tt), tt))
+  upgraded_fits : (to : ℕ) (e : Option Entry) (o : Option ℕ) → to ≤ max_name → PlanFits (upgraded label to e o)
+  upgraded_fits to e None name = ((word, (name, tt)), tt)
+  upgraded_fits to e (Some o) name = walk.at_test PlanFits (λ _. tt) (is_alive e) _ _ (λ _. ((word, (name, tt)), tt)) (λ _. ((word, (name, tt)), tt))
 
-  swapped_fits : (c from : ℕ) (to : Option ℕ) (it : Option Holding) (old s : Slot) → c ≤ max_name → IsTrue (is_perhaps_name to) → PlanFits (swapped c from to it old s)
+  swapped_fits : (c from : ℕ) (to : Option ℕ) (it : Option Holding) (old s : Slot) → c ≤ max_name → IsTrue (is_perhaps_name to) → PlanFits (swapped label c from to it old s)
   swapped_fits c from None it old s cell name = (tt, (cell, tt))
-  swapped_fits c from (Some to) it old s cell name = walk.at_unheld PlanFits (λ _. tt) to it _ (λ _. (tt, (cell, ((below to max_name name, tt), tt))))
+  swapped_fits c from (Some to) it old s cell name = walk.at_unheld PlanFits (λ _. tt) to it _ (λ _. (tt, (cell, ((word, (below to max_name name, tt)), tt))))
 
-  exchanged_fits : (c expected desired : ℕ) (old e d : Slot) → c ≤ max_name → expected ≤ max_name → PlanFits (exchanged c expected desired old e d)
+  exchanged_fits : (c expected desired : ℕ) (old e d : Slot) → c ≤ max_name → expected ≤ max_name → PlanFits (exchanged label c expected desired old e d)
   exchanged_fits c expected desired old e d cell name =
-      walk.at_test PlanFits (λ _. tt) (same_pointer old e) _ _ (λ _. (tt, (cell, tt))) (λ _. ((name, tt), (tt, tt)))
+      walk.at_test PlanFits (λ _. tt) (same_pointer old e) _ _ (λ _. (tt, (cell, tt))) (λ _. ((word, (name, tt)), (tt, tt)))
 
-  set_fits : (h i from : ℕ) (y : Holding) (owner : Option ℕ) (fields : List Slot) → h ≤ max_name → AreFew fields → PlanFits (set_field h i from y owner fields)
+  set_fits : (h i from : ℕ) (y : Holding) (owner : Option ℕ) (fields : List Slot) → h ≤ max_name → AreFew fields → PlanFits (set_field label h i from y owner fields)
   set_fits h i from y owner fields name few =
-      walk.at_slot PlanFits (λ _. tt) from y _ (λ s was. walk.at_field PlanFits (λ _. tt) i (slice_get fields i) _ (λ old got. (tt, (write_fits h owner fields i s name few, tt))))
+      walk.at_slot PlanFits (λ _. tt) from y _ (λ s was. walk.at_field PlanFits (λ _. tt) i (slice_get fields i) _ (λ old got. (tt, (write_fits label h owner fields i s word name few, tt))))
 
-  take_fits : (h i to : ℕ) (it : Option Holding) (owner : Option ℕ) (fields : List Slot) → h ≤ max_name → to ≤ max_name → AreFew fields → PlanFits (take_field h i to it owner fields)
+  take_fits : (h i to : ℕ) (it : Option Holding) (owner : Option ℕ) (fields : List Slot) → h ≤ max_name → to ≤ max_name → AreFew fields → PlanFits (take_field label h i to it owner fields)
   take_fits h i to it owner fields name target few =
-      walk.at_field PlanFits (λ _. tt) i (slice_get fields i) _ (λ s got. walk.at_unheld PlanFits (λ _. tt) to it _ (λ _. ((target, tt), (write_fits h owner fields i Nothing name few, tt))))
+      walk.at_field PlanFits (λ _. tt) i (slice_get fields i) _ (λ s got. walk.at_unheld PlanFits (λ _. tt) to it _ (λ _. ((word, (target, tt)), (write_fits label h owner fields i Nothing word name few, tt))))
 
-  copy_fits : (i to : ℕ) (it : Option Holding) (owner : Option ℕ) (fields : List Slot) → to ≤ max_name → PlanFits (copy_field i to it owner fields)
+  copy_fits : (i to : ℕ) (it : Option Holding) (owner : Option ℕ) (fields : List Slot) → to ≤ max_name → PlanFits (copy_field label i to it owner fields)
   copy_fits i to it owner fields target =
-      walk.at_field PlanFits (λ _. tt) i (slice_get fields i) _ (λ s got. walk.at_unheld PlanFits (λ _. tt) to it _ (λ _. ((target, tt), tt)))
+      walk.at_field PlanFits (λ _. tt) i (slice_get fields i) _ (λ s got. walk.at_unheld PlanFits (λ _. tt) to it _ (λ _. ((word, (target, tt)), tt)))
 
   bare_few : (it : Option Holding) (x : Holding) (fields : List Slot) → IfThere HoldingFits it → it ≡ Some x → x ≡ holding.Bare fields → AreFew fields
   bare_few it x fields fits is was = subst HoldingFits was (found it x fits is)
 
-  row_of_fits : (k : Kind) (v : View) → IsTrue (is_kind k) → ViewFits v → PlanFits (row_of id k v)
+  row_of_fits : (k : Kind) (v : View) → IsTrue (is_kind k) → ViewFits k v → PlanFits (row_of label id k v)
   row_of_fits (kind.New to fields) v fits c = new_fits to v.elements v.first c.elements (below to max_name (one (is_name to) _ fits))
   row_of_fits (kind.NewCyclic to fields) v fits c = new_fits to v.elements v.first c.elements (below to max_name (one (is_name to) _ fits))
   row_of_fits (kind.NewFrom from to) v fits c =
       walk.at_held PlanFits (λ _. tt) from v.first _ (λ x is. walk.at_bare PlanFits (λ _. tt) from x _ (λ fields was. walk.at_unheld PlanFits (λ _. tt) to v.second _ (λ _.
       (tt, make_fits fields to (bare_few v.first x fields c.first is was) (below to max_name (other (is_name from) _ fits))))))
-  row_of_fits (kind.WeakNew to) v fits c = walk.at_unheld PlanFits (λ _. tt) to v.first _ (λ _. ((below to max_name fits, tt), tt))
-  row_of_fits (kind.Null to) v fits c = walk.at_unheld PlanFits (λ _. tt) to v.first _ (λ _. ((below to max_name fits, tt), tt))
+  row_of_fits (kind.WeakNew to) v fits c = walk.at_unheld PlanFits (λ _. tt) to v.first _ (λ _. ((word, (below to max_name fits, tt)), tt))
+  row_of_fits (kind.Null to) v fits c = walk.at_unheld PlanFits (λ _. tt) to v.first _ (λ _. ((word, (below to max_name fits, tt)), tt))
   row_of_fits (kind.Clone from to) v fits c =
       walk.at_held PlanFits (λ _. tt) from v.first _ (λ x is. walk.at_slot PlanFits (λ _. tt) from x _ (λ s was. walk.at_unheld PlanFits (λ _. tt) to v.second _ (λ _.
-      ((below to max_name (other (is_name from) _ fits), tt), tt))))
+      ((word, (below to max_name (other (is_name from) _ fits), tt)), tt))))
   row_of_fits (kind.Drop h) v fits c = walk.at_held PlanFits (λ _. tt) h v.first _ (λ x is. dropped_fits h x)
   row_of_fits (kind.Downgrade from to) v fits c =
       walk.at_held PlanFits (λ _. tt) from v.first _ (λ x is. walk.at_strong PlanFits (λ _. tt) from x _ (λ o was. walk.at_unheld PlanFits (λ _. tt) to v.second _ (λ _.
-      ((below to max_name (other (is_name from) _ fits), tt), tt))))
+      ((word, (below to max_name (other (is_name from) _ fits), tt)), tt))))
   row_of_fits (kind.Upgrade from to) v fits c =
       walk.at_held PlanFits (λ _. tt) from v.first _ (λ x is. walk.at_weak PlanFits (λ _. tt) from x _
       (λ o was. walk.at_unheld PlanFits (λ _. tt) to v.second _ (λ _. upgraded_fits to v.object.entry (Some o) (below to max_name (other (is_name from) _ fits))))
       (walk.at_unheld PlanFits (λ _. tt) to v.second _ (λ _. upgraded_fits to v.object.entry None (below to max_name (other (is_name from) _ fits)))))
   row_of_fits (kind.TryUnwrap h) v fits c =
       walk.at_held PlanFits (λ _. tt) h v.first _ (λ x is. walk.at_strong PlanFits (λ _. tt) h x _ (λ o was.
-      walk.at_test PlanFits (λ _. tt) (v.object.strong == 1) _ _ (λ _. (tt, ((below h max_name fits, c.object), tt))) (λ _. tt)))
+      walk.at_test PlanFits (λ _. tt) (v.object.strong == 1) _ _ (λ _. (tt, ((word, (below h max_name fits, c.object)), tt))) (λ _. tt)))
   row_of_fits (kind.IntoInner h) v fits c =
       walk.at_held PlanFits (λ _. tt) h v.first _ (λ x is. walk.at_strong PlanFits (λ _. tt) h x _ (λ o was.
-      walk.at_test PlanFits (λ _. tt) (v.object.strong == 1) _ _ (λ _. (tt, ((below h max_name fits, c.object), tt))) (λ _. ((below h max_name fits, tt), tt))))
+      walk.at_test PlanFits (λ _. tt) (v.object.strong == 1) _ _ (λ _. (tt, ((word, (below h max_name fits, c.object)), tt))) (λ _. ((word, (below h max_name fits, tt)), tt))))
   row_of_fits (kind.GetMut h) v fits c = walk.at_held PlanFits (λ _. tt) h v.first _ (λ x is. walk.at_strong PlanFits (λ _. tt) h x _ (λ o was. tt))
   row_of_fits (kind.MakeMut h) v fits c =
       walk.at_held PlanFits (λ _. tt) h v.first _ (λ x is. walk.at_strong PlanFits (λ _. tt) h x _ (λ o was. unique_fits h o v.object (below h max_name fits) c.object))
@@ -222,7 +230,7 @@ module _ (id : ℕ) (low : id ≤ max_id) where
       walk.at_held PlanFits (λ _. tt) from v.first _ (λ x is. walk.at_pointer PlanFits (λ _. tt) from x _ (λ s was _. walk.at_absent_cell PlanFits (λ _. tt) cell v.cell _ (λ _.
       (tt, (below cell max_name (one (is_name cell) _ fits), tt)))))
   row_of_fits (kind.CellLoad cell to) v fits c =
-      walk.at_cell PlanFits (λ _. tt) cell v.cell _ (λ s is. walk.at_unheld PlanFits (λ _. tt) to v.first _ (λ _. ((below to max_name (other (is_name cell) _ fits), tt), tt)))
+      walk.at_cell PlanFits (λ _. tt) cell v.cell _ (λ s is. walk.at_unheld PlanFits (λ _. tt) to v.first _ (λ _. ((word, (below to max_name (other (is_name cell) _ fits), tt)), tt)))
   row_of_fits (kind.CellSwap cell from to) v fits c =
       walk.at_cell PlanFits (λ _. tt) cell v.cell _ (λ old had. walk.at_held PlanFits (λ _. tt) from v.first _ (λ x is. walk.at_pointer PlanFits (λ _. tt) from x _ (λ s was _.
       swapped_fits cell from to v.second old s (below cell max_name (one (is_name cell) _ fits)) (other (is_name from) _ (other (is_name cell) _ fits)))))
@@ -231,6 +239,7 @@ module _ (id : ℕ) (low : id ≤ max_id) where
       walk.at_pointer PlanFits (λ _. tt) expected x _ (λ e was _. walk.at_pointer PlanFits (λ _. tt) desired y _ (λ d was_too _.
       exchanged_fits cell expected desired old e d (below cell max_name (one (is_name cell) _ fits)) (below expected max_name (one (is_name expected) _ (other (is_name cell) _ fits))))))))
   row_of_fits (kind.CellDrop cell) v fits c = walk.at_cell PlanFits (λ _. tt) cell v.cell _ (λ s is. (tt, tt))
+  row_of_fits kind.ScopeEnd v fits c = ending_fits v.elements [] tt
 
 kind_within : (op : Operation) → IsWithinLimits op → IsTrue (is_kind op.kind)
 kind_within op within = other (nat_le op.thread max_thread) _ (other (nat_le op.id max_id) _ (other (nat_le 1 op.id) _ within))
@@ -238,10 +247,13 @@ kind_within op within = other (nat_le op.thread max_thread) _ (other (nat_le op.
 id_within : (op : Operation) → IsWithinLimits op → op.id ≤ max_id
 id_within op within = below op.id max_id (one (nat_le op.id max_id) _ (other (nat_le 1 op.id) _ within))
 
+thread_within : (op : Operation) → IsWithinLimits op → op.thread ≤ max_thread
+thread_within op within = below op.thread max_thread (one (nat_le op.thread max_thread) _ (other (nat_le op.id max_id) _ (other (nat_le 1 op.id) _ within)))
+
 -- each row
-pub row_fits : (m : State) (op : Operation) → IsBounded m → IsWithinLimits op → PlanFits (row op (view_of m op.kind))
+pub row_fits : (m : State) (op : Operation) → IsBounded m → IsWithinLimits op → PlanFits (row op (view_of m op.thread op.kind))
 row_fits m op b within = walk.at_repeated PlanFits (λ _. tt) (repeated op.kind) _ (λ _.
-    row_of_fits op.id (id_within op within) op.kind (view_of m op.kind) (kind_within op within) (view_fits m op.kind b (kind_within op within)))
+    row_of_fits op.thread op.id (thread_within op within) (id_within op within) op.kind (view_of m op.thread op.kind) (kind_within op within) (view_fits m op.thread op.kind b (kind_within op within)))
 
 -- what is carried out keeps the limits
 carried_bounded : (m : State) (id : ℕ) (p : Plan) → IsBounded m → IsCarriable m p → PlanFits p → IsBounded (carried_out m id p).state
@@ -251,7 +263,7 @@ carried_bounded m id (Act answer changes event pending object) b can fits = rele
 pub step_bounded : (m : State) (op : Operation) → IsSound m [] → IsBounded m → IsWithinLimits op → get m.objects op.id ≡ None → IsBounded (step m op).state
 unfolding step
 step_bounded m op sound b within new =
-    carried_bounded m op.id (row op (view_of m op.kind)) b (row_carriable m op sound new) (row_fits m op b within)
+    carried_bounded m op.id (row op (view_of m op.thread op.kind)) b (row_carriable m op sound new) (row_fits m op b within)
 
 pub end_bounded : (ops : List Operation) (m : State) → IsSound m [] → IsBounded m → All IsWithinLimits ops → AreNew m ops → IsBounded (end_from m ops)
 end_bounded [] m sound b within new = b

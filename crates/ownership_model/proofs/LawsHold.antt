@@ -1,16 +1,20 @@
 -- The laws, each as the contract of its function in `laws` or `reach_laws` has it. For the layers above: their proofs cite a law by
 -- its name here.
 use Rattle.std.proofs.Common.{arith}
-use Rattle.ownership_model.specs.Laws.{AgreementHolds, SoundnessHolds, ReleasesInTurn, CascadeHolds, BoundsHold, AppendsHold}
+use Rattle.ownership_model.specs.Laws.{AgreementHolds, SoundnessHolds, ReleasesInTurn, CascadeHolds, BoundsHold, AppendsHold, ScopesHold}
+use Rattle.ownership_model.specs.Before.{OldTracesReplayAsBefore}
 use Rattle.ownership_model.specs.ReachLaws.{ReachIsLeast, LeakedAreUnreached, HoldersHold}
 use Rattle.ownership_model.proofs.ReleaseLemmas.{release-nil, release-cons, work_drops}
 use Rattle.ownership_model.proofs.DropLemmas.{sound-drop_first, sound-release}
 use Rattle.ownership_model.proofs.CascadeLemmas.{course, freed_exactly}
-use Rattle.ownership_model.proofs.LeastLemmas.{kept_roots, destroyed}
+use Rattle.ownership_model.proofs.LeastLemmas.{kept_roots, kept_scopes, destroyed}
 use Rattle.ownership_model.proofs.CarryLemmas.{row_carriable, step_sound}
 use Rattle.ownership_model.proofs.JoinedLemmas as joined
 use Rattle.ownership_model.proofs.ReplayLemmas.{appends_hold, nothing_sound, nothing_taken, distinct_new}
 use Rattle.ownership_model.proofs.FitLemmas.{bounds_hold}
+use Rattle.ownership_model.proofs.BeforeLemmas.{as_before}
+use Rattle.ownership_model.proofs.ScopeLemmas.{changed_scoped}
+use Rattle.ownership_model.proofs.ScopeMaps.{own_entered, other_entered, each_left, same_scopes}
 use Rattle.ownership_model.proofs.LeakLemmas.{reach_holds, unreached}
 use Rattle.ownership_model.proofs.HoldingLemmas.{hold}
 
@@ -36,6 +40,7 @@ cascade = record {
   cascades = λ m pending sound. record {
     handles = (kept_roots m pending).0;
     cells = (kept_roots m pending).1;
+    scopes = kept_scopes m pending;
     destroyed = destroyed m pending sound;
     courses = λ o. course m pending o sound;
     freed = λ o. freed_exactly m pending o sound;
@@ -47,6 +52,18 @@ bounds = bounds_hold
 
 pub appends : AppendsHold
 appends = appends_hold
+
+pub old_traces : OldTracesReplayAsBefore
+old_traces = as_before
+
+pub scopes : ScopesHold
+scopes = record {
+  enters = own_entered;
+  others = other_entered;
+  leaves = each_left;
+  equal = λ m n pending rest sound sound_too same. same_scopes 0 0 m.scopes n.scopes sound.scopes.in_order sound_too.scopes.in_order same;
+  changes = λ m changes. changed_scoped changes m;
+}
 
 pub reach : ReachIsLeast
 reach = reach_holds

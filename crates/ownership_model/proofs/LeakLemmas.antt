@@ -7,7 +7,7 @@ use Rattle.trace_types.specs.declared.slots.Entry.{Entry}
 use Rattle.ownership_model.specs.State.{State, is_alive}
 use Rattle.ownership_model.specs.declared.link.Link.{Link}
 use Rattle.ownership_model.specs.declared.link.Link.TheVariants.{StrongOnly}
-use Rattle.ownership_model.specs.Reach.{Reaches, IsReach, is_reached, has}
+use Rattle.ownership_model.specs.Reach.{Reaches, is_reached, has}
 use Rattle.ownership_model.specs.Leaks.{leaked_in}
 use Rattle.ownership_model.specs.ReachLaws.{ReachIsLeast, LeakedAreUnreached}
 use Rattle.ownership_model.proofs.Searching.{has_as_any}

@@ -42,6 +42,21 @@ pub kept_roots : (m : State) (p : List Item) → ((release m p).state.handles �
 unfolding release
 kept_roots m p = kept_within (work m p) m p
 
+-- and so do scopes
+scopes_by : (m : State) (xs : List Item) (f : Fate) → (left_by m xs f).state.scopes ≡ m.scopes
+scopes_by m xs Stays = refl
+scopes_by m xs (Falls o fields) = refl
+scopes_by m xs (Goes o) = refl
+
+scopes_within : (n : ℕ) (m : State) (p : List Item) → (release_within n m p).state.scopes ≡ m.scopes
+scopes_within n m [] = refl
+scopes_within zero m (x ∷ xs) = refl
+scopes_within (suc n) m (x ∷ xs) = scopes_within n (drop_first m x xs).state (drop_first m x xs).pending ∙ scopes_by m xs (fate m x xs)
+
+pub kept_scopes : (m : State) (p : List Item) → (release m p).state.scopes ≡ m.scopes
+unfolding release
+kept_scopes m p = scopes_within (work m p) m p
+
 -- closed: what stays alive is held by what stays
 
 husk_holds_none : (o g : ℕ) (after : Option Entry) → HuskCourse g after → weight_at (entry_weight (names_alike (Strong o))) after ≡ 0

@@ -22,6 +22,8 @@ use Rattle.trace_types.specs.Operation.{Operation}
 use Rattle.ownership_model.specs.Totals.{total_in}
 use Rattle.ownership_model.specs.State.{holding_weight, entry_weight, items_weight, names_alike, ends}
 use Rattle.ownership_model.specs.Release.{Fate, Stays, Falls, Goes, fall, is_husk, drops, alive_size}
+use Rattle.trace_types.specs.declared.slots.Scoped.{Scoped}
+use Rattle.ownership_model.specs.Scopes.{scope_of, kept_or_entered, left}
 use Rattle.ownership_model.specs.Changes.{with_field}
 use Rattle.ownership_model.specs.View.{Members, members, Element, Read, Null, Me, Seen, View, named_in}
 use Rattle.ownership_model.specs.Table.{row}
@@ -32,6 +34,7 @@ pub record Lists : Type 0 where
   pub handles : List (ℕ × Holding)
   pub cells : List (ℕ × Slot)
   pub objects : List (ℕ × Entry)
+  pub scopes : List Scoped
 
 abbrev pub look : {X : Type 0} → ℕ → List (ℕ × X) → Option X
 look k [] = None
@@ -78,8 +81,8 @@ dropped_in zero m es (x ∷ xs) = record { state = m; events = es }
 dropped_in (suc n) m es (x ∷ xs) = more_events es (let d = meet_in m xs (fate_in m x xs) in dropped_in n d.state d.events d.pending)
 
 abbrev pub change_in : Lists → Change → Lists
-change_in m (SetHandle h x) = record m { handles = set h x m.handles }
-change_in m (EndHandle h) = record m { handles = cut h m.handles }
+change_in m (SetHandle t h x) = record m { handles = set h x m.handles; scopes = kept_or_entered (look h m.handles) t h m.scopes }
+change_in m (EndHandle h) = record m { handles = cut h m.handles; scopes = left h m.scopes }
 change_in m (SetCell c s) = record m { cells = set c s m.cells }
 change_in m (EndCell c) = record m { cells = cut c m.cells }
 change_in m (SetField o i s) = record m { objects = set o (with_field (look o m.objects) i s) m.objects }
@@ -132,7 +135,7 @@ carried_in m id (Skip reason) = record { state = m; outcome = record { id = id; 
 carried_in m id (Act answer changes event pending object) = finished id answer event object (cascade_in (changes_in m changes) pending)
 
 abbrev pub step_in : Lists → Operation → Stepped
-step_in m op = carried_in m op.id (row op (view_in m (members op.kind)))
+step_in m op = carried_in m op.id (row op (view_in m (members (scope_of op.thread m.scopes) op.kind)))
 
 -- the outcomes done so far, and those of the operations
 abbrev pub told_after : List Outcome → Lists → List Operation → List Outcome
@@ -140,7 +143,7 @@ told_after done m [] = done
 told_after done m (op ∷ ops) = let s = step_in m op in told_after (done ++ s.outcome ∷ []) s.state ops
 
 abbrev pub nothing_listed : Lists
-nothing_listed = record { handles = []; cells = []; objects = [] }
+nothing_listed = record { handles = []; cells = []; objects = []; scopes = [] }
 
 abbrev pub told : List Operation → List Outcome
 told ops = told_after [] nothing_listed ops

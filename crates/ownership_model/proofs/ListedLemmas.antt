@@ -24,6 +24,7 @@ use Rattle.trace_types.specs.Operation.{Operation}
 use Rattle.ownership_model.specs.Totals.{total_in, total}
 use Rattle.ownership_model.specs.State.{State, nothing_held, weight, holding_weight, entry_weight, names_alike, ends, IsSoundAt, IsPointer, AreCountsSound, IsSound, is_alive}
 use Rattle.ownership_model.specs.Release.{Fate, Stays, Falls, Goes, fate, fall, is_husk, Dropped, left_by, drop_first, Released, release_within, release, work, alive_size}
+use Rattle.ownership_model.specs.Scopes.{scope_of, kept_or_entered, left}
 use Rattle.ownership_model.specs.Changes.{with_field, changed_by, changed, HasField, CanBeDone, CanChange}
 use Rattle.ownership_model.specs.View.{Members, members, Read, Null, Me, View, held_by, cell_of, elements_of, named_in, seen, view_at}
 use Rattle.ownership_model.specs.Table.{row}
@@ -34,6 +35,7 @@ use Rattle.ownership_model.specs.declared.plan.Plan.TheVariants.{Skip, Act}
 use Rattle.ownership_model.proofs.TotalLemmas.{weight_at, total-insert, total-zero}
 use Rattle.ownership_model.proofs.MapLemmas.{get_inserted, get_removed}
 use Rattle.ownership_model.proofs.ReleaseLemmas.{release-enough}
+use Rattle.ownership_model.proofs.ScopeLemmas.{changed_scoped, nothing_scoped}
 use Rattle.ownership_model.proofs.Listed.{Lists, look, cut, set, count, fate_in, Left, meet_in, Ended, dropped_in, change_in, changes_in, look_if, elements_in, seen_in, view_in, counts_in, Stepped, cascade_in, carried_in, step_in, told_after, nothing_listed, told}
 use Rattle.ownership_model.proofs.CarryLemmas.{changed_pointers}
 use Rattle.ownership_model.proofs.ReplayLemmas.{nothing_sound}
@@ -50,7 +52,7 @@ pub record IsApart (m : Lists) : Type 0 where
 
 -- the state that the lists show
 abbrev pub shown : Lists → State
-shown m = record { handles = from_entries m.handles; cells = from_entries m.cells; objects = from_entries m.objects }
+shown m = record { handles = from_entries m.handles; cells = from_entries m.cells; objects = from_entries m.objects; scopes = m.scopes }
 
 module _ {X : Type 0} where
   abbrev map_of : List (ℕ × X) → FinMap nat_cmp X
@@ -113,7 +115,7 @@ work-shown m pending apart = omega (arith, total-map_of alive_size m.objects apa
 
 -- ---- changes
 change_apart : (m : Lists) (c : Change) → IsApart m → IsApart (change_in m c)
-change_apart m (SetHandle h x) a = record { handles = set_apart h x m.handles a.handles; cells = a.cells; objects = a.objects }
+change_apart m (SetHandle t h x) a = record { handles = set_apart h x m.handles a.handles; cells = a.cells; objects = a.objects }
 change_apart m (EndHandle h) a = record { handles = cut_apart h m.handles a.handles; cells = a.cells; objects = a.objects }
 change_apart m (SetCell c s) a = record { handles = a.handles; cells = set_apart c s m.cells a.cells; objects = a.objects }
 change_apart m (EndCell c) a = record { handles = a.handles; cells = cut_apart c m.cells a.cells; objects = a.objects }
@@ -122,13 +124,13 @@ change_apart m (Make o fields) a = record { handles = a.handles; cells = a.cells
 change_apart m (TurnHusk o) a = record { handles = a.handles; cells = a.cells; objects = set_apart o Husk m.objects a.objects }
 
 objects-shown : (m : Lists) (x : List (ℕ × Entry)) (y : FinMap nat_cmp Entry) → from_entries x ≡ y → shown (record m { objects = x }) ≡ record (shown m) { objects = y }
-objects-shown m x y e = λ i. record { handles = from_entries m.handles; cells = from_entries m.cells; objects = e i }
+objects-shown m x y e = λ i. record { handles = from_entries m.handles; cells = from_entries m.cells; objects = e i; scopes = m.scopes }
 
 change-shown : (m : Lists) (c : Change) → shown (change_in m c) ≡ changed_by (shown m) c
-change-shown m (SetHandle h x) = λ i. record { handles = set-map_of h x m.handles i; cells = from_entries m.cells; objects = from_entries m.objects }
-change-shown m (EndHandle h) = λ i. record { handles = cut-map_of h m.handles i; cells = from_entries m.cells; objects = from_entries m.objects }
-change-shown m (SetCell c s) = λ i. record { handles = from_entries m.handles; cells = set-map_of c s m.cells i; objects = from_entries m.objects }
-change-shown m (EndCell c) = λ i. record { handles = from_entries m.handles; cells = cut-map_of c m.cells i; objects = from_entries m.objects }
+change-shown m (SetHandle t h x) = λ i. record { handles = set-map_of h x m.handles i; cells = from_entries m.cells; objects = from_entries m.objects; scopes = kept_or_entered (sym (get-map_of m.handles h) i) t h m.scopes }
+change-shown m (EndHandle h) = λ i. record { handles = cut-map_of h m.handles i; cells = from_entries m.cells; objects = from_entries m.objects; scopes = left h m.scopes }
+change-shown m (SetCell c s) = λ i. record { handles = from_entries m.handles; cells = set-map_of c s m.cells i; objects = from_entries m.objects; scopes = m.scopes }
+change-shown m (EndCell c) = λ i. record { handles = from_entries m.handles; cells = cut-map_of c m.cells i; objects = from_entries m.objects; scopes = m.scopes }
 change-shown m (SetField o i s) =
     objects-shown m (set o (with_field (look o m.objects) i s) m.objects) (insert (from_entries m.objects) o (with_field (get (from_entries m.objects) o) i s))
     (set-map_of o (with_field (look o m.objects) i s) m.objects ∙ ap (λ e. insert (from_entries m.objects) o (with_field e i s)) (sym (get-map_of m.objects o)))
@@ -248,7 +250,7 @@ carried-shown m id (Act answer changes event pending object) a =
 
 step-shown : (m : Lists) (op : Operation) → IsApart m → Steps (step_in m op) (step (shown m) op)
 unfolding step
-step-shown m op a = subst (λ (v : View). Steps (step_in m op) (carried_out (shown m) op.id (row op v))) (view-shown m (members op.kind) a) (carried-shown m op.id (row op (view_in m (members op.kind))) a)
+step-shown m op a = subst (λ (v : View). Steps (step_in m op) (carried_out (shown m) op.id (row op v))) (view-shown m (members (scope_of op.thread m.scopes) op.kind) a) (carried-shown m op.id (row op (view_in m (members (scope_of op.thread m.scopes) op.kind))) a)
 
 told-shown : (ops : List Operation) (done : List Outcome) (m : Lists) → IsApart m → told_after done m ops ≡ done ++ outcomes_from (shown m) ops
 told-shown [] done m a = sym (append-nil done)
@@ -286,10 +288,11 @@ sound_made changes pending can is =
     record {
       counts = subst (λ (s : State). AreCountsSound s pending) (changes-shown changes nothing_listed) all;
       cells = changed_pointers changes nothing_held can nothing_sound.cells;
+      scopes = changed_scoped changes nothing_held nothing_scoped;
     }
 
 abbrev pub CanBeDoneIn : Lists → Change → Type 0
-CanBeDoneIn m (SetHandle h x) = Unit {0}
+CanBeDoneIn m (SetHandle t h x) = Unit {0}
 CanBeDoneIn m (EndHandle h) = IsSome (look h m.handles)
 CanBeDoneIn m (SetCell c s) = IsPointer s
 CanBeDoneIn m (EndCell c) = IsSome (look c m.cells)
@@ -302,7 +305,7 @@ CanChangeIn m [] = Unit {0}
 CanChangeIn m (c ∷ cs) = CanBeDoneIn m c × CanChangeIn (change_in m c) cs
 
 can-shown : (m : Lists) (c : Change) → CanBeDoneIn m c → CanBeDone (shown m) c
-can-shown m (SetHandle h x) can = tt
+can-shown m (SetHandle t h x) can = tt
 can-shown m (EndHandle h) can = subst (λ (e : Option Holding). IsSome e) (sym (get-map_of m.handles h)) can
 can-shown m (SetCell c s) can = can
 can-shown m (EndCell c) can = subst (λ (e : Option Slot). IsSome e) (sym (get-map_of m.cells c)) can

@@ -54,7 +54,7 @@ release_end m told left r is none =
     (ap (λ (q : Released). q.state) same, sym (append-nil told) ∙ ap (λ (q : Released). q.events) same)
 
 -- a plan that is the row of the table, carried out, is the step
-pub carried_out-step : (m : State) (op : Operation) (id : ℕ) (p : Plan) → id ≡ op.id → p ≡ row op (view_of m op.kind) → carried_out m id p ≡ step m op
+pub carried_out-step : (m : State) (op : Operation) (id : ℕ) (p : Plan) → id ≡ op.id → p ≡ row op (view_of m op.thread op.kind) → carried_out m id p ≡ step m op
 unfolding step
 carried_out-step m op id p e f = λ i. carried_out m (e i) (f i)
 

@@ -17,6 +17,7 @@ use Rattle.ownership_model.proofs.TotalLemmas.{weight_at, total-zero}
 use Rattle.ownership_model.proofs.CarryLemmas.{step_sound}
 use Rattle.ownership_model.proofs.NewLemmas.{step_absent}
 use Rattle.ownership_model.proofs.JoinedLemmas.{replays}
+use Rattle.ownership_model.proofs.ScopeLemmas.{nothing_scoped}
 
 pub outcomes_from-append : (ops more : List Operation) (m : State) → outcomes_from m (ops ++ more) ≡ outcomes_from m ops ++ outcomes_from (end_from m ops) more
 outcomes_from-append [] more m = refl
@@ -120,6 +121,7 @@ pub nothing_sound : IsSound nothing_held []
 nothing_sound = record {
   counts = λ o. absent (strong nothing_held [] o) (weak nothing_held [] o) (get nothing_held.objects o) (nothing_weighs (names_alike (Strong o))) (nothing_weighs (names_alike (Weak o))) (get-empty nat_cmp o);
   cells = λ c s is. absurd (let none : None ≡ Some s = sym (get-empty nat_cmp c) ∙ is in cc);
+  scopes = nothing_scoped;
 }
 
 pub nothing_taken : (ops : List Operation) → AreUnused nothing_held ops

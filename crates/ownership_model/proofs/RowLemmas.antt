@@ -8,14 +8,15 @@ use Rattle.trace_types.specs.declared.slots.Holding.TheVariants as holding
 use Rattle.trace_types.specs.declared.slots.Entry.{Entry}
 use Rattle.trace_types.specs.declared.slots.Entry.TheVariants.{Alive, Husk}
 use Rattle.trace_types.specs.declared.slots.Change.{Change}
+use Rattle.trace_types.specs.declared.slots.Item.{Item}
 use Rattle.trace_types.specs.declared.kinds.Kind.{Kind}
 use Rattle.trace_types.specs.declared.kinds.Kind.TheVariants as kind
 use Rattle.trace_types.specs.Operation.{Operation}
 use Rattle.ownership_model.specs.declared.plan.Plan.{Plan}
 use Rattle.ownership_model.specs.View.{Element, Read, Null, Me, Seen, View, named_by, repeated}
 use Rattle.ownership_model.specs.State.{is_alive}
-use Rattle.ownership_model.specs.Table.{row, row_of, new_row, upgraded, unwrapped, made_unique, dropped, swapped, exchanged, write_field, set_field, take_field, copy_field, fields_of, slot_of, made_fields, ending, first_unheld, first_bare, same_pointer, make}
-use Rattle.ownership_model.proofs.Twins.{AvoidsSlot, AvoidSlots, AvoidsHolding, AvoidsEntry, IfThere, AvoidsChange, AvoidChanges, AvoidsPlan, AvoidElements, AvoidsView}
+use Rattle.ownership_model.specs.Table.{row, row_of, new_row, upgraded, unwrapped, made_unique, dropped, swapped, exchanged, write_field, set_field, take_field, copy_field, fields_of, slot_of, made_fields, ending, holding_drops, held_drops, first_unheld, first_bare, same_pointer, make}
+use Rattle.ownership_model.proofs.Twins.{AvoidsSlot, AvoidSlots, AvoidItems, AvoidsHolding, AvoidsEntry, IfThere, AvoidsChange, AvoidChanges, AvoidsPlan, AvoidElements, AvoidsView}
 use Rattle.ownership_model.proofs.WalkLemmas as walk
 use Rattle.ownership_model.proofs.TwinLemmas.{set_avoids, drops_avoid}
 
@@ -23,7 +24,7 @@ use Rattle.ownership_model.proofs.TwinLemmas.{set_avoids, drops_avoid}
 there : {X : Type 0} (P : X → Type 0) (it : Option X) (x : X) → IfThere P it → it ≡ Some x → P x
 there P it x c is = subst (IfThere P) is c
 
-module _ (r : ℕ → Bool) (id : ℕ) (new : r id ≡ false) where
+module _ (r : ℕ → Bool) (label id : ℕ) (new : r id ≡ false) where
   abbrev Avoids : Plan → Type 0
   Avoids p = AvoidsPlan r p
 
@@ -58,27 +59,38 @@ module _ (r : ℕ → Bool) (id : ℕ) (new : r id ≡ false) where
   ending_avoids (Null ∷ es) cs c = ending_avoids es cs c
   ending_avoids (Me ∷ es) cs c = ending_avoids es cs c
 
+  holding_avoids : (x : Option Holding) (rest : List Item) → IfThere (AvoidsHolding r) x → AvoidItems r rest → AvoidItems r (holding_drops x rest)
+  holding_avoids None rest c d = d
+  holding_avoids (Some (holding.Slot s)) rest c d = (c, d)
+  holding_avoids (Some (holding.Bare fields)) rest c d = drops_avoid r fields rest c d
+
+  held_avoid : (es : List Element) → AvoidElements r es → AvoidItems r (held_drops es)
+  held_avoid [] c = tt
+  held_avoid (Read h x ∷ es) c = holding_avoids x (held_drops es) c.0 (held_avoid es c.1)
+  held_avoid (Null ∷ es) c = held_avoid es c.1
+  held_avoid (Me ∷ es) c = held_avoid es c.1
+
   got_avoids : (fields : List Slot) (i : ℕ) → AvoidSlots r fields → IfThere (AvoidsSlot r) (slice_get fields i)
   got_avoids [] i c = tt
   got_avoids (f ∷ fields) zero c = c.0
   got_avoids (f ∷ fields) (suc i) c = got_avoids fields i c.1
 
-  write_avoids : (h : ℕ) (owner : Option ℕ) (fields : List Slot) (i : ℕ) (s : Slot) → IfThere (λ o. r o ≡ false) owner → AvoidSlots r fields → AvoidsSlot r s → AvoidsChange r (write_field h owner fields i s)
+  write_avoids : (h : ℕ) (owner : Option ℕ) (fields : List Slot) (i : ℕ) (s : Slot) → IfThere (λ o. r o ≡ false) owner → AvoidSlots r fields → AvoidsSlot r s → AvoidsChange r (write_field label h owner fields i s)
   write_avoids h (Some o) fields i s c d e = (c, e)
   write_avoids h None fields i s c d e = set_avoids r fields i s d e
 
-  new_avoids : (to : ℕ) (es : List Element) (it : Option Holding) → AvoidElements r es → Avoids (new_row id to es it)
+  new_avoids : (to : ℕ) (es : List Element) (it : Option Holding) → AvoidElements r es → Avoids (new_row label id to es it)
   new_avoids to es it c =
       walk.at_all_held Avoids (λ _. tt) (first_unheld es) _ (λ _. walk.at_all_slots Avoids (λ _. tt) (first_bare es) _ (λ _. walk.at_unheld Avoids (λ _. tt) to it _ (λ _.
-      (ending_avoids es (make id (made_fields id es) to) ((new, made_avoids es c), (new, tt)), (tt, new)))))
+      (ending_avoids es (make label id (made_fields id es) to) ((new, made_avoids es c), (new, tt)), (tt, new)))))
 
-  upgraded_avoids : (to : ℕ) (e : Option Entry) (o : ℕ) → r o ≡ false → Avoids (upgraded to e (Some o))
+  upgraded_avoids : (to : ℕ) (e : Option Entry) (o : ℕ) → r o ≡ false → Avoids (upgraded label to e (Some o))
   upgraded_avoids to e o c = walk.at_test Avoids (λ _. tt) (is_alive e) _ _ (λ _. ((c, tt), (tt, c))) (λ _. ((tt, tt), (tt, c)))
 
-  unwrapped_avoids : (h o : ℕ) (fields : List Slot) → r o ≡ false → AvoidSlots r fields → Avoids (unwrapped h o fields)
+  unwrapped_avoids : (h o : ℕ) (fields : List Slot) → r o ≡ false → AvoidSlots r fields → Avoids (unwrapped label h o fields)
   unwrapped_avoids h o fields c d = ((c, (d, tt)), ((c, tt), c))
 
-  unique_avoids : (h o : ℕ) (it : Seen) → r o ≡ false → IfThere (AvoidsEntry r) it.entry → Avoids (made_unique id h o it)
+  unique_avoids : (h o : ℕ) (it : Seen) → r o ≡ false → IfThere (AvoidsEntry r) it.entry → Avoids (made_unique label id h o it)
   unique_avoids h o it c d =
       walk.at_test Avoids (λ _. tt) (it.strong == 1) _ _
       (λ _. walk.at_test Avoids (λ _. tt) (it.weak == 0) _ _ (λ _. (tt, (tt, c))) (λ _. ((c, ((new, fields_avoids it.entry d), (new, tt))), (tt, new))))
@@ -88,33 +100,33 @@ module _ (r : ℕ → Bool) (id : ℕ) (new : r id ≡ false) where
   dropped_avoids h (holding.Slot s) c = ((tt, tt), ((c, tt), named_avoids s c))
   dropped_avoids h (holding.Bare fields) c = ((tt, tt), (drops_avoid r fields [] c tt, tt))
 
-  swapped_avoids : (c from : ℕ) (to : Option ℕ) (it : Option Holding) (old s : Slot) → AvoidsSlot r old → AvoidsSlot r s → Avoids (swapped c from to it old s)
+  swapped_avoids : (c from : ℕ) (to : Option ℕ) (it : Option Holding) (old s : Slot) → AvoidsSlot r old → AvoidsSlot r s → Avoids (swapped label c from to it old s)
   swapped_avoids c from None it old s d e = ((tt, (e, tt)), ((d, tt), named_avoids s e))
   swapped_avoids c from (Some to) it old s d e = walk.at_unheld Avoids (λ _. tt) to it _ (λ _. ((tt, (e, (d, tt))), (tt, named_avoids s e)))
 
-  exchanged_avoids : (c expected desired : ℕ) (old e d : Slot) → AvoidsSlot r old → AvoidsSlot r e → AvoidsSlot r d → Avoids (exchanged c expected desired old e d)
+  exchanged_avoids : (c expected desired : ℕ) (old e d : Slot) → AvoidsSlot r old → AvoidsSlot r e → AvoidsSlot r d → Avoids (exchanged label c expected desired old e d)
   exchanged_avoids c expected desired old e d p q s =
       walk.at_test Avoids (λ _. tt) (same_pointer old e) _ _ (λ _. ((tt, (s, tt)), ((p, tt), named_avoids d s))) (λ _. ((p, (tt, tt)), ((q, (s, tt)), named_avoids old p)))
 
   abbrev Held : Holding → Type 0
   Held x = AvoidsHolding r x
 
-  set_field_avoids : (h i from : ℕ) (y : Holding) (owner : Option ℕ) (fields : List Slot) → Held y → IfThere (λ o. r o ≡ false) owner → AvoidSlots r fields → Avoids (set_field h i from y owner fields)
+  set_field_avoids : (h i from : ℕ) (y : Holding) (owner : Option ℕ) (fields : List Slot) → Held y → IfThere (λ o. r o ≡ false) owner → AvoidSlots r fields → Avoids (set_field label h i from y owner fields)
   set_field_avoids h i from y owner fields b a d =
       walk.at_slot Avoids (λ _. tt) from y _ (λ s was. walk.at_field Avoids (λ _. tt) i (slice_get fields i) _ (λ old got.
       ((tt, (write_avoids h owner fields i s a d (subst Held was b), tt)), ((there (AvoidsSlot r) (slice_get fields i) old (got_avoids fields i d) got, tt), a))))
 
-  take_avoids : (h i to : ℕ) (it : Option Holding) (owner : Option ℕ) (fields : List Slot) → IfThere (λ o. r o ≡ false) owner → AvoidSlots r fields → Avoids (take_field h i to it owner fields)
+  take_avoids : (h i to : ℕ) (it : Option Holding) (owner : Option ℕ) (fields : List Slot) → IfThere (λ o. r o ≡ false) owner → AvoidSlots r fields → Avoids (take_field label h i to it owner fields)
   take_avoids h i to it owner fields a d =
       walk.at_field Avoids (λ _. tt) i (slice_get fields i) _ (λ s got. walk.at_unheld Avoids (λ _. tt) to it _ (λ _.
       ((there (AvoidsSlot r) (slice_get fields i) s (got_avoids fields i d) got, (write_avoids h owner fields i Nothing a d tt, tt)), (tt, a))))
 
-  copy_avoids : (i to : ℕ) (it : Option Holding) (owner : Option ℕ) (fields : List Slot) → IfThere (λ o. r o ≡ false) owner → AvoidSlots r fields → Avoids (copy_field i to it owner fields)
+  copy_avoids : (i to : ℕ) (it : Option Holding) (owner : Option ℕ) (fields : List Slot) → IfThere (λ o. r o ≡ false) owner → AvoidSlots r fields → Avoids (copy_field label i to it owner fields)
   copy_avoids i to it owner fields a d =
       walk.at_field Avoids (λ _. tt) i (slice_get fields i) _ (λ s got. walk.at_unheld Avoids (λ _. tt) to it _ (λ _.
       ((there (AvoidsSlot r) (slice_get fields i) s (got_avoids fields i d) got, tt), (tt, a))))
 
-  row_of_avoids : (k : Kind) (v : View) → AvoidsView r v → Avoids (row_of id k v)
+  row_of_avoids : (k : Kind) (v : View) → AvoidsView r v → Avoids (row_of label id k v)
   row_of_avoids (kind.New to fields) v c = new_avoids to v.elements v.first c.elements
   row_of_avoids (kind.NewCyclic to fields) v c = new_avoids to v.elements v.first c.elements
   row_of_avoids (kind.NewFrom from to) v c =
@@ -178,6 +190,7 @@ module _ (r : ℕ → Bool) (id : ℕ) (new : r id ≡ false) where
       exchanged_avoids k expected desired old e d (there (AvoidsSlot r) v.cell old c.cell had) (subst Held was (there Held v.first x c.first is)) (subst Held was_too (there Held v.second y c.second is_too)))))))
   row_of_avoids (kind.CellDrop k) v c =
       walk.at_cell Avoids (λ _. tt) k v.cell _ (λ s is. let a : AvoidsSlot r s = there (AvoidsSlot r) v.cell s c.cell is in ((tt, tt), ((a, tt), named_avoids s a)))
+  row_of_avoids kind.ScopeEnd v c = (ending_avoids v.elements [] tt, (held_avoid v.elements c.elements, tt))
 
 pub avoids_row : (r : ℕ → Bool) (op : Operation) (v : View) → r op.id ≡ false → AvoidsView r v → AvoidsPlan r (row op v)
-avoids_row r op v new c = walk.at_repeated (AvoidsPlan r) (λ _. tt) (repeated op.kind) _ (λ _. row_of_avoids r op.id new op.kind v c)
+avoids_row r op v new c = walk.at_repeated (AvoidsPlan r) (λ _. tt) (repeated op.kind) _ (λ _. row_of_avoids r op.thread op.id new op.kind v c)

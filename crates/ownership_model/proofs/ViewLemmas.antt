@@ -9,6 +9,7 @@ use Rattle.trace_types.specs.declared.kinds.Field.{Field}
 use Rattle.trace_types.specs.declared.kinds.Field.TheVariants as field
 use Rattle.trace_types.specs.declared.kinds.Kind.{Kind}
 use Rattle.ownership_model.specs.State.{State}
+use Rattle.ownership_model.specs.Scopes.{scope_of}
 use Rattle.ownership_model.specs.View.{Members, members, Read, Null, Me, held_by, cell_of, elements_of, named_in, seen, view_at, view_of}
 use Rattle.ownership_model.proofs.Twins.{AvoidsSlot, AvoidsHolding, AvoidsEntry, IfThere, AvoidElements, AvoidsView, Twins}
 use Rattle.ownership_model.proofs.TwinLemmas.{same_weight}
@@ -79,8 +80,8 @@ module _ (r : ℕ → Bool) (n o : State) (t : Twins r n o) where
     object = seen_avoids (named_in (held_by n a.first)) (named_outside (held_by n a.first) (held_avoids a.first));
   }
 
-pub same_view : (r : ℕ → Bool) (n o : State) (k : Kind) → Twins r n o → view_of n k ≡ view_of o k
-same_view r n o k t = view_alike r n o t (members k)
+pub same_view : (r : ℕ → Bool) (n o : State) (label : ℕ) (k : Kind) → Twins r n o → view_of n label k ≡ view_of o label k
+same_view r n o label k t = view_alike r n o t (members (scope_of label n.scopes) k) ∙ ap (λ ss. view_at o (members (scope_of label ss) k)) t.scopes
 
-pub avoids_view : (r : ℕ → Bool) (n o : State) (k : Kind) → Twins r n o → AvoidsView r (view_of n k)
-avoids_view r n o k t = view_avoids r n o t (members k)
+pub avoids_view : (r : ℕ → Bool) (n o : State) (label : ℕ) (k : Kind) → Twins r n o → AvoidsView r (view_of n label k)
+avoids_view r n o label k t = view_avoids r n o t (members (scope_of label n.scopes) k)

@@ -19,6 +19,9 @@ use Rattle.ownership_model.proofs.ListedLemmas.{replayed}
 abbrev op : ℕ → Kind → Operation
 op id k = record { id = id; thread = 0; kind = k }
 
+abbrev by : ℕ → ℕ → Kind → Operation
+by t id k = record { id = id; thread = t; kind = k }
+
 abbrev skipped : ℕ → Reason → Outcome
 skipped id r = record { id = id; verdict = Skipped r; events = []; counts = None }
 
@@ -281,3 +284,28 @@ pub make_mut_counts : outcomes_from nothing_held make_mut_counts_trace ≡
     counted 8 answer.Done [] 3 0 1 ∷
     []
 make_mut_counts = replayed make_mut_counts_trace
+
+-- scopes of two threads: handles end in reverse order of making
+abbrev scopes_trace : List Operation
+scopes_trace =
+    by 0 1 (kind.New 0 []) ∷
+    by 1 2 (kind.New 1 []) ∷
+    by 0 3 (kind.Clone 1 2) ∷
+    by 0 4 (kind.Downgrade 0 3) ∷
+    by 0 5 (kind.New 4 (field.Held 2 ∷ [])) ∷
+    by 0 6 kind.ScopeEnd ∷
+    by 1 7 kind.ScopeEnd ∷
+    by 1 8 kind.ScopeEnd ∷
+    []
+
+pub scopes : outcomes_from nothing_held scopes_trace ≡
+    counted 1 answer.Made [] 1 1 0 ∷
+    counted 2 answer.Made [] 2 1 0 ∷
+    counted 3 answer.Done [] 2 2 0 ∷
+    counted 4 answer.Done [] 1 1 1 ∷
+    counted 5 answer.Made [] 5 1 0 ∷
+    did 6 answer.Done (event.Destroyed 5 ∷ event.Freed 5 ∷ event.Destroyed 1 ∷ event.Freed 1 ∷ []) ∷
+    did 7 answer.Done (event.Destroyed 2 ∷ event.Freed 2 ∷ []) ∷
+    did 8 answer.Done [] ∷
+    []
+scopes = replayed scopes_trace

@@ -36,7 +36,7 @@ nested =
     Make 3 [] ∷
     Make 5 [] ∷
     Make 6 (Strong 2 ∷ Weak 3 ∷ Strong 5 ∷ []) ∷
-    SetHandle 2 (holding.Slot (Strong 3)) ∷
+    SetHandle 0 2 (holding.Slot (Strong 3)) ∷
     []
 
 pub nested_falls : events_of nested (item.Slot (Strong 6) ∷ []) ≡
@@ -52,7 +52,7 @@ own_weak_falls = cascaded own_weak (item.Slot (Strong 1) ∷ [])
 
 -- a husk that a Weak keeps
 abbrev pub husk : List Change
-husk = Make 1 [] ∷ TurnHusk 1 ∷ SetHandle 0 (holding.Slot (Weak 1)) ∷ []
+husk = Make 1 [] ∷ TurnHusk 1 ∷ SetHandle 0 0 (holding.Slot (Weak 1)) ∷ []
 
 pub husk_stays : events_of husk [] ≡ []
 husk_stays = cascaded husk []
@@ -114,10 +114,10 @@ pair_fits = ((omega arith, omega arith), ((omega arith, omega arith), tt))
 
 pub nested_fits : ChangesFit nested
 nested_fits =
-    ((omega arith, omega arith), ((omega arith, omega arith), ((omega arith, omega arith), ((omega arith, omega arith), ((omega arith, omega arith), ((omega arith, tt), tt))))))
+    ((omega arith, omega arith), ((omega arith, omega arith), ((omega arith, omega arith), ((omega arith, omega arith), ((omega arith, omega arith), ((omega arith, (omega arith, tt)), tt))))))
 
 pub own_weak_fits : ChangesFit own_weak
 own_weak_fits = ((omega arith, omega arith), tt)
 
 pub husk_fits : ChangesFit husk
-husk_fits = ((omega arith, omega arith), (tt, ((omega arith, tt), tt)))
+husk_fits = ((omega arith, omega arith), (tt, ((omega arith, (omega arith, tt)), tt)))

@@ -1,5 +1,5 @@
--- The limits of a state (profile of this project): which numbers handles, cells and objects may have, and how many
--- fields a value may have. They bound the counts.
+-- The limits of a state (profile of this project): which numbers handles, cells, objects and thread labels may have, and how
+-- many fields a value may have. They bound the counts.
 use Rattle.std.specs.Prelude.{ℕ, ◌+◌, ◌*◌, ◌≤◌, List, Option, Some, None, length}
 use Rattle.std.specs.List.{AllByRecursion}
 use Rattle.std.specs.FinMap.{get}
@@ -8,9 +8,10 @@ use Rattle.trace_types.specs.declared.slots.Holding.{Holding}
 use Rattle.trace_types.specs.declared.slots.Holding.TheVariants as holding
 use Rattle.trace_types.specs.declared.slots.Entry.{Entry}
 use Rattle.trace_types.specs.declared.slots.Entry.TheVariants.{Alive, Husk}
+use Rattle.trace_types.specs.declared.slots.Scoped.{Scoped}
 use Rattle.trace_types.specs.declared.slots.Change.{Change}
 use Rattle.trace_types.specs.declared.slots.Change.TheVariants.{SetHandle, EndHandle, SetCell, EndCell, SetField, Make, TurnHusk}
-use Rattle.trace_types.specs.declared.limits.TheConstants.{MAX_NAME, MAX_ID, MAX_FIELDS}
+use Rattle.trace_types.specs.declared.limits.TheConstants.{MAX_NAME, MAX_ID, MAX_THREAD, MAX_FIELDS}
 use Rattle.ownership_model.specs.State.{State}
 use Rattle.ownership_model.specs.declared.plan.Plan.{Plan}
 use Rattle.ownership_model.specs.declared.plan.Plan.TheVariants.{Skip, Act}
@@ -46,15 +47,20 @@ abbrev pub ObjectFits : ℕ → Option Entry → Type 0
 ObjectFits o None = Unit {0}
 ObjectFits o (Some e) = (o ≤ MAX_ID) × EntryFits e
 
+-- the labels of scopes
+abbrev pub LabelsFit : List Scoped → Type 0
+LabelsFit scopes = AllByRecursion (λ s. s.label ≤ MAX_THREAD) scopes
+
 -- all numbers and fields of a state are within the limits
 pub record IsBounded (m : State) : Type 0 where
   pub handles : (h : ℕ) → HandleFits h (get m.handles h)
   pub cells : (c : ℕ) → CellFits c (get m.cells c)
   pub objects : (o : ℕ) → ObjectFits o (get m.objects o)
+  pub labels : LabelsFit m.scopes
 
 -- a change keeps the limits: what it sets is within them
 abbrev pub ChangeFits : Change → Type 0
-ChangeFits (SetHandle h x) = (h ≤ MAX_NAME) × HoldingFits x
+ChangeFits (SetHandle t h x) = (t ≤ MAX_THREAD) × ((h ≤ MAX_NAME) × HoldingFits x)
 ChangeFits (EndHandle h) = Unit {0}
 ChangeFits (SetCell c s) = c ≤ MAX_NAME
 ChangeFits (EndCell c) = Unit {0}

@@ -1,6 +1,7 @@
 pub mod Places
 pub mod Plain
 pub mod Totals
+pub mod Scopes
 pub mod State
 pub mod Release
 pub mod Changes
@@ -10,6 +11,7 @@ pub mod Table
 pub mod Rows
 pub mod Step
 pub mod Carry
+pub mod Before
 pub mod Agrees
 pub mod Patch
 pub mod Cascade

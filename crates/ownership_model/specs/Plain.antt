@@ -2,6 +2,6 @@
 use Rattle.ownership_model.specs.State.{State}
 use Rattle.ownership_model.specs.declared.plain.state.PlainState.{PlainState}
 
--- its three lists, seen as finite maps
+-- its lists: three of them are seen as finite maps
 abbrev pub state_of : PlainState → State
-state_of s = record { handles = s.handles; cells = s.cells; objects = s.objects }
+state_of s = record { handles = s.handles; cells = s.cells; objects = s.objects; scopes = s.scopes.items }

@@ -47,6 +47,6 @@ Tells (Ok plan) row = plan ≡ row
 Tells (Err (stop.Skip reason)) row = Skip reason ≡ row
 Tells (Err stop.Memory) row = Unit {0}
 
--- the row of the table, at what an operation of this kind reads
-abbrev pub row_in : State → ℕ → Kind → Plan
-row_in m id k = row_of id k (view_of m k)
+-- the row of the table, at what an operation of this label and kind reads
+abbrev pub row_in : State → ℕ → ℕ → Kind → Plan
+row_in m t id k = row_of t id k (view_of m t k)

@@ -122,9 +122,9 @@ field_at i None rest = Skip (NoField i)
 field_at i (Some s) rest = rest s
 
 -- the change that sets field i: of an object, or of the value that h itself holds
-abbrev pub write_field : ℕ → Option ℕ → List Slot → ℕ → Slot → Change
-write_field h (Some o) fields i s = SetField o i s
-write_field h None fields i s = SetHandle h (holding.Bare (slice_set fields i s))
+abbrev pub write_field : ℕ → ℕ → Option ℕ → List Slot → ℕ → Slot → Change
+write_field label h (Some o) fields i s = SetField o i s
+write_field label h None fields i s = SetHandle label h (holding.Bare (slice_set fields i s))
 
 -- The elements of `fields` of a new object, one by one.
 
@@ -175,6 +175,19 @@ ending (Read h there ∷ es) rest = EndHandle h ∷ ending es rest
 ending (Null ∷ es) rest = ending es rest
 ending (Me ∷ es) rest = ending es rest
 
+-- what a handle holds, to be dropped: its slot, or all fields of the value, in order
+abbrev pub holding_drops : Option Holding → List Item → List Item
+holding_drops None rest = rest
+holding_drops (Some (holding.Slot s)) rest = item.Slot s ∷ rest
+holding_drops (Some (holding.Bare fields)) rest = drops fields rest
+
+-- what the handles that are named hold, to be dropped in their order
+abbrev pub held_drops : List Element → List Item
+held_drops [] = []
+held_drops (Read h there ∷ es) = holding_drops there (held_drops es)
+held_drops (Null ∷ es) = held_drops es
+held_drops (Me ∷ es) = held_drops es
+
 -- What the rows do, where it takes more than a line.
 
 -- an operation that names no event itself
@@ -182,39 +195,39 @@ abbrev pub act : Answer → List Change → List Item → Option ℕ → Plan
 act answer changes pending object = Act answer changes None pending object
 
 -- an object comes to be, and a handle holds the Arc to it
-abbrev pub make : ℕ → List Slot → ℕ → List Change
-make id fields to = Make id fields ∷ SetHandle to (holding.Slot (Strong id)) ∷ []
+abbrev pub make : ℕ → ℕ → List Slot → ℕ → List Change
+make label id fields to = Make id fields ∷ SetHandle label to (holding.Slot (Strong id)) ∷ []
 
 -- Arc::new, Arc::new_cyclic
-abbrev pub new_row : ℕ → ℕ → List Element → Option Holding → Plan
-new_row id to es there =
+abbrev pub new_row : ℕ → ℕ → ℕ → List Element → Option Holding → Plan
+new_row label id to es there =
     all_held (first_unheld es) (all_slots (first_bare es) (unheld to there
-    (act answer.Made (ending es (make id (made_fields id es) to)) [] (Some id))))
+    (act answer.Made (ending es (make label id (made_fields id es) to)) [] (Some id))))
 
 -- Weak::upgrade: an Arc while the value lives, else None; so a Weak of `Weak::new` gives None
-abbrev pub upgraded : ℕ → Option Entry → Option ℕ → Plan
-upgraded to entry None = act answer.No (SetHandle to (holding.Slot Nothing) ∷ []) [] None
-upgraded to entry (Some o) =
+abbrev pub upgraded : ℕ → ℕ → Option Entry → Option ℕ → Plan
+upgraded label to entry None = act answer.No (SetHandle label to (holding.Slot Nothing) ∷ []) [] None
+upgraded label to entry (Some o) =
     if is_alive entry
-    then act answer.Yes (SetHandle to (holding.Slot (Strong o)) ∷ []) [] (Some o)
-    else act answer.No (SetHandle to (holding.Slot Nothing) ∷ []) [] (Some o)
+    then act answer.Yes (SetHandle label to (holding.Slot (Strong o)) ∷ []) [] (Some o)
+    else act answer.No (SetHandle label to (holding.Slot Nothing) ∷ []) [] (Some o)
 
 -- Arc::try_unwrap, Arc::into_inner of the only Arc: the value moves out, whatever Weaks there are. The allocation is freed
 -- where there are none
-abbrev pub unwrapped : ℕ → ℕ → List Slot → Plan
-unwrapped h o fields =
-    Act answer.Yes (TurnHusk o ∷ SetHandle h (holding.Bare fields) ∷ []) (Some (event.Unwrapped o)) (item.End o ∷ []) (Some o)
+abbrev pub unwrapped : ℕ → ℕ → ℕ → List Slot → Plan
+unwrapped label h o fields =
+    Act answer.Yes (TurnHusk o ∷ SetHandle label h (holding.Bare fields) ∷ []) (Some (event.Unwrapped o)) (item.End o ∷ []) (Some o)
 
 -- Arc::make_mut: where other Arcs share the value, it is cloned into a new allocation; where only Weaks are left beside, it is
 -- moved into a new one, and the Weaks stay with the old; where nothing else names it, it stays. That the clone of a value
 -- clones its slots in order, without an event, is a profile of this project
-abbrev pub made_unique : ℕ → ℕ → ℕ → Seen → Plan
-made_unique id h o it =
+abbrev pub made_unique : ℕ → ℕ → ℕ → ℕ → Seen → Plan
+made_unique label id h o it =
     if it.strong == 1
     then if it.weak == 0
     then act answer.Unique [] [] (Some o)
-    else Act answer.Moved (TurnHusk o ∷ make id (fields_of it.entry) h) (Some (event.Moved o)) [] (Some id)
-    else act answer.Cloned (make id (fields_of it.entry) h) (item.Slot (Strong o) ∷ []) (Some id)
+    else Act answer.Moved (TurnHusk o ∷ make label id (fields_of it.entry) h) (Some (event.Moved o)) [] (Some id)
+    else act answer.Cloned (make label id (fields_of it.entry) h) (item.Slot (Strong o) ∷ []) (Some id)
 
 -- drop of a handle: of the slot, or of all fields of the value that it holds
 abbrev pub dropped : ℕ → Holding → Plan
@@ -234,116 +247,119 @@ same_pointer (Strong o) (Strong p) = o == p
 same_pointer _ _ = false
 
 -- atomic<shared_ptr<T>>: store drops what the cell held; exchange hands it out
-abbrev pub swapped : ℕ → ℕ → Option ℕ → Option Holding → Slot → Slot → Plan
-swapped c from None there old s = act answer.Done (EndHandle from ∷ SetCell c s ∷ []) (item.Slot old ∷ []) (named_by s)
-swapped c from (Some to) there old s =
-    unheld to there (act answer.Done (EndHandle from ∷ SetCell c s ∷ SetHandle to (holding.Slot old) ∷ []) [] (named_by s))
+abbrev pub swapped : ℕ → ℕ → ℕ → Option ℕ → Option Holding → Slot → Slot → Plan
+swapped label c from None there old s = act answer.Done (EndHandle from ∷ SetCell c s ∷ []) (item.Slot old ∷ []) (named_by s)
+swapped label c from (Some to) there old s =
+    unheld to there (act answer.Done (EndHandle from ∷ SetCell c s ∷ SetHandle label to (holding.Slot old) ∷ []) [] (named_by s))
 
 -- atomic<shared_ptr<T>>: compare_exchange_strong. Where the cell holds what was expected, it takes what is desired, and what it
 -- held is dropped. Else what was expected is dropped and becomes a copy of what the cell holds, and then what was desired is
 -- dropped, as it was moved into the call; the order of these two drops is a profile of this project
-abbrev pub exchanged : ℕ → ℕ → ℕ → Slot → Slot → Slot → Plan
-exchanged c expected desired old e d =
+abbrev pub exchanged : ℕ → ℕ → ℕ → ℕ → Slot → Slot → Slot → Plan
+exchanged label c expected desired old e d =
     if same_pointer old e
     then act answer.Yes (EndHandle desired ∷ SetCell c d ∷ []) (item.Slot old ∷ []) (named_by d)
-    else act answer.No (SetHandle expected (holding.Slot old) ∷ EndHandle desired ∷ []) (item.Slot e ∷ item.Slot d ∷ []) (named_by old)
+    else act answer.No (SetHandle label expected (holding.Slot old) ∷ EndHandle desired ∷ []) (item.Slot e ∷ item.Slot d ∷ []) (named_by old)
 
 -- The fields of an owner: an object, or else the value that h itself holds.
 
 -- an assignment to a field: it takes what the handle holds, which ends, and what it held is dropped
-abbrev pub set_field : ℕ → ℕ → ℕ → Holding → Option ℕ → List Slot → Plan
-set_field h i from y owner fields =
+abbrev pub set_field : ℕ → ℕ → ℕ → ℕ → Holding → Option ℕ → List Slot → Plan
+set_field label h i from y owner fields =
     slot_in from y (λ s. field_at i (slice_get fields i) (λ old.
-    act answer.Done (EndHandle from ∷ write_field h owner fields i s ∷ []) (item.Slot old ∷ []) owner))
+    act answer.Done (EndHandle from ∷ write_field label h owner fields i s ∷ []) (item.Slot old ∷ []) owner))
 
 -- a move out of a field, which leaves an empty pointer (Option::take: that a field is an Option of an Arc or of a Weak is a
 -- profile of this project)
-abbrev pub take_field : ℕ → ℕ → ℕ → Option Holding → Option ℕ → List Slot → Plan
-take_field h i to there owner fields =
+abbrev pub take_field : ℕ → ℕ → ℕ → ℕ → Option Holding → Option ℕ → List Slot → Plan
+take_field label h i to there owner fields =
     field_at i (slice_get fields i) (λ s. unheld to there
-    (act answer.Done (SetHandle to (holding.Slot s) ∷ write_field h owner fields i Nothing ∷ []) [] owner))
+    (act answer.Done (SetHandle label to (holding.Slot s) ∷ write_field label h owner fields i Nothing ∷ []) [] owner))
 
 -- a clone of what a field holds (Arc::clone, Weak::clone)
-abbrev pub copy_field : ℕ → ℕ → Option Holding → Option ℕ → List Slot → Plan
-copy_field i to there owner fields =
-    field_at i (slice_get fields i) (λ s. unheld to there (act answer.Done (SetHandle to (holding.Slot s) ∷ []) [] owner))
+abbrev pub copy_field : ℕ → ℕ → ℕ → Option Holding → Option ℕ → List Slot → Plan
+copy_field label i to there owner fields =
+    field_at i (slice_get fields i) (λ s. unheld to there (act answer.Done (SetHandle label to (holding.Slot s) ∷ []) [] owner))
 
 -- The rows: each asks what its members want, and then says what is answered, what changes, what is then dropped, and whose
 -- counts are told.
-abbrev pub row_of : ℕ → Kind → View → Plan
+abbrev pub row_of : ℕ → ℕ → Kind → View → Plan
 -- Arc::new: the values move in from the handles, which end
-row_of id (kind.New to fields) v = new_row id to v.elements v.first
+row_of label id (kind.New to fields) v = new_row label id to v.elements v.first
 -- Arc::new_cyclic: as new, and a field may be the Weak to the object itself
-row_of id (kind.NewCyclic to fields) v = new_row id to v.elements v.first
+row_of label id (kind.NewCyclic to fields) v = new_row label id to v.elements v.first
 -- Arc::new of a value that Arc::try_unwrap or Arc::into_inner gave
-row_of id (kind.NewFrom from to) v =
+row_of label id (kind.NewFrom from to) v =
     held from v.first (λ x. bare_in from x (λ fields. unheld to v.second
-    (act answer.Made (EndHandle from ∷ make id fields to) [] (Some id))))
+    (act answer.Made (EndHandle from ∷ make label id fields to) [] (Some id))))
 -- Weak::new
-row_of id (kind.WeakNew to) v = unheld to v.first (act answer.Done (SetHandle to (holding.Slot Dangling) ∷ []) [] None)
+row_of label id (kind.WeakNew to) v = unheld to v.first (act answer.Done (SetHandle label to (holding.Slot Dangling) ∷ []) [] None)
 -- an empty pointer: None in place of an Arc, or shared_ptr's default constructor
-row_of id (kind.Null to) v = unheld to v.first (act answer.Done (SetHandle to (holding.Slot Nothing) ∷ []) [] None)
+row_of label id (kind.Null to) v = unheld to v.first (act answer.Done (SetHandle label to (holding.Slot Nothing) ∷ []) [] None)
 -- Arc::clone, Weak::clone
-row_of id (kind.Clone from to) v =
+row_of label id (kind.Clone from to) v =
     held from v.first (λ x. slot_in from x (λ s. unheld to v.second
-    (act answer.Done (SetHandle to (holding.Slot s) ∷ []) [] (named_by s))))
+    (act answer.Done (SetHandle label to (holding.Slot s) ∷ []) [] (named_by s))))
 -- drop (std::mem::drop; std::sync::Arc, std::sync::Weak: Drop)
-row_of id (kind.Drop h) v = held h v.first (λ x. dropped h x)
+row_of label id (kind.Drop h) v = held h v.first (λ x. dropped h x)
 -- Arc::downgrade
-row_of id (kind.Downgrade from to) v =
+row_of label id (kind.Downgrade from to) v =
     held from v.first (λ x. strong_in from x (λ o. unheld to v.second
-    (act answer.Done (SetHandle to (holding.Slot (Weak o)) ∷ []) [] (Some o))))
+    (act answer.Done (SetHandle label to (holding.Slot (Weak o)) ∷ []) [] (Some o))))
 -- Weak::upgrade
-row_of id (kind.Upgrade from to) v =
-    held from v.first (λ x. weak_in from x (λ o. unheld to v.second (upgraded to v.object.entry o)))
+row_of label id (kind.Upgrade from to) v =
+    held from v.first (λ x. weak_in from x (λ o. unheld to v.second (upgraded label to v.object.entry o)))
 -- Arc::try_unwrap: the value where this is the only Arc, else the Arc stays
-row_of id (kind.TryUnwrap h) v =
+row_of label id (kind.TryUnwrap h) v =
     held h v.first (λ x. strong_in h x (λ o.
-    if v.object.strong == 1 then unwrapped h o (fields_of v.object.entry) else act answer.No [] [] (Some o)))
+    if v.object.strong == 1 then unwrapped label h o (fields_of v.object.entry) else act answer.No [] [] (Some o)))
 -- Arc::into_inner: the value where this is the only Arc, else the Arc is dropped
-row_of id (kind.IntoInner h) v =
+row_of label id (kind.IntoInner h) v =
     held h v.first (λ x. strong_in h x (λ o.
     if v.object.strong == 1
-    then unwrapped h o (fields_of v.object.entry)
-    else act answer.No (SetHandle h (holding.Slot Nothing) ∷ []) (item.Slot (Strong o) ∷ []) (Some o)))
+    then unwrapped label h o (fields_of v.object.entry)
+    else act answer.No (SetHandle label h (holding.Slot Nothing) ∷ []) (item.Slot (Strong o) ∷ []) (Some o)))
 -- Arc::get_mut: where no other Arc and no Weak names the object
-row_of id (kind.GetMut h) v =
+row_of label id (kind.GetMut h) v =
     held h v.first (λ x. strong_in h x (λ o.
     act (yes_if (v.object.strong == 1 && (v.object.weak == 0))) [] [] (Some o)))
 -- Arc::make_mut
-row_of id (kind.MakeMut h) v = held h v.first (λ x. strong_in h x (λ o. made_unique id h o v.object))
+row_of label id (kind.MakeMut h) v = held h v.first (λ x. strong_in h x (λ o. made_unique label id h o v.object))
 -- Arc::strong_count, Arc::weak_count, Weak::strong_count, Weak::weak_count
-row_of id (kind.Counts h) v = held h v.first (λ x. counted_in h x (λ o. act answer.Done [] [] o))
+row_of label id (kind.Counts h) v = held h v.first (λ x. counted_in h x (λ o. act answer.Done [] [] o))
 -- Arc::ptr_eq
-row_of id (kind.PtrEq a b) v =
+row_of label id (kind.PtrEq a b) v =
     held a v.first (λ x. held b v.second (λ y. strong_in a x (λ o. strong_in b y (λ p.
     act (yes_if (o == p)) [] [] (Some o)))))
 -- an assignment to a field of the value
-row_of id (kind.Set h i from) v =
-    held h v.first (λ x. held from v.second (λ y. fields_in h x v.object.entry (λ owner fields. set_field h i from y owner fields)))
+row_of label id (kind.Set h i from) v =
+    held h v.first (λ x. held from v.second (λ y. fields_in h x v.object.entry (λ owner fields. set_field label h i from y owner fields)))
 -- a move out of a field of the value
-row_of id (kind.Take h i to) v =
-    held h v.first (λ x. fields_in h x v.object.entry (λ owner fields. take_field h i to v.second owner fields))
+row_of label id (kind.Take h i to) v =
+    held h v.first (λ x. fields_in h x v.object.entry (λ owner fields. take_field label h i to v.second owner fields))
 -- a clone of a field of the value
-row_of id (kind.Get h i to) v =
-    held h v.first (λ x. fields_in h x v.object.entry (λ owner fields. copy_field i to v.second owner fields))
+row_of label id (kind.Get h i to) v =
+    held h v.first (λ x. fields_in h x v.object.entry (λ owner fields. copy_field label i to v.second owner fields))
 -- atomic<shared_ptr<T>>: the constructor from a shared_ptr, which is moved in
-row_of id (kind.CellNew c from) v =
+row_of label id (kind.CellNew c from) v =
     held from v.first (λ x. pointer_in from x (λ s. absent_cell c v.cell
     (act answer.Done (EndHandle from ∷ SetCell c s ∷ []) [] (named_by s))))
 -- atomic<shared_ptr<T>>::load
-row_of id (kind.CellLoad c to) v =
-    in_cell c v.cell (λ s. unheld to v.first (act answer.Done (SetHandle to (holding.Slot s) ∷ []) [] (named_by s)))
+row_of label id (kind.CellLoad c to) v =
+    in_cell c v.cell (λ s. unheld to v.first (act answer.Done (SetHandle label to (holding.Slot s) ∷ []) [] (named_by s)))
 -- atomic<shared_ptr<T>>::exchange, store
-row_of id (kind.CellSwap c from to) v =
-    in_cell c v.cell (λ old. held from v.first (λ x. pointer_in from x (λ s. swapped c from to v.second old s)))
+row_of label id (kind.CellSwap c from to) v =
+    in_cell c v.cell (λ old. held from v.first (λ x. pointer_in from x (λ s. swapped label c from to v.second old s)))
 -- atomic<shared_ptr<T>>::compare_exchange_strong
-row_of id (kind.CellCas c expected desired) v =
+row_of label id (kind.CellCas c expected desired) v =
     in_cell c v.cell (λ old. held expected v.first (λ x. held desired v.second (λ y.
-    pointer_in expected x (λ e. pointer_in desired y (λ d. exchanged c expected desired old e d)))))
+    pointer_in expected x (λ e. pointer_in desired y (λ d. exchanged label c expected desired old e d)))))
 -- atomic<shared_ptr<T>>: the destructor
-row_of id (kind.CellDrop c) v =
+row_of label id (kind.CellDrop c) v =
     in_cell c v.cell (λ s. act answer.Done (EndCell c ∷ []) (item.Slot s ∷ []) (named_by s))
+-- the end of a thread's scope (Rust Reference, Destructors): its handles end, and what they held is dropped, in both that of the
+-- handle made last first; no count is told
+row_of label id kind.ScopeEnd v = act answer.Done (ending v.elements []) (held_drops v.elements) None
 
 -- a handle that is named twice comes before every other reason
 abbrev pub unless_repeated : Option ℕ → Plan → Plan
@@ -352,4 +368,4 @@ unless_repeated None rest = rest
 
 -- what an operation is to do
 abbrev pub row : Operation → View → Plan
-row op v = unless_repeated (repeated op.kind) (row_of op.id op.kind v)
+row op v = unless_repeated (repeated op.kind) (row_of op.thread op.id op.kind v)

@@ -15,6 +15,7 @@ use Rattle.trace_types.specs.declared.kinds.Kind.{Kind}
 use Rattle.trace_types.specs.declared.kinds.Kind.TheVariants as kind
 pub use Rattle.trace_types.specs.Slots.{named_by}
 use Rattle.ownership_model.specs.State.{State, strong, weak}
+use Rattle.ownership_model.specs.Scopes.{scope_of}
 
 -- the handles and the cell that an operation names, in the order of the table; `fields` comes last
 pub record Members : Type 0 where
@@ -59,9 +60,11 @@ fields_in (Some (table.Fields fs)) = fs
 fields_in (Some (table.CyclicFields fs)) = fs
 fields_in v = []
 
--- a handle or cell that is to be made stands among them, in its place
-abbrev pub members : Kind → Members
-members k = let ms = table.members k in record {
+-- a handle or cell that is to be made stands among them, in its place; scope_end names the handles of its scope, in the order
+-- in which they are dropped
+abbrev pub members : List ℕ → Kind → Members
+members scope kind.ScopeEnd = record { first = None; second = None; cell = None; fields = map field.Held scope }
+members scope k = let ms = table.members k in record {
   first = first_handle ms;
   second = first_handle (behind_handle ms);
   cell = cell_in (table.value_of (codes "c") ms);
@@ -128,9 +131,9 @@ view_at m a = record {
   object = seen m (named_in (held_by m a.first));
 }
 
--- what an operation of this kind reads
-abbrev pub view_of : State → Kind → View
-view_of m k = view_at m (members k)
+-- what an operation of this label and kind reads
+abbrev pub view_of : State → ℕ → Kind → View
+view_of m t k = view_at m (members (scope_of t m.scopes) k)
 
 -- the handles among the elements of `fields`
 abbrev pub held_fields : List Field → List ℕ
@@ -140,10 +143,10 @@ held_fields (field.Null ∷ fs) = held_fields fs
 held_fields (field.Me ∷ fs) = held_fields fs
 
 -- the handles that have to differ: all that an operation names, in order, also one that is to be made; `ptr_eq` alone may name
--- one handle twice
+-- one handle twice, and in a scope none stands twice
 abbrev pub apart_handles : Kind → List ℕ
 apart_handles (kind.PtrEq a b) = []
-apart_handles k = let a = members k in option_to_list a.first ++ option_to_list a.second ++ held_fields a.fields
+apart_handles k = let a = members [] k in option_to_list a.first ++ option_to_list a.second ++ held_fields a.fields
 
 -- the first handle that repeats an earlier one
 abbrev pub repeated_in : List ℕ → List ℕ → Option ℕ

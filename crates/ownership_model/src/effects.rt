@@ -12,23 +12,30 @@ use trace_types::slots::{Change, Holding, Item, Slot};
 /// An object comes to be, and a handle holds the `Arc` to it.
 pub fn push_make(
     changes: &mut Vec<Change>,
+    label: u32,
     id: u32,
     fields: Sequence<Slot>,
     to: u32,
 ) -> Result<(), AllocError>
-    ensures { OnOk result (changes.new.items ≡ changes.old.items ++ Table.make id fields to) }
+    ensures { OnOk result (changes.new.items ≡ changes.old.items ++ Table.make label id fields to) }
 {
     changes.push(Change::Make(id, fields))?;
-    Ok(changes.push(Change::SetHandle(to, Holding::Slot(Slot::Strong(id))))?)
+    Ok(changes.push(Change::SetHandle(label, to, Holding::Slot(Slot::Strong(id))))?)
 }
 
 /// The value moves out of its allocation to the handle, and the claim on the allocation goes.
-pub fn unwrapped(alloc: Global, h: u32, object: u32, fields: &[Slot]) -> Result<Plan, AllocError>
-    ensures { IfOk result (λ plan. plan ≡ Table.unwrapped h object fields.now) }
+pub fn unwrapped(
+    alloc: Global,
+    label: u32,
+    h: u32,
+    object: u32,
+    fields: &[Slot],
+) -> Result<Plan, AllocError>
+    ensures { IfOk result (λ plan. plan ≡ Table.unwrapped label h object fields.now) }
 {
     let changes = vec![in alloc;
         Change::TurnHusk(object),
-        Change::SetHandle(h, Holding::Bare(copy_fields(alloc, fields)?)),
+        Change::SetHandle(label, h, Holding::Bare(copy_fields(alloc, fields)?)),
     ]?;
     let pending = vec![in alloc; Item::End(object)]?;
     let event = Event::Unwrapped(object);

@@ -15,6 +15,7 @@ mod names;
 pub mod number_map;
 mod release;
 mod rows;
+mod scopes;
 pub mod state;
 mod unique;
 mod view;

@@ -90,8 +90,15 @@ pub struct Fields<'a> {
 
 impl Fields<'_> {
     /// The field with that index, from 0, becomes the slot.
-    pub fn write(&self, alloc: Global, h: u32, i: u32, slot: Slot) -> Result<Change, AllocError>
-        ensures { IfOk result (λ change. change ≡ Table.write_field h self.now.owner self.now.slots.now i slot) }
+    pub fn write(
+        &self,
+        alloc: Global,
+        label: u32,
+        h: u32,
+        i: u32,
+        slot: Slot,
+    ) -> Result<Change, AllocError>
+        ensures { IfOk result (λ change. change ≡ Table.write_field label h self.now.owner self.now.slots.now i slot) }
     {
         match self.owner {
             Some(object) => Ok(Change::SetField(object, i, slot)),
@@ -100,7 +107,7 @@ impl Fields<'_> {
                 if let Some(place) = value.get_mut(i as usize) {
                     *place = slot;
                 }
-                Ok(Change::SetHandle(h, Holding::Bare(Sequence::from_vec(value))))
+                Ok(Change::SetHandle(label, h, Holding::Bare(Sequence::from_vec(value))))
             }
         }
     }

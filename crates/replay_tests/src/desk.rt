@@ -1,3 +1,4 @@
+//! Requests to a desk.
 ghost use Rattle.std.specs.Prelude.{◌≡◌, [], IfOk};
 
 use edit_desk::desk::Desk;

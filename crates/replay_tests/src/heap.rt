@@ -50,7 +50,7 @@ fn nested(alloc: Global) -> Result<Vec<Change>, AllocError>
         Change::Make(3, Sequence::empty(alloc)),
         Change::Make(5, Sequence::empty(alloc)),
         Change::Make(6, sixth),
-        Change::SetHandle(2, Holding::Slot(Slot::Strong(3))),
+        Change::SetHandle(0, 2, Holding::Slot(Slot::Strong(3))),
     ]?)
 }
 
@@ -67,7 +67,7 @@ fn husk(alloc: Global) -> Result<Vec<Change>, AllocError>
     Ok(vec![in alloc;
         Change::Make(1, Sequence::empty(alloc)),
         Change::TurnHusk(1),
-        Change::SetHandle(0, Holding::Slot(Slot::Weak(1))),
+        Change::SetHandle(0, 0, Holding::Slot(Slot::Weak(1))),
     ]?)
 }
 

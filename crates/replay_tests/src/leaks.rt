@@ -37,7 +37,7 @@ fn husk(alloc: Global) -> Result<Vec<Change>, AllocError>
     Ok(vec![in alloc;
         Change::Make(1, Sequence::empty(alloc)),
         Change::TurnHusk(1),
-        Change::SetHandle(0, Holding::Slot(Slot::Weak(1))),
+        Change::SetHandle(0, 0, Holding::Slot(Slot::Weak(1))),
     ]?)
 }
 

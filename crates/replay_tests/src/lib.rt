@@ -14,4 +14,6 @@ mod reports;
 #[cfg(test)]
 mod runs;
 #[cfg(test)]
+mod scopes;
+#[cfg(test)]
 mod steps;

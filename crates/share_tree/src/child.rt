@@ -7,10 +7,11 @@ ghost use Rattle.share_tree.specs.Entries.{keys_from, moved};
 ghost use Rattle.share_tree.specs.Walk.{IsNowhereFrom, IsFirstFrom};
 ghost use Rattle.share_tree.specs.Digits.{updated, nowhere, child_at, AgreesBelow};
 
-use crate::level::{Level, Same};
+use crate::level::Level;
 use std::alloc::{AllocError, Global};
 use std::marker::Model;
 use std::sync::Arc;
+use trace_types::same::Same;
 
 /// A level that others may share, or none, which has no entry. Contracts see the level, if there is one.
 #[derive(Drop)]

@@ -71,6 +71,7 @@ before (kind.CellLoad c to) key value others = number_join (codes "c") c (member
 before (kind.CellSwap c from to) key value others = number_join (codes "c") c (members_text false (number_member (codes "from") from (member key value others))) ∙ chained (number_text (codes "c") c) (number_text (codes "from") from) (members_text false (member key value others)) (members_text false (number_member (codes "from") from (member key value others))) (number_join (codes "from") from (members_text false (member key value others)))
 before (kind.CellCas c expected desired) key value others = number_join (codes "c") c (members_text false (number_member (codes "desired") desired (number_member (codes "expected") expected (member key value others)))) ∙ chained (number_text (codes "c") c) (number_text (codes "desired") desired) (members_text false (number_member (codes "expected") expected (member key value others))) (members_text false (number_member (codes "desired") desired (number_member (codes "expected") expected (member key value others)))) (number_join (codes "desired") desired (members_text false (number_member (codes "expected") expected (member key value others)))) ∙ chained (number_text (codes "c") c ++ number_text (codes "desired") desired) (number_text (codes "expected") expected) (members_text false (member key value others)) (members_text false (number_member (codes "expected") expected (member key value others))) (number_join (codes "expected") expected (members_text false (member key value others)))
 before (kind.CellDrop c) key value others = number_join (codes "c") c (members_text false (member key value others))
+before kind.ScopeEnd key value others = refl
 
 -- ---- those after `t`
 
@@ -100,6 +101,7 @@ after (kind.CellSwap c from (Some to)) = refl
 after (kind.CellSwap c from None) = refl
 after (kind.CellCas c expected desired) = refl
 after (kind.CellDrop c) = refl
+after kind.ScopeEnd = refl
 
 -- ---- those of every operation
 
@@ -129,6 +131,7 @@ name_is_plain name.CellLoad = refl
 name_is_plain name.CellSwap = refl
 name_is_plain name.CellCas = refl
 name_is_plain name.CellDrop = refl
+name_is_plain name.ScopeEnd = refl
 
 op_join : (a b c rest : List ℕ) → a ++ (codes ",\"op\":" ++ ((34 ∷ (b ++ 34 ∷ [])) ++ (codes ",\"t\":" ++ (c ++ rest)))) ≡ (a ++ codes ",\"op\":\"" ++ b ++ codes "\",\"t\":" ++ c) ++ rest
 op_join a b c rest =

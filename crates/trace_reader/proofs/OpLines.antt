@@ -123,6 +123,7 @@ op_numbers id t (kind.CellCas c expected desired) low few fits =
     let p = both (is_name c) _ fits in let q = both (is_name expected) _ p.1 in
     (IsNumber-decimal c (name_fits c p.0), (IsNumber-decimal desired (name_fits desired q.1), (IsNumber-decimal expected (name_fits expected q.0), (IsNumber-decimal id low, (tt, (IsNumber-decimal t few, tt))))))
 op_numbers id t (kind.CellDrop c) low few fits = (IsNumber-decimal c (name_fits c fits), (IsNumber-decimal id low, (tt, (IsNumber-decimal t few, tt))))
+op_numbers id t kind.ScopeEnd low few fits = (IsNumber-decimal id low, (tt, (IsNumber-decimal t few, tt)))
 
 op_depth : (id t : ℕ) (k : Kind) → tree.depth (outline (value_of id t k)) ≤ max_depth
 unfolding members_of
@@ -150,6 +151,7 @@ op_depth id t (kind.CellSwap c from (Some to)) = omega arith
 op_depth id t (kind.CellSwap c from None) = omega arith
 op_depth id t (kind.CellCas c expected desired) = omega arith
 op_depth id t (kind.CellDrop c) = omega arith
+op_depth id t kind.ScopeEnd = omega arith
 
 op_back : (id t : ℕ) (k : Kind) → id < 2 ^ 64 → t < 2 ^ 64 → is_kind k ≡ true → of_json (outline (value_of id t k)) ≡ Some (value_of id t k)
 unfolding members_of
@@ -207,6 +209,7 @@ op_back id t (kind.CellCas c expected desired) low few fits =
     let p = both (is_name c) _ fits in let q = both (is_name expected) _ p.1 in
     rw (number_of-decimal c (name_fits c p.0), number_of-decimal desired (name_fits desired q.1), number_of-decimal expected (name_fits expected q.0), number_of-decimal id low, number_of-decimal t few)
 op_back id t (kind.CellDrop c) low few fits = rw (number_of-decimal c (name_fits c fits), number_of-decimal id low, number_of-decimal t few)
+op_back id t kind.ScopeEnd low few fits = rw (number_of-decimal id low, number_of-decimal t few)
 
 -- what the limits say
 pub record Within (op : Operation) : Type 0 where
@@ -306,6 +309,7 @@ op_again id t (kind.CellCas c expected desired) low high small fits =
     let p = both (is_name c) _ fits in let q = both (is_name expected) _ p.1 in
     rw (low, high, le-leb 0 t (omega arith), small, le-leb 0 c (omega arith), p.0, le-leb 0 expected (omega arith), q.0, le-leb 0 desired (omega arith), q.1)
 op_again id t (kind.CellDrop c) low high small fits = rw (low, high, le-leb 0 t (omega arith), small, le-leb 0 c (omega arith), fits)
+op_again id t kind.ScopeEnd low high small fits = rw (low, high, le-leb 0 t (omega arith), small)
 
 pub read_op-data_of : (op : Operation) → is_within_limits op ≡ true → read_op (data_of op) ≡ Ok op
 unfolding read_op

@@ -151,6 +151,7 @@ AreNeat-op id t (kind.CellCas c expected desired) low few fits =
     let p = both (is_name c) _ fits in let q = both (is_name expected) _ p.1 in
     ((refl, omega arith), Neat-handle c p.0, ((refl, omega arith), Neat-handle desired q.1, ((refl, omega arith), Neat-handle expected q.0, ((refl, omega arith), Neat-natural id low, ((refl, omega arith), (refl, omega arith), ((refl, omega arith), Neat-natural t (omega arith), tt))))))
 AreNeat-op id t (kind.CellDrop c) low few fits = ((refl, omega arith), Neat-handle c fits, ((refl, omega arith), Neat-natural id low, ((refl, omega arith), (refl, omega arith), ((refl, omega arith), Neat-natural t (omega arith), tt))))
+AreNeat-op id t kind.ScopeEnd low few fits = ((refl, omega arith), Neat-natural id low, ((refl, omega arith), (refl, omega arith), ((refl, omega arith), Neat-natural t (omega arith), tt)))
 
 few_members : (id t : ℕ) (k : Kind) → count (members_of (record { id = id; thread = t; kind = k })) ≤ max_members
 unfolding members_of
@@ -178,6 +179,7 @@ few_members id t (kind.CellSwap c from (Some to)) = omega arith
 few_members id t (kind.CellSwap c from None) = omega arith
 few_members id t (kind.CellCas c expected desired) = omega arith
 few_members id t (kind.CellDrop c) = omega arith
+few_members id t kind.ScopeEnd = omega arith
 
 -- the line begins with a brace, is short, and has visible characters alone
 pub record IsNeatLine (line : List ℕ) : Type 0 where

@@ -7,7 +7,7 @@ use Rattle.trace_types.specs.declared.kinds.Kind.{Kind}
 use Rattle.trace_types.specs.declared.kinds.Kind.TheVariants as kind
 use Rattle.trace_types.specs.declared.limits.TheConstants.{MAX_INDEX}
 use Rattle.trace_types.specs.declared.names.OpName.{OpName}
-use Rattle.trace_types.specs.declared.names.OpName.TheVariants.{New, NewCyclic, NewFrom, WeakNew, Null, Clone, Drop, Downgrade, Upgrade, TryUnwrap, IntoInner, GetMut, MakeMut, Counts, PtrEq, Set, Take, Get, CellNew, CellLoad, CellSwap, CellCas, CellDrop}
+use Rattle.trace_types.specs.declared.names.OpName.TheVariants.{New, NewCyclic, NewFrom, WeakNew, Null, Clone, Drop, Downgrade, Upgrade, TryUnwrap, IntoInner, GetMut, MakeMut, Counts, PtrEq, Set, Take, Get, CellNew, CellLoad, CellSwap, CellCas, CellDrop, ScopeEnd}
 use Rattle.trace_reader.specs.declared.fault.LineCause.{LineCause}
 use Rattle.trace_reader.specs.Members.{◌>>=◌, number_at, handle_at, perhaps_handle_at, fields_at}
 
@@ -80,3 +80,4 @@ kind_of CellLoad d = two_at (codes "c") (codes "to") kind.CellLoad d
 kind_of CellSwap d = swap_at d
 kind_of CellCas d = three_at (codes "c") (codes "expected") (codes "desired") kind.CellCas d
 kind_of CellDrop d = one_at (codes "c") kind.CellDrop d
+kind_of ScopeEnd d = Ok kind.ScopeEnd

@@ -57,6 +57,7 @@ text_before (kind.CellLoad c to) = number_text (codes "c") c
 text_before (kind.CellSwap c from to) = number_text (codes "c") c ++ number_text (codes "from") from
 text_before (kind.CellCas c expected desired) = number_text (codes "c") c ++ number_text (codes "desired") desired ++ number_text (codes "expected") expected
 text_before (kind.CellDrop c) = number_text (codes "c") c
+text_before kind.ScopeEnd = []
 
 -- the members after `t`
 abbrev pub text_after : Kind → List ℕ
@@ -83,6 +84,7 @@ text_after (kind.CellLoad c to) = to_text to
 text_after (kind.CellSwap c from to) = perhaps_to_text to
 text_after (kind.CellCas c expected desired) = []
 text_after (kind.CellDrop c) = []
+text_after kind.ScopeEnd = []
 
 -- the members of every operation
 abbrev pub text_between : Operation → List ℕ

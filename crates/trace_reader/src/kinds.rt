@@ -44,6 +44,7 @@ pub fn kind<'a>(alloc: Global, name: OpName, list: &[Member<'a>]) -> Result<Kind
         OpName::CellSwap => cell_swap(list),
         OpName::CellCas => cell_cas(list),
         OpName::CellDrop => cell_drop(list),
+        OpName::ScopeEnd => Ok(Kind::ScopeEnd),
     }
 }
 

@@ -144,6 +144,7 @@ fn push_before(text: &mut String, kind: &Kind) -> Result<(), AllocError>
             push_number(text, "expected", *expected)
         }
         Kind::CellDrop { c } => push_number(text, "c", *c),
+        Kind::ScopeEnd => Ok(()),
     }
 }
 
@@ -175,6 +176,7 @@ fn push_after(text: &mut String, kind: &Kind) -> Result<(), AllocError>
         Kind::CellNew { .. } => Ok(()),
         Kind::CellCas { .. } => Ok(()),
         Kind::CellDrop { .. } => Ok(()),
+        Kind::ScopeEnd => Ok(()),
     }
 }
 

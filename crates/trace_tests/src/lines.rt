@@ -1,3 +1,4 @@
+//! Lines of traces.
 use serde_json::{Value, from_slice};
 use std::fmt::Write;
 use std::test::Fail;
@@ -141,6 +142,8 @@ fn every_operation_is_read(rt: HostRuntime) -> Result<(), Fail> {
         "\"cell_swap\",\"c\":0,\"from\":0",
         "\"cell_cas\",\"c\":0,\"expected\":0,\"desired\":1",
         "\"cell_drop\",\"c\":0",
+        "\"scope_end\"",
+        "\"scope_end\",\"h\":-1,\"label\":2",
     ];
     for members in table.iter() {
         let line = format!(in rt.alloc(); "{{\"id\":1,\"t\":0,\"op\":{members}}}")?;
@@ -356,6 +359,7 @@ fn canonical_lines_are_written_as_they_were_read(rt: HostRuntime) -> Result<(), 
         "{\"c\":4,\"from\":5,\"id\":1,\"op\":\"cell_swap\",\"t\":0}\n",
         "{\"c\":4,\"desired\":5,\"expected\":6,\"id\":1,\"op\":\"cell_cas\",\"t\":0}\n",
         "{\"c\":4,\"id\":1,\"op\":\"cell_drop\",\"t\":0}\n",
+        "{\"id\":6,\"op\":\"scope_end\",\"t\":0}\n",
     ];
     for text in table.iter() {
         let trace = read_trace(rt.alloc(), text.as_bytes())?;

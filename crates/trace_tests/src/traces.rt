@@ -1,3 +1,4 @@
+//! Traces.
 use std::test::Fail;
 use trace_types::kinds::Kind;
 use trace_types::ops::{Op, TraceFault};

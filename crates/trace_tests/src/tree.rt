@@ -1,8 +1,8 @@
 //! What no clause says: that each call succeeds, and that a tree goes on where memory was refused once.
-use share_tree::level::Same;
 use share_tree::tree::ShareTree;
 use std::alloc::{AllocError, Global};
 use std::test::Fail;
+use trace_types::same::Same;
 
 #[derive(Drop)]
 struct Number(u32);

@@ -64,6 +64,7 @@ members (kind.CellLoad c to) = cell c ∷ handle (codes "to") to ∷ []
 members (kind.CellSwap c from to) = cell c ∷ handle (codes "from") from ∷ perhaps_handle (codes "to") to ∷ []
 members (kind.CellCas c expected desired) = cell c ∷ handle (codes "expected") expected ∷ handle (codes "desired") desired ∷ []
 members (kind.CellDrop c) = cell c ∷ []
+members kind.ScopeEnd = []
 
 -- the member of that name
 abbrev pub value_of : List ℕ → List Member → Option Value

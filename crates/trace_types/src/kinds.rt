@@ -64,6 +64,8 @@ pub enum Kind {
     CellCas { c: u32, expected: u32, desired: u32 },
     /// `atomic<shared_ptr<T>>`'s destructor
     CellDrop { c: u32 },
+    /// the end of the scope of the operation's thread label
+    ScopeEnd,
 }
 
 impl Kind {
@@ -188,6 +190,7 @@ impl Kind {
                 },
             ) => *c == *other_c && *expected == *other_expected && *desired == *other_desired,
             (Kind::CellDrop { c }, Kind::CellDrop { c: other_c }) => *c == *other_c,
+            (Kind::ScopeEnd, Kind::ScopeEnd) => true,
             _ => false,
         }
     }

@@ -132,5 +132,6 @@ pub fn is_kind(kind: &Kind) -> bool
             desired,
         } => is_name(*c) && is_name(*expected) && is_name(*desired),
         Kind::CellDrop { c } => is_name(*c),
+        Kind::ScopeEnd => true,
     }
 }

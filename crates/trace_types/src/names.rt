@@ -32,6 +32,7 @@ pub enum OpName {
     CellSwap,
     CellCas,
     CellDrop,
+    ScopeEnd,
 }
 
 impl fmt::Display for OpName {
@@ -62,6 +63,7 @@ impl fmt::Display for OpName {
             OpName::CellSwap => "cell_swap",
             OpName::CellCas => "cell_cas",
             OpName::CellDrop => "cell_drop",
+            OpName::ScopeEnd => "scope_end",
         })
     }
 }
@@ -95,6 +97,7 @@ pub fn read_name(text: &str) -> Option<OpName>
         "cell_swap" => Some(OpName::CellSwap),
         "cell_cas" => Some(OpName::CellCas),
         "cell_drop" => Some(OpName::CellDrop),
+        "scope_end" => Some(OpName::ScopeEnd),
         _ => None,
     }
 }
@@ -128,6 +131,7 @@ impl Kind {
             Kind::CellSwap { .. } => OpName::CellSwap,
             Kind::CellCas { .. } => OpName::CellCas,
             Kind::CellDrop { .. } => OpName::CellDrop,
+            Kind::ScopeEnd => OpName::ScopeEnd,
         }
     }
 }

@@ -13,7 +13,7 @@ use trace_types::slots::{Change, Holding, Item, Slot};
 
 /// `atomic<shared_ptr<T>>`'s constructor
 pub fn cell_new(alloc: Global, state: &PlainState, c: u32, from: u32) -> Result<Plan, Stop>
-    ensures { Tells result (row_in (state_of state.now) 0 (kind.CellNew c from)) }
+    ensures { Tells result (row_in (state_of state.now) 0 0 (kind.CellNew c from)) }
 {
     let slot = pointer_in(from, held(state, from)?)?;
     absent_cell(state, c)?;
@@ -22,23 +22,30 @@ pub fn cell_new(alloc: Global, state: &PlainState, c: u32, from: u32) -> Result<
 }
 
 /// `atomic<shared_ptr<T>>::load`
-pub fn cell_load(alloc: Global, state: &PlainState, c: u32, to: u32) -> Result<Plan, Stop>
-    ensures { Tells result (row_in (state_of state.now) 0 (kind.CellLoad c to)) }
+pub fn cell_load(
+    alloc: Global,
+    state: &PlainState,
+    label: u32,
+    c: u32,
+    to: u32,
+) -> Result<Plan, Stop>
+    ensures { Tells result (row_in (state_of state.now) label 0 (kind.CellLoad c to)) }
 {
     let slot = in_cell(state, c)?;
     unheld(state, to)?;
-    Ok(Plan::hold(alloc, Answer::Done, to, slot, slot.object())?)
+    Ok(Plan::hold(alloc, label, Answer::Done, to, slot, slot.object())?)
 }
 
 /// `atomic<shared_ptr<T>>::exchange`, or `store` where there is no `to`
 pub fn cell_swap(
     alloc: Global,
     state: &PlainState,
+    label: u32,
     c: u32,
     from: u32,
     to: Option<u32>,
 ) -> Result<Plan, Stop>
-    ensures { Tells result (row_in (state_of state.now) 0 (kind.CellSwap c from to)) }
+    ensures { Tells result (row_in (state_of state.now) label 0 (kind.CellSwap c from to)) }
 {
     let old = in_cell(state, c)?;
     let slot = pointer_in(from, held(state, from)?)?;
@@ -50,7 +57,7 @@ pub fn cell_swap(
         }
         Some(to) => {
             unheld(state, to)?;
-            changes.push(Change::SetHandle(to, Holding::Slot(old)))?;
+            changes.push(Change::SetHandle(label, to, Holding::Slot(old)))?;
             Ok(Plan::act(Answer::Done, changes, Vec::new(alloc), slot.object()))
         }
     }
@@ -60,11 +67,12 @@ pub fn cell_swap(
 pub fn cell_cas(
     alloc: Global,
     state: &PlainState,
+    label: u32,
     c: u32,
     expected: u32,
     desired: u32,
 ) -> Result<Plan, Stop>
-    ensures { Tells result (row_in (state_of state.now) 0 (kind.CellCas c expected desired)) }
+    ensures { Tells result (row_in (state_of state.now) label 0 (kind.CellCas c expected desired)) }
 {
     let old = in_cell(state, c)?;
     let expected_held = held(state, expected)?;
@@ -78,7 +86,7 @@ pub fn cell_cas(
         return Ok(Plan::act(Answer::Yes, changes, pending, slot.object()));
     }
     let changes = vec![in alloc;
-        Change::SetHandle(expected, Holding::Slot(old)),
+        Change::SetHandle(label, expected, Holding::Slot(old)),
         Change::EndHandle(desired),
     ]?;
     let pending = vec![in alloc; Item::Slot(guess), Item::Slot(slot)]?;
@@ -87,7 +95,7 @@ pub fn cell_cas(
 
 /// `atomic<shared_ptr<T>>`'s destructor
 pub fn cell_drop(alloc: Global, state: &PlainState, c: u32) -> Result<Plan, Stop>
-    ensures { Tells result (row_in (state_of state.now) 0 (kind.CellDrop c)) }
+    ensures { Tells result (row_in (state_of state.now) 0 0 (kind.CellDrop c)) }
 {
     let slot = in_cell(state, c)?;
     let changes = vec![in alloc; Change::EndCell(c)]?;

@@ -5,6 +5,7 @@ ghost use Rattle.ownership_model.specs.Changes.{changed_by, changed};
 ghost use Rattle.ownership_model.specs.Changes as Changes;
 ghost use Rattle.ownership_model.specs.Plain.{state_of};
 
+use crate::plain::scopes::{enter, leave};
 use crate::plain::state::PlainState;
 use std::alloc::AllocError;
 use trace_types::sequence::Sequence;
@@ -25,8 +26,16 @@ impl PlainState {
         ensures { OnOk result (state_of self.new ≡ changed_by (state_of self.old) change.now) }
     {
         match change {
-            Change::SetHandle(handle, held) => self.handles.insert(*handle, held.clone()?),
-            Change::EndHandle(handle) => Ok(self.handles.remove(*handle)),
+            Change::SetHandle(label, handle, held) => {
+                if self.handles.get(*handle).is_none() {
+                    enter(&mut self.scopes, *label, *handle)?;
+                }
+                self.handles.insert(*handle, held.clone()?)
+            }
+            Change::EndHandle(handle) => {
+                leave(&mut self.scopes, *handle);
+                Ok(self.handles.remove(*handle))
+            }
             Change::SetCell(cell, slot) => self.cells.insert(*cell, *slot),
             Change::EndCell(cell) => Ok(self.cells.remove(*cell)),
             Change::SetField(object, index, slot) => {

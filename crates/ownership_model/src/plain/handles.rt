@@ -14,17 +14,23 @@ use trace_types::outcomes::Answer;
 use trace_types::slots::{Change, Holding, Item, Slot};
 
 /// `Arc::clone`, `Weak::clone`
-pub fn clone(alloc: Global, state: &PlainState, from: u32, to: u32) -> Result<Plan, Stop>
-    ensures { Tells result (row_in (state_of state.now) 0 (kind.Clone from to)) }
+pub fn clone(
+    alloc: Global,
+    state: &PlainState,
+    label: u32,
+    from: u32,
+    to: u32,
+) -> Result<Plan, Stop>
+    ensures { Tells result (row_in (state_of state.now) label 0 (kind.Clone from to)) }
 {
     let slot = slot_in(from, held(state, from)?)?;
     unheld(state, to)?;
-    Ok(Plan::hold(alloc, Answer::Done, to, slot, slot.object())?)
+    Ok(Plan::hold(alloc, label, Answer::Done, to, slot, slot.object())?)
 }
 
 /// `drop`
 pub fn drop(alloc: Global, state: &PlainState, h: u32) -> Result<Plan, Stop>
-    ensures { Tells result (row_in (state_of state.now) 0 (kind.Drop h)) }
+    ensures { Tells result (row_in (state_of state.now) 0 0 (kind.Drop h)) }
 {
     let held = held(state, h)?;
     let changes = vec![in alloc; Change::EndHandle(h)]?;
@@ -41,31 +47,50 @@ pub fn drop(alloc: Global, state: &PlainState, h: u32) -> Result<Plan, Stop>
 }
 
 /// `Arc::downgrade`
-pub fn downgrade(alloc: Global, state: &PlainState, from: u32, to: u32) -> Result<Plan, Stop>
-    ensures { Tells result (row_in (state_of state.now) 0 (kind.Downgrade from to)) }
+pub fn downgrade(
+    alloc: Global,
+    state: &PlainState,
+    label: u32,
+    from: u32,
+    to: u32,
+) -> Result<Plan, Stop>
+    ensures { Tells result (row_in (state_of state.now) label 0 (kind.Downgrade from to)) }
 {
     let object = strong_in(from, held(state, from)?)?;
     unheld(state, to)?;
-    Ok(Plan::hold(alloc, Answer::Done, to, Slot::Weak(object), Some(object))?)
+    Ok(Plan::hold(
+        alloc,
+        label,
+        Answer::Done,
+        to,
+        Slot::Weak(object),
+        Some(object),
+    )?)
 }
 
 /// `Weak::upgrade`
-pub fn upgrade(alloc: Global, state: &PlainState, from: u32, to: u32) -> Result<Plan, Stop>
-    ensures { Tells result (row_in (state_of state.now) 0 (kind.Upgrade from to)) }
+pub fn upgrade(
+    alloc: Global,
+    state: &PlainState,
+    label: u32,
+    from: u32,
+    to: u32,
+) -> Result<Plan, Stop>
+    ensures { Tells result (row_in (state_of state.now) label 0 (kind.Upgrade from to)) }
 {
     let object = weak_in(from, held(state, from)?)?;
     unheld(state, to)?;
     match object {
         Some(named) if is_alive_named(state, from) => {
-            Ok(Plan::hold(alloc, Answer::Yes, to, Slot::Strong(named), object)?)
+            Ok(Plan::hold(alloc, label, Answer::Yes, to, Slot::Strong(named), object)?)
         }
-        _ => Ok(Plan::hold(alloc, Answer::No, to, Slot::Nothing, object)?),
+        _ => Ok(Plan::hold(alloc, label, Answer::No, to, Slot::Nothing, object)?),
     }
 }
 
 /// `Arc::strong_count` and `Arc::weak_count`, or those of `Weak`
 pub fn counts(alloc: Global, state: &PlainState, h: u32) -> Result<Plan, Stop>
-    ensures { Tells result (row_in (state_of state.now) 0 (kind.Counts h)) }
+    ensures { Tells result (row_in (state_of state.now) 0 0 (kind.Counts h)) }
 {
     let object = counted_in(h, held(state, h)?)?;
     Ok(Plan::say(alloc, Answer::Done, object))
@@ -73,7 +98,7 @@ pub fn counts(alloc: Global, state: &PlainState, h: u32) -> Result<Plan, Stop>
 
 /// `Arc::ptr_eq`
 pub fn ptr_eq(alloc: Global, state: &PlainState, a: u32, b: u32) -> Result<Plan, Stop>
-    ensures { Tells result (row_in (state_of state.now) 0 (kind.PtrEq a b)) }
+    ensures { Tells result (row_in (state_of state.now) 0 0 (kind.PtrEq a b)) }
 {
     let one = held(state, a)?;
     let other = held(state, b)?;

@@ -23,16 +23,17 @@ use trace_types::slots::{Change, Holding, Slot};
 pub fn new(
     alloc: Global,
     state: &PlainState,
+    label: u32,
     id: u32,
     to: u32,
     fields: &[Field],
 ) -> Result<Plan, Stop>
-    ensures { Tells result (new_row id to (elements_of (state_of state.now) fields.now) (map.get state.now.handles to)) }
+    ensures { Tells result (new_row label id to (elements_of (state_of state.now) fields.now) (map.get state.now.handles to)) }
 {
     all_held(state, fields)?;
     all_slots(state, fields)?;
     unheld(state, to)?;
-    let changes = making(alloc, state, id, fields, to)?;
+    let changes = making(alloc, state, label, id, fields, to)?;
     Ok(Plan::act(Answer::Made, changes, Vec::new(alloc), Some(id)))
 }
 
@@ -40,33 +41,34 @@ pub fn new(
 pub fn new_from(
     alloc: Global,
     state: &PlainState,
+    label: u32,
     id: u32,
     from: u32,
     to: u32,
 ) -> Result<Plan, Stop>
-    ensures { Tells result (row_in (state_of state.now) id (kind.NewFrom from to)) }
+    ensures { Tells result (row_in (state_of state.now) label id (kind.NewFrom from to)) }
 {
     let fields = bare_in(from, held(state, from)?)?;
     unheld(state, to)?;
     let mut changes = vec![in alloc; Change::EndHandle(from)]?;
-    push_make(&mut changes, id, copy_fields(alloc, fields)?, to)?;
+    push_make(&mut changes, label, id, copy_fields(alloc, fields)?, to)?;
     Ok(Plan::act(Answer::Made, changes, Vec::new(alloc), Some(id)))
 }
 
 /// `Weak::new`
-pub fn weak_new(alloc: Global, state: &PlainState, to: u32) -> Result<Plan, Stop>
-    ensures { Tells result (row_in (state_of state.now) 0 (kind.WeakNew to)) }
+pub fn weak_new(alloc: Global, state: &PlainState, label: u32, to: u32) -> Result<Plan, Stop>
+    ensures { Tells result (row_in (state_of state.now) label 0 (kind.WeakNew to)) }
 {
     unheld(state, to)?;
-    Ok(Plan::hold(alloc, Answer::Done, to, Slot::Dangling, None)?)
+    Ok(Plan::hold(alloc, label, Answer::Done, to, Slot::Dangling, None)?)
 }
 
 /// An empty pointer.
-pub fn null(alloc: Global, state: &PlainState, to: u32) -> Result<Plan, Stop>
-    ensures { Tells result (row_in (state_of state.now) 0 (kind.Null to)) }
+pub fn null(alloc: Global, state: &PlainState, label: u32, to: u32) -> Result<Plan, Stop>
+    ensures { Tells result (row_in (state_of state.now) label 0 (kind.Null to)) }
 {
     unheld(state, to)?;
-    Ok(Plan::hold(alloc, Answer::Done, to, Slot::Nothing, None)?)
+    Ok(Plan::hold(alloc, label, Answer::Done, to, Slot::Nothing, None)?)
 }
 
 // What the handles hold, in order.
@@ -102,11 +104,12 @@ fn slot_of(state: &PlainState, h: u32) -> Slot
 fn making(
     alloc: Global,
     state: &PlainState,
+    label: u32,
     id: u32,
     fields: &[Field],
     to: u32,
 ) -> Result<Vec<Change>, AllocError>
-    ensures { IfOk result (λ v. let es = elements_of (state_of state.now) fields.now in v.items ≡ ending es (Table.make id (Table.made_fields id es) to)) }
+    ensures { IfOk result (λ v. let es = elements_of (state_of state.now) fields.now in v.items ≡ ending es (Table.make label id (Table.made_fields id es) to)) }
 {
     let made = made_fields(alloc, state, id, fields)?;
     let mut changes = Vec::new(alloc);
@@ -115,6 +118,6 @@ fn making(
             changes.push(Change::EndHandle(*h))?;
         }
     }
-    push_make(&mut changes, id, Sequence::from_vec(made), to)?;
+    push_make(&mut changes, label, id, Sequence::from_vec(made), to)?;
     Ok(changes)
 }

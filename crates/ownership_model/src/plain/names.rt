@@ -55,7 +55,9 @@ fn apart_handles(alloc: Global, kind: &Kind) -> Result<Vec<u32>, AllocError>
         | Kind::GetMut { h }
         | Kind::MakeMut { h }
         | Kind::Counts { h } => Ok(vec![in alloc; *h]?),
-        Kind::PtrEq { a: _, b: _ } | Kind::CellDrop { c: _ } => Ok(Vec::new(alloc)),
+        Kind::PtrEq { a: _, b: _ } | Kind::CellDrop { c: _ } | Kind::ScopeEnd => Ok(Vec::new(
+            alloc,
+        )),
     }
 }
 

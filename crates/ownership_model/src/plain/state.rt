@@ -8,7 +8,7 @@ ghost use Rattle.ownership_model.specs.Plain.{state_of};
 
 use crate::plain::number_map::NumberMap;
 use std::alloc::Global;
-use trace_types::slots::{Entry, Holding, Item, Slot};
+use trace_types::slots::{Entry, Holding, Item, Scoped, Slot};
 
 /// What handles and cells hold, and which objects stand.
 #[derive(Drop)]
@@ -16,6 +16,7 @@ pub struct PlainState {
     pub handles: NumberMap<Holding>,
     pub cells: NumberMap<Slot>,
     pub objects: NumberMap<Entry>,
+    pub scopes: Vec<Scoped>,
 }
 
 impl PlainState {
@@ -27,6 +28,7 @@ impl PlainState {
             handles: NumberMap::empty(alloc),
             cells: NumberMap::empty(alloc),
             objects: NumberMap::empty(alloc),
+            scopes: Vec::new(alloc),
         }
     }
 

@@ -15,7 +15,7 @@ returns-then-strong-eq0 c =
     let was = c.counters_of-was.result in
     let last : Counters = record { strong = was.strong - 1; weak = was.weak; ends = was.ends + 1 } in
     let fallen = c.destroy.new.self in
-    let new : Draft = record { handles = fallen.handles; cells = fallen.cells; objects = fallen.objects; counts = c.set_counters.new.counts } in
+    let new : Draft = record { handles = fallen.handles; cells = fallen.cells; objects = fallen.objects; counts = c.set_counters.new.counts; scopes = fallen.scopes } in
     let step = c.in_ok-destroy.ensures.step in
     on_ok c.set_counters.result c.set_counters.ensures (λ set.
     drops_last old new c.args.object c.args.pending.now.items c.destroy.new.pending.items c.args.events.now.items c.destroy.new.events.items last c.requires.sound c.requires.counted
@@ -29,7 +29,7 @@ returns c =
     let old = c.args.self.now in
     let was = c.counters_of-was.result in
     let less : Counters = record { strong = was.strong - 1; weak = was.weak; ends = was.ends } in
-    let new : Draft = record { handles = old.handles; cells = old.cells; objects = old.objects; counts = c.set_counters-2.new.counts } in
+    let new : Draft = record { handles = old.handles; cells = old.cells; objects = old.objects; counts = c.set_counters-2.new.counts; scopes = old.scopes } in
     on_ok c.set_counters-2.result c.set_counters-2.ensures (λ set.
     drops_more old new c.args.object c.args.pending.now.items c.args.pending.now.items c.args.events.now.items c.args.events.now.items less c.requires.sound c.requires.counted set
     (ap (λ (v : Counters). v.strong - 1) c.counters_of-was.ensures) (ap (λ (v : Counters). v.weak) c.counters_of-was.ensures)

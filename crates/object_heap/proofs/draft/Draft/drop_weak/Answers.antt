@@ -27,7 +27,7 @@ returns c =
     let old = c.args.self.now in
     let was = c.counters_of-was.result in
     let less : Counters = record { strong = was.strong; weak = was.weak - 1; ends = was.ends } in
-    let new : Draft = record { handles = old.handles; cells = old.cells; objects = old.objects; counts = c.set_counters.new.counts } in
+    let new : Draft = record { handles = old.handles; cells = old.cells; objects = old.objects; counts = c.set_counters.new.counts; scopes = old.scopes } in
     drops_weak old new c.args.object c.args.rest.now.items c.args.events.now.items c.args.events.now.items less c.in_ok-set_counters.ensures
     (ap (λ (v : Counters). v.strong) c.counters_of-was.ensures) false c.requires.sound c.requires.counted
     (ap (λ (v : Counters). v.weak - 1) c.counters_of-was.ensures) (ap (λ (v : Counters). v.ends) c.counters_of-was.ensures)

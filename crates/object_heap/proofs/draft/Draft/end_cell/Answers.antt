@@ -17,7 +17,7 @@ let_go_cell-requires c =
 pub returns : goal.returns
 returns c =
     let old = c.args.self.now in
-    let new : Draft = record { handles = old.handles; cells = c.remove.new.self; objects = old.objects; counts = c.let_go_cell.new.counts } in
+    let new : Draft = record { handles = old.handles; cells = c.remove.new.self; objects = old.objects; counts = c.let_go_cell.new.counts; scopes = old.scopes } in
     on_ok c.remove.result c.remove.ensures.ok (λ is.
     changes old.counts old.counts (state_of old) (EndCell c.args.cell) c.requires.can c.requires.counted (no_more old.counts (gained (EndCell c.args.cell)) (λ w. refl)) old new refl c.in_ok-let_go_cell.ensures
-    (ap (λ (x : FinMap nat_cmp Slot). record { handles = old.handles; cells = x; objects = old.objects }) is))
+    (ap (λ (x : FinMap nat_cmp Slot). record { handles = old.handles; cells = x; objects = old.objects; scopes = old.scopes }) is))

@@ -1,7 +1,6 @@
-use Rattle.std.proofs.Common.{refl, ap}
-use Rattle.std.specs.Ordering.{nat_cmp}
-use Rattle.std.specs.FinMap.{FinMap}
-use Rattle.trace_types.specs.declared.slots.Holding.{Holding}
+use Rattle.std.proofs.Common.{refl, ap, ◌∙◌, List}
+use Rattle.trace_types.specs.declared.slots.Scoped.{Scoped}
+use Rattle.ownership_model.specs.Scopes.{left}
 use Rattle.trace_types.specs.declared.slots.Change.TheVariants.{EndHandle}
 use Rattle.object_heap.specs.declared.draft.Draft.{Draft}
 use Rattle.object_heap.specs.Counted.{state_of}
@@ -17,7 +16,7 @@ let_go_handle-requires c =
 pub returns : goal.returns
 returns c =
     let old = c.args.self.now in
-    let new : Draft = record { handles = c.remove.new.self; cells = old.cells; objects = old.objects; counts = c.let_go_handle.new.counts } in
+    let new : Draft = record { handles = c.remove.new.self; cells = old.cells; objects = old.objects; counts = c.let_go_handle.new.counts; scopes = c.in_ok-self.field-0 } in
     on_ok c.remove.result c.remove.ensures.ok (λ is.
     changes old.counts old.counts (state_of old) (EndHandle c.args.handle) c.requires.can c.requires.counted (no_more old.counts (gained (EndHandle c.args.handle)) (λ w. refl)) old new refl c.in_ok-let_go_handle.ensures
-    (ap (λ (x : FinMap nat_cmp Holding). record { handles = x; cells = old.cells; objects = old.objects }) is))
+    (λ i. record { handles = is i; cells = old.cells; objects = old.objects; scopes = (c.in_ok-self.ensures ∙ ap (λ (ss : List Scoped). left c.args.handle ss) c.replace.ensures.value) i }))

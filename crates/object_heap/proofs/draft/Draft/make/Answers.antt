@@ -24,9 +24,9 @@ hold_all-requires c =
 pub returns : goal.returns
 returns c =
     let old = c.args.self.now in
-    let new : Draft = record { handles = old.handles; cells = old.cells; objects = c.insert.new.self; counts = c.hold_all.new.counts } in
+    let new : Draft = record { handles = old.handles; cells = old.cells; objects = c.insert.new.self; counts = c.hold_all.new.counts; scopes = old.scopes } in
     let change : Change = Make c.args.object c.args.fields.now in
     let more : CountsMore old.counts c.hold_all.new.counts (gained change) = same_more old.counts c.hold_all.new.counts (λ w. slots_weight w c.as_slice.result.now) (gained change) (λ w. ap (slots_weight w) (sym c.as_slice.ensures)) c.in_ok-hold_all.ensures in
     on_ok c.insert.result c.insert.ensures.ok (λ is.
     changes old.counts c.hold_all.new.counts (state_of old) change c.requires.can c.requires.counted more old new refl (no_more c.hold_all.new.counts (lost (state_of old) change) (λ w. refl))
-    (ap (λ (x : FinMap nat_cmp Entry). record { handles = old.handles; cells = old.cells; objects = x }) (is ∙ ap (λ (l : List Slot). insert old.objects c.args.object (Alive l)) c.in_ok-copy.ensures.cases)))
+    (ap (λ (x : FinMap nat_cmp Entry). record { handles = old.handles; cells = old.cells; objects = x; scopes = old.scopes }) (is ∙ ap (λ (l : List Slot). insert old.objects c.args.object (Alive l)) c.in_ok-copy.ensures.cases)))

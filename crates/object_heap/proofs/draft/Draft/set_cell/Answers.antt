@@ -22,7 +22,7 @@ let_go_cell-requires c =
 pub returns : goal.returns
 returns c =
     let old = c.args.self.now in
-    let new : Draft = record { handles = old.handles; cells = c.insert.new.self; objects = old.objects; counts = c.let_go_cell.new.counts } in
+    let new : Draft = record { handles = old.handles; cells = c.insert.new.self; objects = old.objects; counts = c.let_go_cell.new.counts; scopes = old.scopes } in
     on_ok c.insert.result c.insert.ensures.ok (λ is.
     changes old.counts c.hold.new.counts (state_of old) (SetCell c.args.cell c.args.slot) c.requires.can c.requires.counted c.in_ok-hold.ensures old new refl c.in_ok-let_go_cell.ensures
-    (ap (λ (x : FinMap nat_cmp Slot). record { handles = old.handles; cells = x; objects = old.objects }) is))
+    (ap (λ (x : FinMap nat_cmp Slot). record { handles = old.handles; cells = x; objects = old.objects; scopes = old.scopes }) is))

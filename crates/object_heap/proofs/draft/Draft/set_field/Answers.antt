@@ -32,7 +32,7 @@ let_go-requires c =
 pub returns : goal.returns
 returns c =
     let old = c.args.self.now in
-    let new : Draft = record { handles = old.handles; cells = old.cells; objects = c.insert.new.self; counts = c.let_go.new.counts } in
+    let new : Draft = record { handles = old.handles; cells = old.cells; objects = c.insert.new.self; counts = c.let_go.new.counts; scopes = old.scopes } in
     let change : Change = SetField c.args.object c.args.index c.args.slot in
     let is : get old.objects c.args.object ≡ Some (Alive c.in-Some-Alive.fields) = cc (c.in-Some-Alive.ensures, c.in-Some-Alive.field-0-is) in
     let fewer : CountsMore new.counts c.hold.new.counts (lost (state_of old) change) = field_gone (state_of old) c.args.object c.args.index c.args.slot c.in-Some-Alive.fields c.as_slice.result.now _ is c.requires.can c.as_slice.ensures new.counts c.hold.new.counts c.in_ok-let_go.ensures in
@@ -40,4 +40,4 @@ returns c =
     ap (λ (l : List Slot). Alive l) c.in_ok-fields.ensures ∙ sym (ap (λ (e : Option Entry). with_field e c.args.index c.args.slot) is) in
     on_ok c.insert.result c.insert.ensures.ok (λ put.
     changes old.counts c.hold.new.counts (state_of old) change c.requires.can c.requires.counted c.in_ok-hold.ensures old new refl fewer
-    (ap (λ (x : FinMap nat_cmp Entry). record { handles = old.handles; cells = old.cells; objects = x }) (put ∙ ap (λ (e : Entry). insert old.objects c.args.object e) set)))
+    (ap (λ (x : FinMap nat_cmp Entry). record { handles = old.handles; cells = old.cells; objects = x; scopes = old.scopes }) (put ∙ ap (λ (e : Entry). insert old.objects c.args.object e) set)))

@@ -1,7 +1,8 @@
-use Rattle.std.proofs.Common.{◌≡◌, [], refl, ap, ◌∙◌, arith, rules}
-use Rattle.std.specs.Ordering.{nat_cmp}
-use Rattle.std.specs.FinMap.{FinMap, insert}
-use Rattle.trace_types.specs.declared.slots.Holding.{Holding}
+use Rattle.std.proofs.Common.{◌≡◌, [], refl, sym, subst, ◌∙◌, arith, rules}
+use Rattle.std.specs.FinMap.{get, insert}
+use Rattle.ownership_model.specs.Scopes.{kept_or_entered}
+use Rattle.object_heap.specs.Gains.{CountsMore}
+use Rattle.object_heap.proofs.ChangeWeights.{lost}
 use Rattle.trace_types.specs.declared.slots.Change.TheVariants.{SetHandle}
 use Rattle.object_heap.specs.declared.draft.Draft.{Draft}
 use Rattle.object_heap.specs.Counted.{state_of}
@@ -16,13 +17,17 @@ hold_holding-requires-clause-room c =
 pub let_go_handle-requires : goal.let_go_handle-requires
 let_go_handle-requires c =
     let old = c.args.self.now in
-    lost_in old.counts c.hold_holding.new.counts (state_of old) (SetHandle c.args.handle c.args.holding.now) tt c.requires.counted c.in_ok-hold_holding.ensures
+    lost_in old.counts c.hold_holding.new.counts (state_of old) (SetHandle c.args.label c.args.handle c.args.holding.now) tt c.requires.counted c.in_ok-hold_holding.ensures
 
 pub returns : goal.returns
 returns c =
     let old = c.args.self.now in
-    let new : Draft = record { handles = c.insert.new.self; cells = old.cells; objects = old.objects; counts = c.let_go_handle.new.counts } in
+    let entered : Draft = c.enter_scope.new.self in
+    let placed = c.in_ok-enter_scope.ensures in
+    let new : Draft = record { handles = c.insert.new.self; cells = entered.cells; objects = entered.objects; counts = entered.counts; scopes = entered.scopes } in
     let same : c.in_ok-copy.copy ≡ c.args.holding.now = search rules in
     on_ok c.insert.result c.insert.ensures.ok (λ is.
-    changes old.counts c.hold_holding.new.counts (state_of old) (SetHandle c.args.handle c.args.holding.now) tt c.requires.counted c.in_ok-hold_holding.ensures old new refl c.in_ok-let_go_handle.ensures
-    (ap (λ (x : FinMap nat_cmp Holding). record { handles = x; cells = old.cells; objects = old.objects }) (is ∙ ap (λ (x : Holding). insert old.handles c.args.handle x) same)))
+    changes old.counts c.hold_holding.new.counts (state_of old) (SetHandle c.args.label c.args.handle c.args.holding.now) tt c.requires.counted c.in_ok-hold_holding.ensures old new refl
+    (subst (λ (d : Draft). CountsMore d.counts c.hold_holding.new.counts (lost (state_of old) (SetHandle c.args.label c.args.handle c.args.holding.now))) (sym placed) c.in_ok-let_go_handle.ensures)
+    ((λ i. record { handles = is i; cells = (placed i).cells; objects = (placed i).objects; scopes = (placed i).scopes })
+    ∙ (λ i. record { handles = insert (placed i).handles c.args.handle (same i); cells = old.cells; objects = old.objects; scopes = kept_or_entered (get old.handles c.args.handle) c.args.label c.args.handle old.scopes })))

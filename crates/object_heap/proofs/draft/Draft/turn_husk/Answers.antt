@@ -27,10 +27,10 @@ let_go_all-requires c =
 pub returns : goal.returns
 returns c =
     let old = c.args.self.now in
-    let new : Draft = record { handles = old.handles; cells = old.cells; objects = c.insert.new.self; counts = c.let_go_all.new.counts } in
+    let new : Draft = record { handles = old.handles; cells = old.cells; objects = c.insert.new.self; counts = c.let_go_all.new.counts; scopes = old.scopes } in
     let change : Change = TurnHusk c.args.object in
     let is : Some (Alive c.in-Some-Alive.fields) ≡ get old.objects c.args.object = cc (c.in-Some-Alive.ensures, c.in-Some-Alive.field-0-is) in
     let fewer : CountsMore new.counts old.counts (lost (state_of old) change) = same_more new.counts old.counts (λ w. slots_weight w c.as_slice.result.now) (lost (state_of old) change) (λ w. ap (λ (e : Option Entry). weight_at (entry_weight w) e) (sym is) ∙ ap (slots_weight w) (sym c.as_slice.ensures)) c.in_ok-let_go_all.ensures in
     on_ok c.insert.result c.insert.ensures.ok (λ put.
     changes old.counts old.counts (state_of old) change c.requires.can c.requires.counted (no_more old.counts (gained change) (λ w. refl)) old new refl fewer
-    (ap (λ (x : FinMap nat_cmp Entry). record { handles = old.handles; cells = old.cells; objects = x }) put))
+    (ap (λ (x : FinMap nat_cmp Entry). record { handles = old.handles; cells = old.cells; objects = x; scopes = old.scopes }) put))

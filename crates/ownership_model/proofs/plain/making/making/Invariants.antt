@@ -7,5 +7,5 @@ use Rattle.ownership_model.proofs.plain.making.making.Given as goal
 -- the changes so far and those that are left are all
 abbrev pub invariant-loop-field : goal.invariant-loop-field
 invariant-loop-field l =
-    l.changes.items ++ ending (elements_of (state_of l.state) (drop l.field-index l.fields)) (make l.id l.made.items l.to)
-    ≡ ending (elements_of (state_of l.fn.state) l.fn.fields) (make l.fn.id l.made.items l.fn.to)
+    l.changes.items ++ ending (elements_of (state_of l.state) (drop l.field-index l.fields)) (make l.label l.id l.made.items l.to)
+    ≡ ending (elements_of (state_of l.fn.state) l.fn.fields) (make l.fn.label l.fn.id l.made.items l.fn.to)

@@ -1,0 +1,83 @@
+-- How a heap holds the scopes of threads: each handle that is held has its label and its neighbours, and each label the handle
+-- that was made last.
+use Rattle.std.specs.Prelude.{ℕ, zero, suc, ◌≡◌, ◌==◌, ◌≤◌, List, [], ◌∷◌, ◌++◌, map, Option, Some, None, if◌then◌else◌}
+use Rattle.std.specs.Ordering.{nat_cmp}
+use Rattle.std.specs.FinMap.{FinMap, get, insert, remove, entries, len}
+use Rattle.trace_types.specs.declared.slots.Scoped.{Scoped}
+use Rattle.ownership_model.specs.Scopes.{scope_of, times_in, AreFrom}
+use Rattle.object_heap.specs.declared.place.Place.{Place}
+
+-- the first of handles, if there is one
+abbrev pub first_of : List ℕ → Option ℕ
+first_of [] = None
+first_of (h ∷ hs) = Some h
+
+-- the handle that was made before this one, of those still in its scope
+abbrev pub earlier_in : ℕ → List Scoped → Option ℕ
+earlier_in h [] = None
+earlier_in h (s ∷ ss) = if s.handle == h then first_of (scope_of s.label ss) else earlier_in h ss
+
+abbrev pub earlier_at : Option Place → Option ℕ
+earlier_at None = None
+earlier_at (Some p) = p.earlier
+
+-- at most n handles: this one, the one made before it, and so on
+abbrev pub walked : ℕ → FinMap nat_cmp Place → Option ℕ → List ℕ
+walked n places None = []
+walked zero places (Some h) = []
+walked (suc n) places (Some h) = h ∷ walked n places (earlier_at (get places h))
+
+-- handles of one label
+abbrev pub with_label : ℕ → List ℕ → List Scoped
+with_label t hs = map (λ h. record { label = t; handle = h }) hs
+
+-- the scopes of these labels, with the handle made last of each
+abbrev pub scopes_in : FinMap nat_cmp Place → List (ℕ × ℕ) → List Scoped
+scopes_in places [] = []
+scopes_in places (e ∷ es) = with_label e.0 (walked (len places) places (Some e.1)) ++ scopes_in places es
+
+abbrev pub scopes_at : FinMap nat_cmp Place → FinMap nat_cmp ℕ → List Scoped
+scopes_at places last = scopes_in places (entries last)
+
+-- the handles of a scope, the last made first, each with its neighbours; `later` is the one made just after the first
+abbrev pub AreChained : FinMap nat_cmp Place → ℕ → Option ℕ → List ℕ → Type 0
+AreChained places t later [] = Unit {0}
+AreChained places t later (h ∷ hs) = (get places h ≡ Some (record { label = t; earlier = first_of hs; later = later })) × AreChained places t (Some h) hs
+
+-- the trees hold these scopes and nothing else
+pub record AreLinked (places : FinMap nat_cmp Place) (last : FinMap nat_cmp ℕ) (ss : List Scoped) : Type 0 where
+  pub chains : (t : ℕ) → AreChained places t None (scope_of t ss)
+  pub heads : (t : ℕ) → get last t ≡ first_of (scope_of t ss)
+  pub only : (h : ℕ) → times_in h ss ≡ 0 → get places h ≡ None
+  pub once : (h : ℕ) → times_in h ss ≤ 1
+  pub in_order : AreFrom 0 ss
+
+-- For private functions alone: a handle that has a place has another neighbour there
+abbrev pub set_later_at : FinMap nat_cmp Place → ℕ → Option Place → Option ℕ → FinMap nat_cmp Place
+set_later_at places h None later = places
+set_later_at places h (Some p) later = insert places h (record { label = p.label; earlier = p.earlier; later = later })
+
+abbrev pub with_later : FinMap nat_cmp Place → ℕ → Option ℕ → FinMap nat_cmp Place
+with_later places h later = set_later_at places h (get places h) later
+
+abbrev pub set_earlier_at : FinMap nat_cmp Place → ℕ → Option Place → Option ℕ → FinMap nat_cmp Place
+set_earlier_at places h None earlier = places
+set_earlier_at places h (Some p) earlier = insert places h (record { label = p.label; earlier = earlier; later = p.later })
+
+abbrev pub with_earlier : FinMap nat_cmp Place → ℕ → Option ℕ → FinMap nat_cmp Place
+with_earlier places h earlier = set_earlier_at places h (get places h) earlier
+
+-- the same, where there is a handle
+abbrev pub relinked_later : FinMap nat_cmp Place → Option ℕ → Option ℕ → FinMap nat_cmp Place
+relinked_later places None later = places
+relinked_later places (Some h) later = with_later places h later
+
+abbrev pub relinked_earlier : FinMap nat_cmp Place → Option ℕ → Option ℕ → FinMap nat_cmp Place
+relinked_earlier places None earlier = places
+relinked_earlier places (Some h) earlier = with_earlier places h earlier
+
+-- the last of the label's scope is gone where none stands after it; then it is the one before
+abbrev pub last_without : FinMap nat_cmp ℕ → ℕ → Option ℕ → Option ℕ → FinMap nat_cmp ℕ
+last_without last t earlier (Some h) = last
+last_without last t (Some h) None = insert last t h
+last_without last t None None = remove last t

@@ -1,0 +1,163 @@
+//! The scopes of threads, linked through two trees.
+ghost use Rattle.std.specs.Prelude.{◌≡◌, ◌↔◌, [], IfOk, OnOk, IsTrue};
+ghost use Rattle.ownership_model.specs.Scopes.{scope_of, entered, left, times_in};
+ghost use Rattle.object_heap.specs.Links.{first_of, earlier_in, relinked_later, relinked_earlier, last_without};
+
+use crate::place::Place;
+use share_tree::ShareTree;
+use std::alloc::{AllocError, Global};
+use std::marker::Model;
+
+/// The scope of each label: the handles that its operations made and that are still held. Contracts see their list.
+///
+/// Two of them share what is the same in both.
+#[derive(Drop)]
+pub struct Scopes {
+    places: ShareTree<Place>,
+    last: ShareTree<u32>,
+}
+
+impl Model for Scopes {
+    ghost use Rattle.std.specs.Prelude.{List};
+    ghost use Rattle.trace_types.specs.declared.slots.Scoped.{Scoped};
+
+    ghost Value = { List Scoped };
+
+    ghost use Rattle.object_heap.specs.Links.{scopes_at, AreLinked};
+
+    ghost view = { λ s. scopes_at s.places s.last };
+
+    ghost invariant = { λ s. AreLinked s.places s.last (scopes_at s.places s.last) };
+}
+
+impl Scopes {
+    /// No handle is held.
+    pub fn empty() -> Scopes
+        ensures { result ≡ [] }
+    {
+        Scopes {
+            places: ShareTree::empty(),
+            last: ShareTree::empty(),
+        }
+    }
+
+    /// The same again, whose nodes both have.
+    pub fn share(&self) -> Result<Scopes, AllocError>
+        ensures { IfOk result (λ s. s ≡ self.now) }
+    {
+        Ok(Scopes {
+            places: self.places.share()?,
+            last: self.last.share()?,
+        })
+    }
+
+    /// Whether both are the same.
+    pub fn same(&self, other: &Scopes) -> bool
+        ensures { IsTrue result ↔ (self.now ≡ other.now) }
+    {
+        self.places.same(&other.places) && self.last.same(&other.last)
+    }
+
+    /// The handle of the label's scope that was made last.
+    pub fn last(&self, label: u32) -> Option<u32>
+        ensures { result ≡ first_of (scope_of label self.now) }
+    {
+        self.last.get(label).copied()
+    }
+
+    /// The handle that was made before this one, of those still in its scope.
+    pub fn earlier(&self, handle: u32) -> Option<u32>
+        ensures { result ≡ earlier_in handle self.now }
+    {
+        match self.places.get(handle) {
+            Some(place) => place.earlier,
+            None => None,
+        }
+    }
+
+    /// The scopes, where a handle that stands in none has entered that of the label.
+    pub fn enter(self, alloc: Global, label: u32, handle: u32) -> Result<Scopes, AllocError>
+        requires { times_in handle self ≡ 0 }
+        ensures { IfOk result (λ s. s ≡ entered label handle self) }
+    {
+        let Scopes {
+            mut places,
+            mut last,
+        } = self;
+        let earlier = last.get(label).copied();
+        set_later(alloc, &mut places, earlier, Some(handle))?;
+        let place = Place {
+            label,
+            earlier,
+            later: None,
+        };
+        places.insert(alloc, handle, place)?;
+        last.insert(alloc, label, handle)?;
+        Ok(Scopes { places, last })
+    }
+
+    /// The scopes, where a handle has left its own, if it stood in one.
+    pub fn leave(self, alloc: Global, handle: u32) -> Result<Scopes, AllocError>
+        ensures { IfOk result (λ s. s ≡ left handle self) }
+    {
+        let Scopes {
+            mut places,
+            mut last,
+        } = self;
+        let Some(place) = places.get(handle).copied() else {
+            return Ok(Scopes { places, last });
+        };
+        places.remove(alloc, handle)?;
+        set_later(alloc, &mut places, place.earlier, place.later)?;
+        set_earlier(alloc, &mut places, place.later, place.earlier)?;
+        set_last(alloc, &mut last, place)?;
+        Ok(Scopes { places, last })
+    }
+}
+
+// The handle, if there is one, has another neighbour after it.
+fn set_later(
+    alloc: Global,
+    places: &mut ShareTree<Place>,
+    handle: Option<u32>,
+    later: Option<u32>,
+) -> Result<(), AllocError>
+    ensures { OnOk result (places.new ≡ relinked_later places.old handle later) }
+{
+    let Some(handle) = handle else {
+        return Ok(());
+    };
+    let Some(place) = places.get(handle).copied() else {
+        return Ok(());
+    };
+    places.insert(alloc, handle, Place { later, ..place })
+}
+
+// The handle, if there is one, has another neighbour before it.
+fn set_earlier(
+    alloc: Global,
+    places: &mut ShareTree<Place>,
+    handle: Option<u32>,
+    earlier: Option<u32>,
+) -> Result<(), AllocError>
+    ensures { OnOk result (places.new ≡ relinked_earlier places.old handle earlier) }
+{
+    let Some(handle) = handle else {
+        return Ok(());
+    };
+    let Some(place) = places.get(handle).copied() else {
+        return Ok(());
+    };
+    places.insert(alloc, handle, Place { earlier, ..place })
+}
+
+// Where the handle of this place was the last of its label's scope, the one before it is.
+fn set_last(alloc: Global, last: &mut ShareTree<u32>, place: Place) -> Result<(), AllocError>
+    ensures { OnOk result (last.new ≡ last_without last.old place.label place.earlier place.later) }
+{
+    match (place.later, place.earlier) {
+        (Some(_), _) => Ok(()),
+        (None, Some(earlier)) => last.insert(alloc, place.label, earlier),
+        (None, None) => last.remove(alloc, place.label),
+    }
+}
