@@ -8,6 +8,7 @@ ghost use Rattle.run_engine.specs.Bounds.{StepsAtMost};
 ghost use Rattle.run_engine.specs.NewMarks.{AreLaid, AreMarksOf, IsGap};
 ghost use Rattle.run_engine.specs.Steps.{AreTaken, HaveStepped, AreStepped};
 
+use crate::difference::same_beside;
 use crate::listing::Listing;
 use crate::piece::{Piece, stepped_up_to};
 use crate::segment::{Segment, append, share_segments};
@@ -24,7 +25,7 @@ pub struct Front {
     pub at: usize,
 }
 
-// What a replay goes on with: an old stretch, or else operations that are stepped.
+// What a replay goes on with: an old stretch, if one may serve, or else operations that are stepped.
 fn next_piece(
     alloc: Global,
     old: &[Segment],
@@ -33,6 +34,7 @@ fn next_piece(
     ops: &Listing,
     at: usize,
     to: usize,
+    may_serve: bool,
     meter: &mut Meter,
 ) -> Result<Piece, AllocError>
     requires some { at < to }
@@ -46,9 +48,11 @@ fn next_piece(
     ensures never_less { meter.old ≤ meter.new }
     ensures rise { meter.new + at ≤ meter.old + to }
 {
-    let found = old_stretch(alloc, old, end, heap, ops, at, to)?;
-    if let Some(piece) = found {
-        return Ok(piece);
+    if may_serve {
+        let found = old_stretch(alloc, old, end, heap, ops, at, to)?;
+        if let Some(piece) = found {
+            return Ok(piece);
+        }
     }
     let piece = stepped_up_to(alloc, heap, ops, at, to, meter)?;
     Ok(piece)
@@ -70,7 +74,7 @@ pub fn joined(front: Front, piece: Piece) -> Result<Front, AllocError>
     })
 }
 
-// Goes on with the replay up to the position `to`.
+// Goes on with the replay up to the position `to`. Old stretches are looked for where they may serve.
 fn advance(
     alloc: Global,
     old: &[Segment],
@@ -78,6 +82,7 @@ fn advance(
     front: Front,
     ops: &Listing,
     to: usize,
+    may_serve: bool,
     meter: &mut Meter,
 ) -> Result<Front, AllocError>
     requires run { IsRun old.now end.now }
@@ -94,7 +99,17 @@ fn advance(
 {
     let mut front = front;
     while front.at < to {
-        let piece = next_piece(alloc, old, end, &front.heap, ops, front.at, to, meter)?;
+        let piece = next_piece(
+            alloc,
+            old,
+            end,
+            &front.heap,
+            ops,
+            front.at,
+            to,
+            may_serve,
+            meter,
+        )?;
         front = joined(front, piece)?;
     }
     Ok(front)
@@ -110,6 +125,8 @@ fn spliced(alloc: Global, front: Front, rest: &[Segment]) -> Result<Vec<Segment>
 }
 
 /// Goes on with the replay to its end, or to the first checkpoint at or behind `a` with the old heap.
+///
+/// From there on each operation has its old neighbours, so that behind a checkpoint with another heap no old stretch serves.
 pub fn converge(
     alloc: Global,
     old: &[Segment],
@@ -136,11 +153,22 @@ pub fn converge(
 {
     let mut front = front;
     let mut at = 0;
+    let mut seen = None;
     for (i, segment) in old.iter().enumerate() {
         if at >= a {
             if let Some(mark) = segment.mark() {
-                front = advance(alloc, old, end, front, ops, at - a + b, meter)?;
-                if front.heap.same(mark) {
+                front = advance(
+                    alloc,
+                    old,
+                    end,
+                    front,
+                    ops,
+                    at - a + b,
+                    seen.is_none(),
+                    meter,
+                )?;
+                let same = same_beside(alloc, &front.heap, mark, &mut seen)?;
+                if same {
                     let segments = spliced(alloc, front, &old[i..])?;
                     return Ok((segments, end.share()?));
                 }
@@ -148,6 +176,15 @@ pub fn converge(
         }
         at += segment.ops().len();
     }
-    front = advance(alloc, old, end, front, ops, ops.len(), meter)?;
+    front = advance(
+        alloc,
+        old,
+        end,
+        front,
+        ops,
+        ops.len(),
+        seen.is_none(),
+        meter,
+    )?;
     Ok((front.segments, front.heap))
 }

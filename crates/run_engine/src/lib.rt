@@ -3,6 +3,7 @@
 
 mod contents;
 mod converge;
+mod difference;
 mod editing;
 pub mod edits;
 pub mod faults;

@@ -12,7 +12,7 @@ use Rattle.run_engine.proofs.SegmentLemmas.{length-trace_of-next}
 use Rattle.run_engine.proofs.PieceLemmas.{mark-is, take-rest}
 use Rattle.run_engine.proofs.PlaceLemmas.{mark-there, place-within, trace_of-front}
 use Rattle.run_engine.proofs.ConvergeLemmas.{IsBeside-none, IsBeside-next, least-agreeing, bounded, ShareEnd-length, IsSpliced, IsSpliced-stop, IsSpliced-end}
-use Rattle.run_engine.proofs.converge.converge.Goals.{then-at-a+in-Some+in_ok-front+else-same, then-at-a+in_default, else-at-a}
+use Rattle.run_engine.proofs.converge.converge.Goals.{then-at-a+in-Some+in_ok-front+in_ok-same+else-same, then-at-a+in_default, else-at-a}
 use Rattle.run_engine.specs.NewMarks.{AreLaid}
 use Rattle.run_engine.proofs.MarksLemmas.{AreLaid-none, AreMarksOf-stop, AreMarksOf-end, IsReached-length}
 use Rattle.run_engine.specs.Bounds.{AgreesAt}
@@ -51,6 +51,10 @@ pub returns-in_err-share-clause-bound : goal.returns-in_err-share-clause-bound
 returns-in_err-share-clause-bound c =
     bounded _ _ _ _ _ _ _ _ _ _ _ _ _ c.loop-i.invariant.beside c.requires.shared c.if-at-a.true (omega (arith, c.loop-i.invariant.beside.rise, c.advance.ensures.rise))
 
+pub returns-in_err-same-clause-bound : goal.returns-in_err-same-clause-bound
+returns-in_err-same-clause-bound c =
+    bounded _ _ _ _ _ _ _ _ _ _ _ _ _ c.loop-i.invariant.beside c.requires.shared c.if-at-a.true (omega (arith, c.loop-i.invariant.beside.rise, c.advance.ensures.rise))
+
 pub returns-then-same-clause-bound : goal.returns-then-same-clause-bound
 returns-then-same-clause-bound c =
     bounded _ _ _ _ _ _ _ _ _ _ _ _ _ c.loop-i.invariant.beside c.requires.shared c.if-at-a.true (omega (arith, c.loop-i.invariant.beside.rise, c.advance.ensures.rise))
@@ -62,7 +66,7 @@ spliced-raw : (c : goal.In_ok-share) → IsSpliced c.args.ops.now (c.in_ok-front
 spliced-raw c =
     let old = c.args.old.now in
     let m : c.in-Some.mark.now ≡ end_from nothing_held (trace_of (take c.loop-i.i c.args.old.now)) = mark-is c.args.old.now c.loop-i.i c.index-old-i.result c.in-Some.mark.now c.requires.run.replay c.loop-i-test.true c.index-old-i.is c.in-Some.ensures in
-    let heap : c.in_ok-front.front.heap ≡ c.in-Some.mark.now = c.same.ensures.0 c.if-same.true in
+    let heap : c.in_ok-front.front.heap ≡ c.in-Some.mark.now = c.in_ok-same.ensures.0 c.if-same.true in
     let there : c.in_ok-front.front.at ≡ c.loop-i.at - c.args.a + c.args.b = c.in_ok-front.ensures.there in
     let front : IsReached c.args.ops.now (c.loop-i.at - c.args.a + c.args.b) c.in_ok-front.front.segments.items c.in_ok-front.front.heap =
     subst (λ x. IsReached c.args.ops.now x c.in_ok-front.front.segments.items c.in_ok-front.front.heap) there c.in_ok-front.ensures.front in
@@ -73,7 +77,7 @@ spliced-raw c =
 agreed : (c : goal.In_ok-share) → AgreesAt (trace_of c.args.old.now) c.args.ops.now c.args.a c.args.b c.loop-i.at
 agreed c =
     let m : c.in-Some.mark.now ≡ end_from nothing_held (trace_of (take c.loop-i.i c.args.old.now)) = mark-is c.args.old.now c.loop-i.i c.index-old-i.result c.in-Some.mark.now c.requires.run.replay c.loop-i-test.true c.index-old-i.is c.in-Some.ensures in
-    let heap : c.in_ok-front.front.heap ≡ c.in-Some.mark.now = c.same.ensures.0 c.if-same.true in
+    let heap : c.in_ok-front.front.heap ≡ c.in-Some.mark.now = c.in_ok-same.ensures.0 c.if-same.true in
     let there : c.in_ok-front.front.at ≡ c.loop-i.at - c.args.a + c.args.b = c.in_ok-front.ensures.there in
     let front = c.in_ok-front.ensures.front in
     ap (end_from nothing_held) (sym (trace_of-front c.args.old.now c.loop-i.i c.loop-i.at c.loop-i.invariant.beside.place)) ∙ sym (heap ∙ m) ∙ front.state ∙ ap (λ x. end_from nothing_held (take x c.args.ops.now)) there
@@ -147,7 +151,7 @@ pub loop-i-preserved : goal.loop-i-preserved
 loop-i-preserved c =
     let old = c.args.old.now in
     elim c.if-at-a.branch [
-      | then-at-a+in-Some+in_ok-front+else-same w ↦
+      | then-at-a+in-Some+in_ok-front+in_ok-same+else-same w ↦
           let m : w.in-Some.mark.now ≡ end_from nothing_held (trace_of (take c.loop-i.i c.args.old.now)) = mark-is c.args.old.now c.loop-i.i c.index-old-i.result w.in-Some.mark.now c.requires.run.replay c.loop-i-test.true c.index-old-i.is w.in-Some.ensures in
           let there : w.in_ok-front.front.at ≡ c.loop-i.at - c.args.a + c.args.b = w.in_ok-front.ensures.there in
           let front = w.in_ok-front.ensures.front in
@@ -158,8 +162,8 @@ loop-i-preserved c =
                 w.in_ok-front.front.at w.in_ok-front.front.segments.items w.in_ok-front.front.heap w.advance.new.meter c.index-old-i.result c.loop-i.invariant.beside c.loop-i-test.true c.index-old-i.is front (omega arith) (omega (arith, c.loop-i.invariant.beside.rise, rise))
                 (λ marked behind agrees.
                 let same : w.in_ok-front.front.heap ≡ w.in-Some.mark.now = front.state ∙ ap (λ x. end_from nothing_held (take x c.args.ops.now)) there ∙ sym agrees ∙ ap (end_from nothing_held) (sym (trace_of-front c.args.old.now c.loop-i.i c.loop-i.at c.loop-i.invariant.beside.place)) ∙ sym m in
-                let t : w.same.result ≡ true = w.same.ensures.1 same in
-                let f : w.same.result ≡ false = w.if-same.false in
+                let t : w.in_ok-same.same ≡ true = w.in_ok-same.ensures.1 same in
+                let f : w.in_ok-same.same ≡ false = w.if-same.false in
                 cc);
             stepped = w.in_ok-front.ensures.stepped _ _ c.loop-i.invariant.stepped;
             never_less = omega (arith, c.loop-i.invariant.never_less, w.advance.ensures.never_less);
