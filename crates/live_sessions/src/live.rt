@@ -65,12 +65,8 @@ pub fn writer_of<J: Naming, R: Wait + Drop>(
     requires opening { desk.now.opening ≡ J.opening }
     requires front { front.now ≡ desk.now.history }
 {
-    let Ok(first) = desk.published().share() else {
-        return Err(OpenFault::Memory);
-    };
-    let Ok(second) = first.share() else {
-        return Err(OpenFault::Memory);
-    };
+    let first = desk.published().share()?;
+    let second = first.share()?;
     let first = Shown::new(first, front.again());
     let second = Shown::new(second, front.again());
     let Ok(mut writer) = WriteHandle::new(alloc, rt, first, second, READERS) else {
@@ -79,9 +75,7 @@ pub fn writer_of<J: Naming, R: Wait + Drop>(
     // What was appended stands until the next publish has brought the other copy up. So two values stand in the list at most,
     // and after these two publishes it has the room for them: a later one wants no memory.
     for _ in 0..2 {
-        let Ok(run) = desk.published().share() else {
-            return Err(OpenFault::Memory);
-        };
+        let run = desk.published().share()?;
         if writer.append(Shown::new(run, front.again())).is_err() || writer.publish().is_err() {
             return Err(OpenFault::Memory);
         }
@@ -140,9 +134,9 @@ impl<J: Naming, W: Publisher<Value = Shown<J>>> Live<J, W> {
     /// Submits a request of the pass's session, and answers with the reply to it.
     ///
     /// After `Ok` the entry stands, save where the reply is `HistoryFull`; and a read of any pass shows it or a later version,
-    /// save where memory was wanting to publish it: the next submit publishes it first. After `Err` neither the pass nor the history has changed:
-    /// `NoMeeting` comes where what the pass has seen, or the number of its session's entries, is not the history's, and
-    /// `Memory` where memory was wanting.
+    /// save where memory was wanting to publish it: the next submit publishes it first. After `Err` neither the pass nor the
+    /// history has changed: `NoMeeting` comes where what the pass has seen, or the number of its session's entries, is not the
+    /// history's, and `Memory` where memory was wanting.
     pub fn submit<S: Wait>(
         &self,
         rt: &S,

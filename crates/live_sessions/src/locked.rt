@@ -80,21 +80,13 @@ impl<J: Naming, W: Publisher<Value = Shown<J>>> LockedDesk<J, W> {
             return Err(SubmitFault::NoMeeting);
         }
         if len >= MAX_ENTRIES {
-            let Ok(last) = self.desk.published().share() else {
-                return Err(SubmitFault::Memory);
-            };
+            let last = self.desk.published().share()?;
             pass.adopt(self.front.again(), last, count);
             return Ok(Reply::HistoryFull);
         }
-        let Ok(prepared) = self.desk.prepare(self.alloc, session, request) else {
-            return Err(SubmitFault::Memory);
-        };
-        let Ok(last) = prepared.published().share() else {
-            return Err(SubmitFault::Memory);
-        };
-        let Ok(shown) = prepared.published().share() else {
-            return Err(SubmitFault::Memory);
-        };
+        let prepared = self.desk.prepare(self.alloc, session, request)?;
+        let last = prepared.published().share()?;
+        let shown = prepared.published().share()?;
         let mut front = self.front.again();
         if !front.add(book, prepared.entry()) {
             return Err(SubmitFault::NoMeeting);

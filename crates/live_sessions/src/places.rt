@@ -48,9 +48,7 @@ impl<J: Naming> Places<J> {
             let Ok(reader) = writer.handle() else {
                 return Err(OpenFault::NoReader);
             };
-            let Ok(last) = desk.published().share() else {
-                return Err(OpenFault::Memory);
-            };
+            let last = desk.published().share()?;
             let pass = Pass::new(session, reader, front.again(), last);
             if passes.push(Some(pass)).is_err() {
                 return Err(OpenFault::Memory);

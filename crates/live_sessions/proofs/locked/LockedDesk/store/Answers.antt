@@ -16,7 +16,7 @@ overflow_add-count g c = omega (arith, c.count-count.ensures, count_of-le-length
 pub adopt-requires-2-clause-own : goal.adopt-requires-2-clause-own
 adopt-requires-2-clause-own g c =
     let h = c.self.inside.desk.history in
-    let e = c.in-Ok-prepare.prepared.entry in
+    let e = c.in_ok-prepared.prepared.entry in
     let front : c.again-3.result ≡ h ++ e ∷ [] = search rules in
     let s = c.args.pass.now.session in
     let mine : e.session ≡ s = search rules in
@@ -26,7 +26,7 @@ adopt-requires-2-clause-own g c =
 pub returns-clause-reply : goal.returns-clause-reply
 returns-clause-reply g c =
     let h = c.self.inside.desk.history in
-    let e = c.in-Ok-prepare.prepared.entry in
+    let e = c.in_ok-prepared.prepared.entry in
     let old = c.args.pass.now in
     let new = c.adopt-2.new.self in
     let is : h ≡ c.args.self.now = c.self.view_is in
