@@ -1,10 +1,11 @@
 -- Heads and tails of two traces.
-use Rattle.std.proofs.Common.{◌≡◌, ℕ, ◌+◌, ◌-◌, ◌<◌, ◌≤◌, List, [], ◌∷◌, ◌++◌, length, take, drop, get_or, ap, sym, subst, ◌∙◌, arith}
+use Rattle.std.proofs.Common.{◌≡◌, ℕ, zero, suc, ◌+◌, ◌-◌, ◌<◌, ◌≤◌, List, [], ◌∷◌, ◌++◌, length, take, drop, get_or, ap, sym, subst, ◌∙◌, arith, take-append-drop}
 use Rattle.std.proofs.lemmas.Bool.{cases_lt}
-use Rattle.std.proofs.lemmas.List.{take_more, same_from_push, drop-drop, drop_all}
+use Rattle.std.proofs.lemmas.List.{take_more, same_from_push, drop-drop, drop_all, drop-take}
+use Rattle.std.proofs.Math.Seq.{take-add}
 use mathlib.Core.Logic.{⊎_elim}
 use Rattle.trace_types.specs.Operation.{Operation}
-use Rattle.run_engine.specs.HeadAndTail.{ShareEnd, IsHead, IsTail, AreShared}
+use Rattle.run_engine.specs.HeadAndTail.{ShareEnd, IsHead, IsTail, AreShared, AreAlike}
 use Rattle.run_engine.specs.Marks.{IsGreatest}
 use Rattle.run_engine.specs.Bounds.{StepsAtMostFrom}
 use Rattle.run_engine.specs.Steps.{AreSteppedFrom}
@@ -103,3 +104,53 @@ bounded-none old ops marks before head tail r both is =
 
 pub tail-none : (old new : List Operation) → drop (length old - 0) old ≡ drop (length new - 0) new
 tail-none old new = drop_all (length old - 0) old (omega arith) ∙ sym (drop_all (length new - 0) new (omega arith))
+
+-- a part of the operations that are the base's
+part-of : (xs : List Operation) (from len j k : ℕ) → j + k ≤ len → take k (drop j (take len (drop from xs))) ≡ take k (drop (from + j) xs)
+part-of xs from len j k le =
+    let whole : len ≡ j + (len - j) = omega arith in
+    ap (λ n. take k (drop j (take n (drop from xs)))) whole ∙ ap (take k) (drop-take j (len - j) (drop from xs)) ∙ take-shorter k (len - j) (drop j (drop from xs)) (omega arith) ∙ ap (take k) (drop-drop j from xs)
+
+pub alike-part : (base ops : List Operation) (place from at len j k : ℕ) → AreAlike base ops place from at len → j + k ≤ len → take k (drop (from + j) base) ≡ take k (drop (at + j) ops)
+alike-part base ops place from at len j k h le = sym (part-of base from len j k le) ∙ ap (λ ys. take k (drop j ys)) h.same ∙ part-of ops at len j k le
+
+-- those from a place on, where the base's stand at the same place
+pub alike-here : (base ops : List Operation) (place from at len : ℕ) → AreAlike base ops place from at len → from ≡ at → take (len - (place - at)) (drop place base) ≡ take (len - (place - at)) (drop place ops)
+alike-here base ops place from at len h e =
+    let here = h.here in
+    let before = h.before in
+    let mine : from + (place - at) ≡ place = omega arith in
+    let other : at + (place - at) ≡ place = omega arith in
+    ap (λ n. take (len - (place - at)) (drop n base)) (sym mine) ∙ alike-part base ops place from at len (place - at) (len - (place - at)) h (omega arith) ∙ ap (λ n. take (len - (place - at)) (drop n ops)) other
+
+pub one-alike : (base ops : List Operation) (at : ℕ) (x y : Operation) → at < length base → at < length ops → x ≡ get_or base at x → y ≡ get_or ops at y → x ≡ y → take 1 (drop at base) ≡ take 1 (drop at ops)
+one-alike base ops at x y a b is js e = ap (take 1) (around base at x a is) ∙ ap (λ z. z ∷ []) e ∙ sym (ap (take 1) (around ops at y b js))
+
+pub head-further : (base ops : List Operation) (at more : ℕ) → take at base ≡ take at ops → take more (drop at base) ≡ take more (drop at ops) → take (at + more) base ≡ take (at + more) ops
+head-further base ops at more same next = take-add at more base ∙ ap (λ xs. xs ++ take more (drop at base)) same ∙ ap (λ xs. take at ops ++ xs) next ∙ sym (take-add at more ops)
+
+-- the operations from u on, of which k are alike
+back-more : (xs : List Operation) (u k : ℕ) → drop u xs ≡ take k (drop u xs) ++ drop (u + k) xs
+back-more xs u k = sym (take-append-drop k (drop u xs)) ∙ ap (λ ys. take k (drop u xs) ++ ys) (drop-drop k u xs)
+
+pub alike-back : (base ops : List Operation) (place from at len n k : ℕ) → AreAlike base ops place from at len → place ≡ length ops - 1 - n → n < length ops → n < length base → from + (place - at) ≡ length base - 1 - n → k ≤ place - at + 1
+    → drop (length base - n) base ≡ drop (length ops - n) ops → drop (length base - (n + k)) base ≡ drop (length ops - (n + k)) ops
+alike-back base ops place from at len n k h is lt less there le same =
+    let here = h.here in
+    let before = h.before in
+    let j : ℕ = place - at + 1 - k in
+    let u : from + j ≡ length base - (n + k) = omega arith in
+    let v : at + j ≡ length ops - (n + k) = omega arith in
+    let up : length base - (n + k) + k ≡ length base - n = omega arith in
+    let vp : length ops - (n + k) + k ≡ length ops - n = omega arith in
+    let middle : take k (drop (length base - (n + k)) base) ≡ take k (drop (length ops - (n + k)) ops) =
+    ap (λ m. take k (drop m base)) (sym u) ∙ alike-part base ops place from at len j k h (omega arith) ∙ ap (λ m. take k (drop m ops)) v in
+    back-more base (length base - (n + k)) k ∙ ap (λ xs. xs ++ drop (length base - (n + k) + k) base) middle
+    ∙ ap (λ m. take k (drop (length ops - (n + k)) ops) ++ drop m base) up ∙ ap (λ xs. take k (drop (length ops - (n + k)) ops) ++ xs) same
+    ∙ ap (λ m. take k (drop (length ops - (n + k)) ops) ++ drop m ops) (sym vp) ∙ sym (back-more ops (length ops - (n + k)) k)
+
+-- none or one more at the tail
+pub none-or-one : (P : ℕ → Type 0) (n k : ℕ) → k ≤ 1 → P n → P (n + 1) → P (n + k)
+none-or-one P n zero le p q = let e : n ≡ n + zero = omega arith in subst P e p
+none-or-one P n (suc zero) le p q = q
+none-or-one P n (suc (suc k)) le p q = absurd (omega arith)

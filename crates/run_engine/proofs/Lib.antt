@@ -2,7 +2,10 @@ mod ListingLemmas
 mod EditLemmas
 mod HeadAndTailLemmas
 mod SegmentLemmas
-mod ShiftLemmas
+mod NumberLemmas
+mod PartLemmas
+mod SpanLemmas
+mod StretchLemmas
 mod PieceLemmas
 mod PlaceLemmas
 mod ConvergeLemmas

@@ -1,40 +1,12 @@
--- Lists of references, and where an operation stands in a list.
-use Rattle.std.proofs.Common.{◌≡◌, ℕ, zero, suc, ◌+◌, ◌<◌, ◌≤◌, List, [], ◌∷◌, ◌++◌, length, take, drop, ◌-◌, get_or, map, Bool, cond, refl, ap, sym, ◌∙◌, arith, drop-cons, add-one, Bor}
-use Rattle.std.specs.Prelude.{◌==◌, Some, None, is_some, insert, remove, slice_range}
+-- Parts of a list, and where an operation stands in it.
+use Rattle.std.proofs.Common.{◌≡◌, ℕ, zero, suc, ◌+◌, ◌<◌, ◌≤◌, List, [], ◌∷◌, ◌++◌, length, take, drop, ◌-◌, get_or, Bool, cond, refl, ap, sym, ◌∙◌, arith, drop-cons, add-one}
+use Rattle.std.specs.Prelude.{◌==◌, Some, None, is_some, slice_range}
 use Rattle.std.specs.List.{list_any, position_from}
 use Rattle.std.proofs.lemmas.Grind.{common_steps}
-use Rattle.std.proofs.lemmas.List.{map-append, drop_all, take_more, length-drop, get_or-drop}
+use Rattle.std.proofs.lemmas.List.{drop_all, take_more, length-drop, length-take, get_or-drop, drop-drop}
+use Rattle.std.proofs.Math.Seq.{take-add}
 use Rattle.trace_types.specs.Operation.{Operation}
 use Rattle.trace_types.specs.Trace.{place_of, is_taken}
-
-module _ {X Y : Type 0} (f : X → Y) where
-  take-mapped : (n : ℕ) (xs : List X) → map f (take n xs) ≡ take n (map f xs)
-  take-mapped zero xs = refl
-  take-mapped (suc n) [] = refl
-  take-mapped (suc n) (x ∷ xs) = ap (λ (ys : List Y). f x ∷ ys) (take-mapped n xs)
-
-  drop-mapped : (n : ℕ) (xs : List X) → map f (drop n xs) ≡ drop n (map f xs)
-  drop-mapped zero xs = refl
-  drop-mapped (suc n) [] = refl
-  drop-mapped (suc n) (x ∷ xs) = drop-mapped n xs
-
-  pub insert-mapped : (xs : List X) (i : ℕ) (x : X) → map f (insert xs i x) ≡ insert (map f xs) i (f x)
-  insert-mapped xs i x =
-      map-append f (take i xs) (x ∷ drop i xs)
-      ∙ ap (λ (ys : List Y). ys ++ (f x ∷ map f (drop i xs))) (take-mapped i xs)
-      ∙ ap (λ (ys : List Y). take i (map f xs) ++ (f x ∷ ys)) (drop-mapped i xs)
-
-  pub remove-mapped : (xs : List X) (i : ℕ) → map f (remove xs i) ≡ remove (map f xs) i
-  remove-mapped xs i =
-      map-append f (take i xs) (drop (suc i) xs)
-      ∙ ap (λ (ys : List Y). ys ++ map f (drop (suc i) xs)) (take-mapped i xs)
-      ∙ ap (λ (ys : List Y). take i (map f xs) ++ ys) (drop-mapped (suc i) xs)
-
--- what a reference in a list points to
-pub mapped-at : (xs : List (Bor Operation)) (i : ℕ) (r : Bor Operation) → i < length xs → r ≡ get_or xs i r → r.now ≡ get_or (map (λ (x : Bor Operation). x.now) xs) i r.now
-mapped-at [] i r lt is = absurd (omega arith)
-mapped-at (x ∷ xs) zero r lt is = ap (λ (y : Bor Operation). y.now) is
-mapped-at (x ∷ xs) (suc i) r lt is = mapped-at xs i r (omega arith) is
 
 -- a list around its place i
 pub around : {X : Type 0} (xs : List X) (i : ℕ) (x : X) → i < length xs → x ≡ get_or xs i x → drop i xs ≡ x ∷ drop (i + 1) xs
@@ -75,3 +47,17 @@ slice_range-more ops from at op le lt is =
 
 pub slice_range-none : (ops : List Operation) (at : ℕ) → slice_range ops at at ≡ []
 slice_range-none ops at = let none : at - at ≡ zero = omega arith in ap (λ n. take n (drop at ops)) none
+
+-- a part with operations more
+pub slice_range-further : (ops : List Operation) (from at few : ℕ) → from ≤ at → slice_range ops from (at + few) ≡ slice_range ops from at ++ take few (drop at ops)
+slice_range-further ops from at few le =
+    let parts : at + few - from ≡ at - from + few = omega arith in
+    let there : from + (at - from) ≡ at = omega arith in
+    ap (λ n. take n (drop from ops)) parts ∙ take-add (at - from) few (drop from ops) ∙ ap (λ xs. take (at - from) (drop from ops) ++ take few xs) (drop-drop (at - from) from ops ∙ ap (λ n. drop n ops) there)
+
+-- operations that stand side by side are the next ones
+pub next-ones : (ops next : List Operation) (at few : ℕ) → next ≡ take (length next) (drop at ops) → few ≤ length next → take few next ≡ take few (drop at ops)
+next-ones ops next at few is le = ap (take few) is ∙ take-shorter few (length next) (drop at ops) le
+
+pub next-within : (ops next : List Operation) (at : ℕ) → next ≡ take (length next) (drop at ops) → at ≤ length ops → at + length next ≤ length ops
+next-within ops next at is le = omega (arith, ap length is, length-take (length next) (drop at ops), length-drop at ops)

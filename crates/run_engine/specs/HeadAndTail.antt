@@ -1,5 +1,5 @@
 -- What two traces have in common at their heads and tails.
-use Rattle.std.specs.Prelude.{ℕ, ◌-◌, ◌+◌, ◌≡◌, ◌≤◌, List, length, take, drop}
+use Rattle.std.specs.Prelude.{ℕ, ◌-◌, ◌+◌, ◌≡◌, ◌<◌, ◌≤◌, List, length, take, drop}
 use Rattle.trace_types.specs.Operation.{Operation}
 
 -- the two have the same operations from a and from b on
@@ -26,3 +26,11 @@ pub record IsTail (old new : List Operation) (head tail : ℕ) : Type 0 where
 pub record AreShared (old new : List Operation) (head tail : ℕ) : Type 0 where
   pub head_is : IsHead old new head
   pub tail_is : IsTail old new head tail
+
+-- the operations around a place are those of the base, where they stand from `from` on, and here from `at` on
+pub record AreAlike (base ops : List Operation) (place from at len : ℕ) : Type 0 where
+  pub here : at ≤ place
+  pub before : place < at + len
+  pub base_within : from + len ≤ length base
+  pub within : at + len ≤ length ops
+  pub same : take len (drop from base) ≡ take len (drop at ops)

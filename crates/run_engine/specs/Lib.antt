@@ -1,5 +1,7 @@
 pub mod Edited
-pub mod Shifts
+pub mod Parts
+pub mod Spans
+pub mod ListingView
 pub mod SegmentView
 pub mod Marks
 pub mod Segments

@@ -5,7 +5,7 @@ ghost use Rattle.trace_types.specs.Stretches as lent;
 ghost use Rattle.ownership_model.specs.State.{nothing_held};
 ghost use Rattle.run_engine.specs.Segments.{trace_of, outcomes_in, mark_here, all_marks, AreReplayFrom};
 
-use crate::listing::Listing;
+use crate::original::Original;
 use crate::segment::Segment;
 use std::alloc::{AllocError, Global};
 use trace_types::limits::MAX_OPS;
@@ -26,13 +26,13 @@ pub fn len_in(segments: &[Segment]) -> usize
 }
 
 /// The operations, where they stand.
-pub fn ops_in<'a>(alloc: Global, segments: &'a [Segment]) -> Result<Listing<'a>, AllocError>
+pub fn ops_in<'a>(alloc: Global, segments: &'a [Segment]) -> Result<Original<'a>, AllocError>
     requires { length (trace_of segments.now) ≤ MAX_OPS }
     ensures { IfOk result (λ v. v ≡ trace_of segments.now) }
 {
-    let mut ops = Listing::with_room(alloc, len_in(segments))?;
+    let mut ops = Original::with_room(alloc, segments.len())?;
     for segment in segments {
-        ops.extend(segment.ops())?;
+        ops.push(segment.part())?;
     }
     Ok(ops)
 }

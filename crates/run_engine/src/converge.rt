@@ -16,6 +16,7 @@ use crate::stretch::old_stretch;
 use object_heap::heap::Heap;
 use op_step::meter::Meter;
 use std::alloc::{AllocError, Global};
+use trace_types::limits::MAX_OPS;
 
 /// How far a replay has come: its segments, the heap after them, and how many operations they have.
 #[derive(Drop)]
@@ -38,13 +39,15 @@ fn next_piece(
     meter: &mut Meter,
 ) -> Result<Piece, AllocError>
     requires some { at < to }
-    requires within { to ≤ length ops.now }
+    requires within { to ≤ length ops.now.ops }
+    requires base { ops.now.base ≡ trace_of old.now }
+    requires old_few { length (trace_of old.now) ≤ MAX_OPS }
     requires run { IsRun old.now end.now }
-    requires new { AreNew heap.now (slice_range ops.now at to) }
-    ensures piece { IfOk result (λ p. IsPiece heap.now (slice_range ops.now at to) p.segments.items p.end p.len) }
+    requires new { AreNew heap.now (slice_range ops.now.ops at to) }
+    ensures piece { IfOk result (λ p. IsPiece heap.now (slice_range ops.now.ops at to) p.segments.items p.end p.len) }
     ensures gap { IfOk result (λ p. IsGap (all_marks old.now) p.len) }
     ensures steps { IfOk result (λ p. meter.new ≤ meter.old + p.len) }
-    ensures taken { IfOk result (λ p. AreTaken (trace_of old.now) (all_marks old.now) heap.now (slice_range ops.now at to) p.len meter.old meter.new) }
+    ensures taken { IfOk result (λ p. AreTaken (trace_of old.now) (all_marks old.now) heap.now (slice_range ops.now.ops at to) p.len meter.old meter.new) }
     ensures never_less { meter.old ≤ meter.new }
     ensures rise { meter.new + at ≤ meter.old + to }
 {
@@ -85,16 +88,18 @@ fn advance(
     may_serve: bool,
     meter: &mut Meter,
 ) -> Result<Front, AllocError>
+    requires base { ops.now.base ≡ trace_of old.now }
+    requires old_few { length (trace_of old.now) ≤ MAX_OPS }
     requires run { IsRun old.now end.now }
-    requires front { IsReached ops.now front.at front.segments.items front.heap }
+    requires front { IsReached ops.now.ops front.at front.segments.items front.heap }
     requires order { front.at ≤ to }
-    requires within { to ≤ length ops.now }
-    requires new { AreNew nothing_held ops.now }
-    ensures front { IfOk result (λ f. IsReached ops.now f.at f.segments.items f.heap) }
+    requires within { to ≤ length ops.now.ops }
+    requires new { AreNew nothing_held ops.now.ops }
+    ensures front { IfOk result (λ f. IsReached ops.now.ops f.at f.segments.items f.heap) }
     ensures there { IfOk result (λ f. f.at ≡ to) }
     ensures never_less { meter.old ≤ meter.new }
     ensures rise { meter.new + front.at ≤ meter.old + to }
-    ensures stepped { (r before : ℕ) → HaveStepped (trace_of old.now) ops.now (all_marks old.now) r front.at before meter.old → IfOk result (λ f. HaveStepped (trace_of old.now) ops.now (all_marks old.now) r f.at before meter.new) }
+    ensures stepped { (r before : ℕ) → HaveStepped (trace_of old.now) ops.now.ops (all_marks old.now) r front.at before meter.old → IfOk result (λ f. HaveStepped (trace_of old.now) ops.now.ops (all_marks old.now) r f.at before meter.new) }
     ensures marks { (kept : List ℕ) (r : ℕ) → AreLaid (all_marks old.now) kept r front.at (marks_from 0 front.segments.items) → IfOk result (λ f. AreLaid (all_marks old.now) kept r f.at (marks_from 0 f.segments.items)) }
 {
     let mut front = front;
@@ -137,18 +142,19 @@ pub fn converge(
     b: usize,
     meter: &mut Meter,
 ) -> Result<(Vec<Segment>, Heap), AllocError>
+    requires base { ops.now.base ≡ trace_of old.now }
+    requires old_few { length (trace_of old.now) ≤ MAX_OPS }
     requires run { IsRun old.now end.now }
-    requires front { IsReached ops.now front.at front.segments.items front.heap }
-    requires shared { ShareEnd (trace_of old.now) ops.now a b }
+    requires front { IsReached ops.now.ops front.at front.segments.items front.heap }
+    requires shared { ShareEnd (trace_of old.now) ops.now.ops a b }
     requires order { front.at ≤ b }
-    requires new { AreNew nothing_held ops.now }
-    requires few { length ops.now < 2 ^ 32 }
-    requires old_few { length (trace_of old.now) < 2 ^ 32 }
+    requires new { AreNew nothing_held ops.now.ops }
+    requires few { length ops.now.ops < 2 ^ 32 }
     ensures run { IfOk result (λ r. IsRun r.0.items r.1) }
-    ensures trace { IfOk result (λ r. trace_of r.0.items ≡ ops.now) }
-    ensures marks { IfOk result (λ r. AreMarksOf (trace_of old.now) ops.now (marks_from 0 front.segments.items) (all_marks old.now) (all_marks r.0.items) front.at a b) }
-    ensures bound { StepsAtMost (trace_of old.now) ops.now a b (all_marks old.now) front.at meter.old meter.new }
-    ensures stepped { IfOk result (λ _. AreStepped (trace_of old.now) ops.now a b (all_marks old.now) front.at meter.old meter.new) }
+    ensures trace { IfOk result (λ r. trace_of r.0.items ≡ ops.now.ops) }
+    ensures marks { IfOk result (λ r. AreMarksOf (trace_of old.now) ops.now.ops (marks_from 0 front.segments.items) (all_marks old.now) (all_marks r.0.items) front.at a b) }
+    ensures bound { StepsAtMost (trace_of old.now) ops.now.ops a b (all_marks old.now) front.at meter.old meter.new }
+    ensures stepped { IfOk result (λ _. AreStepped (trace_of old.now) ops.now.ops a b (all_marks old.now) front.at meter.old meter.new) }
     ensures never_less { meter.old ≤ meter.new }
 {
     let mut front = front;

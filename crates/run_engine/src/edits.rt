@@ -1,12 +1,13 @@
 //! The trace after a batch of edits.
-ghost use Rattle.std.specs.Prelude.{◌≡◌, ◌<◌, ◌≤◌, length, ◌⊎◌, IfOk, OnOk, IfErr, IfSome, Ok, Err};
-ghost use Rattle.trace_types.specs.Trace.{IsTrace, place_of};
+ghost use Rattle.std.specs.Prelude.{◌≡◌, ◌<◌, ◌≤◌, ◌++◌, length, ◌⊎◌, IfOk, OnOk, IfErr, IfSome, Some, Ok, Err, false, slice_set};
+ghost use Rattle.trace_types.specs.Trace.{IsTrace, place_of, is_taken};
 ghost use Rattle.run_engine.specs.declared.faults.RunFault.TheVariants.{EmptyBatch, TooManyEdits, Memory};
 ghost use Rattle.run_engine.specs.Edited.{place_after, inserted, removed, changed, edited_one, edited_by, IsFaultOf};
 
-use crate::editing::Editing;
 use crate::faults::RunFault;
 use crate::listing::Listing;
+use crate::original::Original;
+use crate::part::{Part, bounds_of};
 use std::alloc::{AllocError, Global};
 use trace_types::edits::{Batch, Edit};
 use trace_types::limits::{MAX_EDITS, MAX_OPS};
@@ -22,18 +23,25 @@ pub fn apply(alloc: Global, trace: &Trace, batch: &Batch) -> Result<Trace, RunFa
     ensures too_many { MAX_EDITS < length batch.now → result ≡ Err TooManyEdits }
 {
     try_size(batch.len())?;
-    let ops = listed(alloc, trace.as_slice())?;
-    let ops = edited(alloc, ops, batch.as_slice())?;
+    let ops = Listing::of(alloc, parted(alloc, trace.as_slice())?)?;
+    let ops = edited(ops, batch.as_slice())?;
     Ok(copied(alloc, &ops)?)
 }
 
-// The operations, where they stand.
-fn listed<'a>(alloc: Global, all: &'a [Op]) -> Result<Listing<'a>, AllocError>
+// The operations, where they stand, in parts of 64.
+fn parted<'a>(alloc: Global, all: &'a [Op]) -> Result<Original<'a>, AllocError>
+    requires { length all.now ≤ MAX_OPS }
     ensures { IfOk result (λ l. l ≡ all.now) }
 {
-    let mut ops = Listing::with_room(alloc, all.len())?;
-    ops.extend(all)?;
-    Ok(ops)
+    let mut original = Original::with_room(alloc, all.len() / 64 + 1)?;
+    let mut at = 0;
+    while at < all.len() {
+        let to = at + (all.len() - at).min(64);
+        let ops = &all[at..to];
+        original.push(Part::new(ops, bounds_of(ops)))?;
+        at = to;
+    }
+    Ok(original)
 }
 
 /// Whether a batch may have so many edits.
@@ -51,28 +59,30 @@ pub(crate) fn try_size(len: usize) -> Result<(), RunFault>
 }
 
 /// The operations after the edits, which are carried out in order.
-pub(crate) fn edited<'a>(
-    alloc: Global,
-    ops: Listing<'a>,
-    batch: &'a [Edit],
-) -> Result<Listing<'a>, RunFault>
-    requires trace { IsTrace ops }
+pub(crate) fn edited<'a>(ops: Listing<'a>, batch: &'a [Edit]) -> Result<Listing<'a>, RunFault>
+    requires base { IsTrace ops.base }
+    requires trace { IsTrace ops.ops }
     requires some { 0 < length batch.now }
     requires few { length batch.now ≤ MAX_EDITS }
-    ensures ok { IfOk result (λ r. edited_by ops.entry batch.now ≡ Ok r) }
-    ensures fault { IfErr result (IsFaultOf (edited_by ops.entry batch.now)) }
-    ensures trace { IfOk result (λ r. IsTrace r) }
+    ensures ok { IfOk result (λ r. edited_by ops.entry.ops batch.now ≡ Ok r.ops) }
+    ensures fault { IfErr result (IsFaultOf (edited_by ops.entry.ops batch.now)) }
+    ensures base { IfOk result (λ r. r.base ≡ ops.entry.base) }
+    ensures trace { IfOk result (λ r. IsTrace r.ops) }
 {
-    let mut editing = Editing::new(alloc, ops, batch)?;
+    let mut ops = ops;
     for i in 0..batch.len() {
-        edit_one(&mut editing, &batch[i], i as u64)?;
+        edit_one(&mut ops, &batch[i], i as u64)?;
     }
-    Ok(editing.into_ops())
+    Ok(ops)
 }
 
-fn edit_one<'a>(ops: &mut Editing<'a>, edit: &'a Edit, index: u64) -> Result<(), RunFault>
-    ensures ok { OnOk result (edited_one index ops.old edit.now ≡ Ok ops.new) }
-    ensures fault { IfErr result (IsFaultOf (edited_one index ops.old edit.now)) }
+fn edit_one<'a>(ops: &mut Listing<'a>, edit: &'a Edit, index: u64) -> Result<(), RunFault>
+    requires base { IsTrace ops.old.base }
+    requires trace { IsTrace ops.old.ops }
+    ensures ok { OnOk result (edited_one index ops.old.ops edit.now ≡ Ok ops.new.ops) }
+    ensures fault { IfErr result (IsFaultOf (edited_one index ops.old.ops edit.now)) }
+    ensures base { ops.new.base ≡ ops.old.base }
+    ensures trace { OnOk result (IsTrace ops.new.ops) }
 {
     match edit {
         Edit::Insert { after, op } => insert(ops, *after, op, index),
@@ -81,9 +91,13 @@ fn edit_one<'a>(ops: &mut Editing<'a>, edit: &'a Edit, index: u64) -> Result<(),
     }
 }
 
-fn insert<'a>(ops: &mut Editing<'a>, after: u32, op: &'a Op, index: u64) -> Result<(), RunFault>
-    ensures ok { OnOk result (inserted index ops.old op.now (place_after after ops.old) ≡ Ok ops.new) }
-    ensures fault { IfErr result (IsFaultOf (inserted index ops.old op.now (place_after after ops.old))) }
+fn insert<'a>(ops: &mut Listing<'a>, after: u32, op: &'a Op, index: u64) -> Result<(), RunFault>
+    requires base { IsTrace ops.old.base }
+    requires trace { IsTrace ops.old.ops }
+    ensures ok { OnOk result (inserted index ops.old.ops op.now (place_after after ops.old.ops) ≡ Ok ops.new.ops) }
+    ensures fault { IfErr result (IsFaultOf (inserted index ops.old.ops op.now (place_after after ops.old.ops))) }
+    ensures base { ops.new.base ≡ ops.old.base }
+    ensures trace { OnOk result (IsTrace ops.new.ops) }
 {
     let Some(place) = place_after(ops, after) else {
         return Err(RunFault::NoSuchOp(index));
@@ -97,9 +111,13 @@ fn insert<'a>(ops: &mut Editing<'a>, after: u32, op: &'a Op, index: u64) -> Resu
     Ok(ops.insert(place, op)?)
 }
 
-fn remove(ops: &mut Editing, id: u32, index: u64) -> Result<(), RunFault>
-    ensures ok { OnOk result (removed index ops.old (place_of id ops.old) ≡ Ok ops.new) }
-    ensures fault { IfErr result (IsFaultOf (removed index ops.old (place_of id ops.old))) }
+fn remove(ops: &mut Listing, id: u32, index: u64) -> Result<(), RunFault>
+    requires base { IsTrace ops.old.base }
+    requires trace { IsTrace ops.old.ops }
+    ensures ok { OnOk result (removed index ops.old.ops (place_of id ops.old.ops) ≡ Ok ops.new.ops) }
+    ensures fault { IfErr result (IsFaultOf (removed index ops.old.ops (place_of id ops.old.ops))) }
+    ensures base { ops.new.base ≡ ops.old.base }
+    ensures trace { OnOk result (IsTrace ops.new.ops) }
 {
     let Some(place) = ops.place(id) else {
         return Err(RunFault::NoSuchOp(index));
@@ -107,9 +125,13 @@ fn remove(ops: &mut Editing, id: u32, index: u64) -> Result<(), RunFault>
     Ok(ops.remove(place)?)
 }
 
-fn change<'a>(ops: &mut Editing<'a>, id: u32, op: &'a Op, index: u64) -> Result<(), RunFault>
-    ensures ok { OnOk result (changed index ops.old id op.now (place_of id ops.old) ≡ Ok ops.new) }
-    ensures fault { IfErr result (IsFaultOf (changed index ops.old id op.now (place_of id ops.old))) }
+fn change<'a>(ops: &mut Listing<'a>, id: u32, op: &'a Op, index: u64) -> Result<(), RunFault>
+    requires base { IsTrace ops.old.base }
+    requires trace { IsTrace ops.old.ops }
+    ensures ok { OnOk result (changed index ops.old.ops id op.now (place_of id ops.old.ops) ≡ Ok ops.new.ops) }
+    ensures fault { IfErr result (IsFaultOf (changed index ops.old.ops id op.now (place_of id ops.old.ops))) }
+    ensures base { ops.new.base ≡ ops.old.base }
+    ensures trace { OnOk result (IsTrace ops.new.ops) }
 {
     let Some(place) = ops.place(id) else {
         return Err(RunFault::NoSuchOp(index));
@@ -117,13 +139,28 @@ fn change<'a>(ops: &mut Editing<'a>, id: u32, op: &'a Op, index: u64) -> Result<
     if op.id() != id && ops.is_taken(op.id()) {
         return Err(RunFault::IdTaken(index));
     }
-    Ok(ops.exchange(id, place, op)?)
+    Ok(exchange(ops, id, place, op)?)
+}
+
+// Puts an operation in the place of operation `id`.
+fn exchange<'a>(ops: &mut Listing<'a>, id: u32, place: usize, op: &'a Op) -> Result<(), AllocError>
+    requires trace { IsTrace ops.old.ops }
+    requires place { place_of id ops.old.ops ≡ Some place }
+    requires new { (op.now.id ≡ id) ⊎ (is_taken op.now.id ops.old.ops ≡ false) }
+    ensures base { ops.new.base ≡ ops.old.base }
+    ensures ops { OnOk result (ops.new.ops ≡ slice_set ops.old.ops place op.now) }
+    ensures trace { OnOk result (IsTrace ops.new.ops) }
+{
+    ops.set(place, op)?;
+    Ok(())
 }
 
 // Where an operation goes that comes right after operation `after`.
-fn place_after(ops: &Editing, after: u32) -> Option<usize>
-    ensures value { result ≡ place_after after ops.now }
-    ensures within { IfSome result (λ place. place ≤ length ops.now) }
+fn place_after(ops: &Listing, after: u32) -> Option<usize>
+    requires base { IsTrace ops.now.base }
+    requires trace { IsTrace ops.now.ops }
+    ensures value { result ≡ place_after after ops.now.ops }
+    ensures within { IfSome result (λ place. place ≤ length ops.now.ops) }
 {
     if after == 0 {
         return Some(0);
@@ -136,13 +173,25 @@ fn place_after(ops: &Editing, after: u32) -> Option<usize>
 
 /// A trace of copies of the operations. Their numbers are distinct, so that only memory can be wanting.
 pub(crate) fn copied(alloc: Global, ops: &Listing) -> Result<Trace, AllocError>
-    ensures { IfOk result (λ t. t ≡ ops.now) }
+    ensures { IfOk result (λ t. t ≡ ops.now.ops) }
 {
     let mut trace = Trace::new(alloc);
-    for place in 0..ops.len() {
-        if trace.push(ops.at(place).clone()?).is_err() {
+    let mut at = 0;
+    while at < ops.len() {
+        let next = ops.from(at);
+        push_copies(&mut trace, next)?;
+        at += next.len();
+    }
+    Ok(trace)
+}
+
+fn push_copies(trace: &mut Trace, ops: &[Op]) -> Result<(), AllocError>
+    ensures { OnOk result (trace.new ≡ trace.old ++ ops.now) }
+{
+    for op in ops {
+        if trace.push(op.clone()?).is_err() {
             return Err(AllocError);
         }
     }
-    Ok(trace)
+    Ok(())
 }

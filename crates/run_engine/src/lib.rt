@@ -4,15 +4,16 @@
 mod contents;
 mod converge;
 mod difference;
-mod editing;
 pub mod edits;
 pub mod faults;
 mod head_and_tail;
 mod listing;
+mod original;
+mod part;
 mod piece;
 mod restart;
 pub mod run;
 mod seek;
 mod segment;
-mod shift;
+mod spans;
 mod stretch;

@@ -56,9 +56,9 @@ pub fn stepped_up_to(
     meter: &mut Meter,
 ) -> Result<Piece, AllocError>
     requires some { at < to }
-    requires within { to ≤ length ops.now }
-    requires new { AreNew heap.now (slice_range ops.now at to) }
-    ensures piece { IfOk result (λ p. IsPiece heap.now (slice_range ops.now at to) p.segments.items p.end p.len) }
+    requires within { to ≤ length ops.now.ops }
+    requires new { AreNew heap.now (slice_range ops.now.ops at to) }
+    ensures piece { IfOk result (λ p. IsPiece heap.now (slice_range ops.now.ops at to) p.segments.items p.end p.len) }
     ensures short { IfOk result (λ p. p.len ≤ 64) }
     ensures count { IfOk result (λ p. meter.new ≡ raised meter.old p.len) }
     ensures never_less { meter.old ≤ meter.new }

@@ -73,30 +73,29 @@ fn front(alloc: Global, segments: &[Segment], end: &Heap, head: usize) -> Result
     })
 }
 
-/// The replay of an edited trace beside that of the old one.
+/// The replay of an edited trace beside that of the old one, the base.
 pub fn resumed(
     alloc: Global,
     segments: &[Segment],
     end: &Heap,
-    old: &Listing,
     ops: &Listing,
     meter: &mut Meter,
 ) -> Result<(Vec<Segment>, Heap), AllocError>
     requires run { IsRun segments.now end.now }
-    requires old { old.now ≡ trace_of segments.now }
-    requires old_trace { IsTrace old.now }
-    requires trace { IsTrace ops.now }
+    requires base { ops.now.base ≡ trace_of segments.now }
+    requires base_trace { IsTrace ops.now.base }
+    requires trace { IsTrace ops.now.ops }
     ensures run { IfOk result (λ r. IsRun r.0.items r.1) }
-    ensures trace { IfOk result (λ r. trace_of r.0.items ≡ ops.now) }
-    ensures marks { IfOk result (λ r. AreMarksAfter (record { trace = old.now; marks = all_marks segments.now }) (record { trace = ops.now; marks = all_marks r.0.items })) }
-    ensures bound { StepsAtMostFrom old.now ops.now (all_marks segments.now) meter.old meter.new }
-    ensures stepped { IfOk result (λ _. AreSteppedFrom old.now ops.now (all_marks segments.now) meter.old meter.new) }
+    ensures trace { IfOk result (λ r. trace_of r.0.items ≡ ops.now.ops) }
+    ensures marks { IfOk result (λ r. AreMarksAfter (record { trace = ops.now.base; marks = all_marks segments.now }) (record { trace = ops.now.ops; marks = all_marks r.0.items })) }
+    ensures bound { StepsAtMostFrom ops.now.base ops.now.ops (all_marks segments.now) meter.old meter.new }
+    ensures stepped { IfOk result (λ _. AreSteppedFrom ops.now.base ops.now.ops (all_marks segments.now) meter.old meter.new) }
     ensures never_less { meter.old ≤ meter.new }
 {
-    let first = head(old, ops);
-    let last = tail(old, ops, first);
+    let first = head(ops);
+    let last = tail(ops, first);
     let front = front(alloc, segments, end, first)?;
-    let (a, b) = (old.len() - last, ops.len() - last);
+    let (a, b) = (ops.base_len() - last, ops.len() - last);
     let (segments, end) = converge(alloc, segments, end, front, ops, a, b, meter)?;
     Ok((segments, end))
 }

@@ -108,29 +108,23 @@ impl Run {
         ensures never_less { meter.old ≤ meter.new }
     {
         try_size(batch.len())?;
-        let old = ops_in(alloc, &self.segments)?;
-        let listed = ops_in(alloc, &self.segments)?;
-        let ops = edited(alloc, listed, batch.as_slice())?;
-        Ok(self.beside(alloc, &old, &ops, meter)?)
+        let original = ops_in(alloc, &self.segments)?;
+        let listed = Listing::of(alloc, original)?;
+        let ops = edited(listed, batch.as_slice())?;
+        Ok(self.beside(alloc, &ops, meter)?)
     }
 
     // The run of a trace that replaces this run's.
-    fn beside(
-        &self,
-        alloc: Global,
-        old: &Listing,
-        ops: &Listing,
-        meter: &mut Meter,
-    ) -> Result<Run, AllocError>
-        requires old { old.now ≡ self.now.trace }
-        requires trace { IsTrace ops.now }
-        ensures trace { IfOk result (λ r. r.trace ≡ ops.now) }
+    fn beside(&self, alloc: Global, ops: &Listing, meter: &mut Meter) -> Result<Run, AllocError>
+        requires base { ops.now.base ≡ self.now.trace }
+        requires trace { IsTrace ops.now.ops }
+        ensures trace { IfOk result (λ r. r.trace ≡ ops.now.ops) }
         ensures marks { IfOk result (λ r. AreMarksAfter self.now r) }
-        ensures bound { StepsAtMostFrom self.now.trace ops.now self.now.marks meter.old meter.new }
-        ensures stepped { IfOk result (λ _. AreSteppedFrom self.now.trace ops.now self.now.marks meter.old meter.new) }
+        ensures bound { StepsAtMostFrom self.now.trace ops.now.ops self.now.marks meter.old meter.new }
+        ensures stepped { IfOk result (λ _. AreSteppedFrom self.now.trace ops.now.ops self.now.marks meter.old meter.new) }
         ensures never_less { meter.old ≤ meter.new }
     {
-        let (segments, end) = resumed(alloc, &self.segments, &self.end, old, ops, meter)?;
+        let (segments, end) = resumed(alloc, &self.segments, &self.end, ops, meter)?;
         Ok(Run { segments, end })
     }
 
@@ -183,7 +177,8 @@ impl Run {
     pub fn trace(&self, alloc: Global) -> Result<Trace, AllocError>
         ensures { IfOk result (λ t. t ≡ self.now.trace) }
     {
-        let ops = ops_in(alloc, &self.segments)?;
+        let original = ops_in(alloc, &self.segments)?;
+        let ops = Listing::of(alloc, original)?;
         copied(alloc, &ops)
     }
 

@@ -2,6 +2,7 @@
 ghost use Rattle.std.specs.Prelude.{◌≡◌, ◌++◌, length, IfOk, OnOk, None, is_some};
 ghost use Rattle.std.specs.Option.{option_copied};
 
+use crate::part::{Bounds, Part, bounds_of};
 use object_heap::heap::Heap;
 use std::alloc::{AllocError, Global};
 use std::marker::Model;
@@ -15,6 +16,7 @@ use trace_types::stretches::Stretch;
 struct Replayed {
     ops: Vec<Op>,
     outcomes: Sequence<Outcome>,
+    bounds: Bounds,
 }
 
 /// Operations with their outcomes, which the versions of a run share, and the heap where they begin, if that is kept.
@@ -32,7 +34,11 @@ impl Model for Segment {
 
     ghost coded = { segment_code };
 
+    ghost use Rattle.run_engine.specs.Parts.{AreBetween};
+
     ghost view = { λ s. record { mark = s.mark; ops = (arc_value s.body).ops.items; outcomes = (arc_value s.body).outcomes } };
+
+    ghost invariant = { λ s. AreBetween (arc_value s.body).bounds.least (arc_value s.body).bounds.greatest (arc_value s.body).ops.items };
 }
 
 impl Segment {
@@ -44,9 +50,15 @@ impl Segment {
     ) -> Result<Self, AllocError>
         ensures { IfOk result (λ s. s ≡ record { mark = mark; ops = ops.items; outcomes = outcomes }) }
     {
+        let bounds = bounds_of(&ops);
+        let replayed = Replayed {
+            ops,
+            outcomes,
+            bounds,
+        };
         Ok(Segment {
             mark,
-            body: Arc::new(alloc, Replayed { ops, outcomes })?,
+            body: Arc::new(alloc, replayed)?,
         })
     }
 
@@ -68,6 +80,13 @@ impl Segment {
         ensures { result.now ≡ self.now.ops }
     {
         self.body.ops.as_slice()
+    }
+
+    /// The operations, with the bounds of their numbers.
+    pub fn part(&self) -> Part<'_>
+        ensures { result ≡ self.now.ops }
+    {
+        Part::new(self.body.ops.as_slice(), self.body.bounds)
     }
 
     pub fn outcomes(&self) -> &[Outcome]

@@ -7,15 +7,17 @@ ghost use Rattle.run_engine.specs.Segments.{trace_of, marks_from, all_marks, Beg
 ghost use Rattle.run_engine.specs.NewMarks.{AreNeighbours};
 ghost use Rattle.run_engine.specs.Steps.{IsOldStretch};
 
+use crate::contents::len_in;
 use crate::listing::Listing;
 use crate::piece::Piece;
+use crate::seek::segment_at;
 use crate::segment::{Segment, share_segments};
 use object_heap::heap::Heap;
 use std::alloc::{AllocError, Global};
-use trace_types::ops::Op;
+use trace_types::limits::MAX_OPS;
 
-/// An old stretch between neighbouring checkpoints that begins with this heap and has the operations from `at` on, if it
-/// doesn't go past `to`.
+/// The old stretch between neighbouring checkpoints that the operations from `at` on come from, if it begins with this heap,
+/// they are all of it, and it doesn't go past `to`.
 pub fn old_stretch(
     alloc: Global,
     old: &[Segment],
@@ -26,24 +28,34 @@ pub fn old_stretch(
     to: usize,
 ) -> Result<Option<Piece>, AllocError>
     requires some { at < to }
-    requires within { to ≤ length ops.now }
+    requires within { to ≤ length ops.now.ops }
+    requires base { ops.now.base ≡ trace_of old.now }
+    requires few { length (trace_of old.now) ≤ MAX_OPS }
     requires run { IsRun old.now end.now }
     ensures gap { IfOk result (λ o. IfSome o (λ p. AreNeighbours (all_marks old.now) p.len)) }
-    ensures stretch { IfOk result (λ o. IfSome o (λ p. IsOldStretch (trace_of old.now) (all_marks old.now) heap.now (slice_range ops.now at to) p.len)) }
-    ensures piece { IfOk result (λ o. IfSome o (λ p. IsPiece heap.now (slice_range ops.now at to) p.segments.items p.end p.len)) }
+    ensures stretch { IfOk result (λ o. IfSome o (λ p. IsOldStretch (trace_of old.now) (all_marks old.now) heap.now (slice_range ops.now.ops at to) p.len)) }
+    ensures piece { IfOk result (λ o. IfSome o (λ p. IsPiece heap.now (slice_range ops.now.ops at to) p.segments.items p.end p.len)) }
 {
-    let Some(i) = segment_of(old, ops.at(at).id()) else {
+    let Some(alike) = ops.alike(at) else {
         return Ok(None);
     };
-    let bare = unmarked(&old[i + 1..]);
-    let j = i + 1 + bare;
-    let stretch = &old[i..j];
-    let Some(len) = begins_with(ops, at, to, stretch) else {
+    let before = at - alike.at;
+    let Some(i) = segment_at(old, alike.from + before) else {
         return Ok(None);
     };
     let Some(mark) = old[i].mark() else {
         return Ok(None);
     };
+    let bare = unmarked(&old[i + 1..]);
+    let j = i + 1 + bare;
+    let stretch = &old[i..j];
+    let len = len_in(stretch);
+    if len > alike.len - before {
+        return Ok(None);
+    }
+    if len > to - at {
+        return Ok(None);
+    }
     if !mark.same(heap) {
         return Ok(None);
     }
@@ -58,19 +70,6 @@ pub fn old_stretch(
     }))
 }
 
-// A segment with a checkpoint that begins with the operation `id`.
-fn segment_of(segments: &[Segment], id: u32) -> Option<usize>
-    ensures { IfSome result (λ i. i < length segments.now) }
-{
-    for (i, segment) in segments.iter().enumerate() {
-        let ops = segment.ops();
-        if segment.is_marked() && !ops.is_empty() && ops[0].id() == id {
-            return Some(i);
-        }
-    }
-    None
-}
-
 // How many segments in front have no checkpoint.
 fn unmarked(segments: &[Segment]) -> usize
     ensures within { result ≤ length segments.now }
@@ -82,42 +81,6 @@ fn unmarked(segments: &[Segment]) -> usize
         }
     }
     segments.len()
-}
-
-// How many operations the segments have, where those from `at` to `to` begin with them.
-fn begins_with(ops: &Listing, at: usize, to: usize, segments: &[Segment]) -> Option<usize>
-    requires order { at ≤ to }
-    requires within { to ≤ length ops.now }
-    ensures { IfSome result (λ n. (n ≤ length (slice_range ops.now at to)) × (trace_of segments.now ≡ take n (slice_range ops.now at to))) }
-{
-    let mut len = 0;
-    for segment in segments {
-        let own = segment.ops();
-        if own.len() > to - at - len {
-            return None;
-        }
-        if !are_at(own, ops, at + len) {
-            return None;
-        }
-        len += own.len();
-    }
-    Some(len)
-}
-
-// Whether the operations stand at a place of the listing.
-fn are_at(own: &[Op], ops: &Listing, at: usize) -> bool
-    requires { at ≤ length ops.now }
-    ensures { IsTrue result → own.now ≡ take (length own.now) (drop at ops.now) }
-{
-    if own.len() > ops.len() - at {
-        return false;
-    }
-    for (i, op) in own.iter().enumerate() {
-        if !op.same(ops.at(at + i)) {
-            return false;
-        }
-    }
-    true
 }
 
 // The heap where the segment at j begins, or the end, if it is kept.

@@ -29,7 +29,7 @@ advance-requires-clause-within c =
 
 pub overflow_add-at : goal.overflow_add-at
 overflow_add-at c =
-    let le : c.loop-i.at - c.args.a + c.args.b ≤ length c.args.ops.now = moved-within _ _ c.args.a c.args.b c.loop-i.at c.requires.shared (place-within c.args.old.now c.loop-i.i c.loop-i.at c.loop-i.invariant.beside.place) c.if-at-a.true in
+    let le : c.loop-i.at - c.args.a + c.args.b ≤ length c.args.ops.now.ops = moved-within _ _ c.args.a c.args.b c.loop-i.at c.requires.shared (place-within c.args.old.now c.loop-i.i c.loop-i.at c.loop-i.invariant.beside.place) c.if-at-a.true in
     omega (arith, c.requires.few)
 
 pub overflow_add-at-in-loop-i : goal.overflow_add-at-in-loop-i
@@ -62,27 +62,27 @@ returns-then-same-clause-bound c =
 place-end : (old : List SegmentView) (i at : ℕ) → length old ≤ i → i ≤ length old → length (trace_of (take i old)) ≡ at → at ≡ length (trace_of old)
 place-end old i at ge le e = let n : i ≡ length old = omega arith in sym e ∙ ap (λ j. length (trace_of (take j old))) n ∙ ap (λ ss. length (trace_of ss)) (take-length old)
 
-spliced-raw : (c : goal.In_ok-share) → IsSpliced c.args.ops.now (c.in_ok-front.front.segments.items ++ drop c.loop-i.i c.args.old.now) c.args.end.now
+spliced-raw : (c : goal.In_ok-share) → IsSpliced c.args.ops.now.ops (c.in_ok-front.front.segments.items ++ drop c.loop-i.i c.args.old.now) c.args.end.now
 spliced-raw c =
     let old = c.args.old.now in
     let m : c.in-Some.mark.now ≡ end_from nothing_held (trace_of (take c.loop-i.i c.args.old.now)) = mark-is c.args.old.now c.loop-i.i c.index-old-i.result c.in-Some.mark.now c.requires.run.replay c.loop-i-test.true c.index-old-i.is c.in-Some.ensures in
     let heap : c.in_ok-front.front.heap ≡ c.in-Some.mark.now = c.in_ok-same.ensures.0 c.if-same.true in
     let there : c.in_ok-front.front.at ≡ c.loop-i.at - c.args.a + c.args.b = c.in_ok-front.ensures.there in
-    let front : IsReached c.args.ops.now (c.loop-i.at - c.args.a + c.args.b) c.in_ok-front.front.segments.items c.in_ok-front.front.heap =
-    subst (λ x. IsReached c.args.ops.now x c.in_ok-front.front.segments.items c.in_ok-front.front.heap) there c.in_ok-front.ensures.front in
-    IsSpliced-stop c.args.old.now c.args.end.now c.args.ops.now c.args.a c.args.b c.loop-i.i c.loop-i.at c.index-old-i.result c.in_ok-front.front.segments.items c.in_ok-front.front.heap
+    let front : IsReached c.args.ops.now.ops (c.loop-i.at - c.args.a + c.args.b) c.in_ok-front.front.segments.items c.in_ok-front.front.heap =
+    subst (λ x. IsReached c.args.ops.now.ops x c.in_ok-front.front.segments.items c.in_ok-front.front.heap) there c.in_ok-front.ensures.front in
+    IsSpliced-stop c.args.old.now c.args.end.now c.args.ops.now.ops c.args.a c.args.b c.loop-i.i c.loop-i.at c.index-old-i.result c.in_ok-front.front.segments.items c.in_ok-front.front.heap
     c.requires.run c.requires.shared c.loop-i-test.true c.index-old-i.is (ap is_some (sym c.in-Some.ensures)) c.loop-i.invariant.beside.place c.if-at-a.true front (heap ∙ m)
 
 -- the states agree where the replay stops
-agreed : (c : goal.In_ok-share) → AgreesAt (trace_of c.args.old.now) c.args.ops.now c.args.a c.args.b c.loop-i.at
+agreed : (c : goal.In_ok-share) → AgreesAt (trace_of c.args.old.now) c.args.ops.now.ops c.args.a c.args.b c.loop-i.at
 agreed c =
     let m : c.in-Some.mark.now ≡ end_from nothing_held (trace_of (take c.loop-i.i c.args.old.now)) = mark-is c.args.old.now c.loop-i.i c.index-old-i.result c.in-Some.mark.now c.requires.run.replay c.loop-i-test.true c.index-old-i.is c.in-Some.ensures in
     let heap : c.in_ok-front.front.heap ≡ c.in-Some.mark.now = c.in_ok-same.ensures.0 c.if-same.true in
     let there : c.in_ok-front.front.at ≡ c.loop-i.at - c.args.a + c.args.b = c.in_ok-front.ensures.there in
     let front = c.in_ok-front.ensures.front in
-    ap (end_from nothing_held) (sym (trace_of-front c.args.old.now c.loop-i.i c.loop-i.at c.loop-i.invariant.beside.place)) ∙ sym (heap ∙ m) ∙ front.state ∙ ap (λ x. end_from nothing_held (take x c.args.ops.now)) there
+    ap (end_from nothing_held) (sym (trace_of-front c.args.old.now c.loop-i.i c.loop-i.at c.loop-i.invariant.beside.place)) ∙ sym (heap ∙ m) ∙ front.state ∙ ap (λ x. end_from nothing_held (take x c.args.ops.now.ops)) there
 
-spliced : (c : goal.In_ok-share) → IsSpliced c.args.ops.now c.in_ok-segments.segments.items c.in_ok-share.field-0
+spliced : (c : goal.In_ok-share) → IsSpliced c.args.ops.now.ops c.in_ok-segments.segments.items c.in_ok-share.field-0
 spliced c = rw (c.in_ok-segments.ensures, take-rest c.loop-i.i c.args.old.now, c.in_ok-share.ensures) (spliced-raw c)
 
 pub returns-then-same-clause-marks : goal.returns-then-same-clause-marks
@@ -91,38 +91,38 @@ returns-then-same-clause-marks c =
     let laid : AreLaid (all_marks c.args.old.now) (marks_from 0 c.args.front.segments.items) c.args.front.at (c.loop-i.at - c.args.a + c.args.b) (marks_from 0 c.in_ok-front.front.segments.items) =
     subst (λ x. AreLaid (all_marks c.args.old.now) (marks_from 0 c.args.front.segments.items) c.args.front.at x (marks_from 0 c.in_ok-front.front.segments.items)) there (c.in_ok-front.ensures.marks _ _ c.loop-i.invariant.laid) in
     rw (c.in_ok-segments.ensures, take-rest c.loop-i.i c.args.old.now)
-    (AreMarksOf-stop c.args.old.now c.in_ok-front.front.segments.items c.args.ops.now (marks_from 0 c.args.front.segments.items) c.args.a c.args.b c.loop-i.i c.loop-i.at c.args.front.at c.index-old-i.result
+    (AreMarksOf-stop c.args.old.now c.in_ok-front.front.segments.items c.args.ops.now.ops (marks_from 0 c.args.front.segments.items) c.args.a c.args.b c.loop-i.i c.loop-i.at c.args.front.at c.index-old-i.result
     c.requires.run.full c.requires.shared c.loop-i-test.true c.index-old-i.is c.in-Some.mark.now (sym c.in-Some.ensures) c.loop-i.invariant.beside.place c.if-at-a.true
     (agreed c) (least-agreeing _ _ _ _ _ _ _ _ _ _ _ _ c.loop-i.invariant.beside)
     (IsReached-length _ _ _ _ c.in_ok-front.ensures.front ∙ there) ((spliced-raw c).trace) laid)
 
 pub returns-clause-marks : goal.returns-clause-marks
 returns-clause-marks c =
-    let there : c.in_ok-front-2.front.at ≡ length c.args.ops.now = c.in_ok-front-2.ensures.there ∙ c.len.ensures in
-    let laid : AreLaid (all_marks c.args.old.now) (marks_from 0 c.args.front.segments.items) c.args.front.at (length c.args.ops.now) (marks_from 0 c.in_ok-front-2.front.segments.items) =
+    let there : c.in_ok-front-2.front.at ≡ length c.args.ops.now.ops = c.in_ok-front-2.ensures.there ∙ c.len.ensures in
+    let laid : AreLaid (all_marks c.args.old.now) (marks_from 0 c.args.front.segments.items) c.args.front.at (length c.args.ops.now.ops) (marks_from 0 c.in_ok-front-2.front.segments.items) =
     subst (λ x. AreLaid (all_marks c.args.old.now) (marks_from 0 c.args.front.segments.items) c.args.front.at x (marks_from 0 c.in_ok-front-2.front.segments.items)) there (c.in_ok-front-2.ensures.marks _ _ c.loop-i.invariant.laid) in
-    AreMarksOf-end c.args.old.now c.in_ok-front-2.front.segments.items c.args.ops.now (marks_from 0 c.args.front.segments.items) c.args.a c.args.b c.args.front.at c.requires.shared
+    AreMarksOf-end c.args.old.now c.in_ok-front-2.front.segments.items c.args.ops.now.ops (marks_from 0 c.args.front.segments.items) c.args.a c.args.b c.args.front.at c.requires.shared
     (λ p mark behind agrees.
     let e = place-end c.args.old.now c.loop-i.i c.loop-i.at c.loop-i-test.false c.loop-i.auto.i-end c.loop-i.invariant.beside.place in
     let least : c.loop-i.at ≤ p = least-agreeing _ _ _ _ _ _ _ _ _ _ _ _ c.loop-i.invariant.beside p mark behind agrees in
     omega arith)
-    ((IsSpliced-end c.args.ops.now c.in_ok-front-2.front.at c.in_ok-front-2.front.segments.items c.in_ok-front-2.front.heap c.in_ok-front-2.ensures.front there).trace) laid
+    ((IsSpliced-end c.args.ops.now.ops c.in_ok-front-2.front.at c.in_ok-front-2.front.segments.items c.in_ok-front-2.front.heap c.in_ok-front-2.ensures.front there).trace) laid
 
 pub returns-then-same-clause-stepped : goal.returns-then-same-clause-stepped
 returns-then-same-clause-stepped c =
-    AreStepped-stop (trace_of c.args.old.now) c.args.ops.now (all_marks c.args.old.now) c.args.a c.args.b c.args.front.at c.in_ok-front.front.at c.loop-i.at c.args.meter.now _ c.in_ok-front.ensures.there
+    AreStepped-stop (trace_of c.args.old.now) c.args.ops.now.ops (all_marks c.args.old.now) c.args.a c.args.b c.args.front.at c.in_ok-front.front.at c.loop-i.at c.args.meter.now _ c.in_ok-front.ensures.there
     (mark-there c.args.old.now c.loop-i.i c.loop-i.at c.index-old-i.result c.in-Some.mark.now c.loop-i-test.true c.index-old-i.is (sym c.in-Some.ensures) c.loop-i.invariant.beside.place)
     c.if-at-a.true (agreed c) (c.in_ok-front.ensures.stepped _ _ c.loop-i.invariant.stepped)
 
 pub returns-clause-stepped : goal.returns-clause-stepped
 returns-clause-stepped c =
-    AreStepped-end (trace_of c.args.old.now) c.args.ops.now (all_marks c.args.old.now) c.args.a c.args.b c.args.front.at c.in_ok-front-2.front.at c.args.meter.now _ (c.in_ok-front-2.ensures.there ∙ c.len.ensures)
+    AreStepped-end (trace_of c.args.old.now) c.args.ops.now.ops (all_marks c.args.old.now) c.args.a c.args.b c.args.front.at c.in_ok-front-2.front.at c.args.meter.now _ (c.in_ok-front-2.ensures.there ∙ c.len.ensures)
     (c.in_ok-front-2.ensures.stepped _ _ c.loop-i.invariant.stepped)
 
 pub loop-i-init : goal.loop-i-init
 loop-i-init c = record {
-  beside = IsBeside-none c.args.old.now c.args.ops.now c.args.a c.args.b c.args.front.at c.args.meter.now c.args.front.segments.items c.args.front.heap c.requires.front c.requires.order;
-  stepped = HaveStepped-none (trace_of c.args.old.now) c.args.ops.now (all_marks c.args.old.now) c.args.front.at c.args.meter.now;
+  beside = IsBeside-none c.args.old.now c.args.ops.now.ops c.args.a c.args.b c.args.front.at c.args.meter.now c.args.front.segments.items c.args.front.heap c.requires.front c.requires.order;
+  stepped = HaveStepped-none (trace_of c.args.old.now) c.args.ops.now.ops (all_marks c.args.old.now) c.args.front.at c.args.meter.now;
   never_less = omega arith;
   laid = AreLaid-none (all_marks c.args.old.now) (marks_from 0 c.args.front.segments.items) c.args.front.at;
 }
@@ -137,14 +137,14 @@ pub returns-in_err-front-2-clause-bound : goal.returns-in_err-front-2-clause-bou
 returns-in_err-front-2-clause-bound c =
     let e = place-end c.args.old.now c.loop-i.i c.loop-i.at c.loop-i-test.false c.loop-i.auto.i-end c.loop-i.invariant.beside.place in
     let shared = c.requires.shared in
-    let long = ShareEnd-length (trace_of c.args.old.now) c.args.ops.now c.args.a c.args.b shared in
+    let long = ShareEnd-length (trace_of c.args.old.now) c.args.ops.now.ops c.args.a c.args.b shared in
     bounded _ _ _ _ _ _ _ _ _ _ _ _ _ c.loop-i.invariant.beside shared (omega (arith, shared.old_within)) (omega (arith, long, shared.old_within, shared.within, c.loop-i.invariant.beside.rise, c.advance-2.ensures.rise))
 
 pub returns-clause-bound : goal.returns-clause-bound
 returns-clause-bound c =
     let e = place-end c.args.old.now c.loop-i.i c.loop-i.at c.loop-i-test.false c.loop-i.auto.i-end c.loop-i.invariant.beside.place in
     let shared = c.requires.shared in
-    let long = ShareEnd-length (trace_of c.args.old.now) c.args.ops.now c.args.a c.args.b shared in
+    let long = ShareEnd-length (trace_of c.args.old.now) c.args.ops.now.ops c.args.a c.args.b shared in
     bounded _ _ _ _ _ _ _ _ _ _ _ _ _ c.loop-i.invariant.beside shared (omega (arith, shared.old_within)) (omega (arith, long, shared.old_within, shared.within, c.loop-i.invariant.beside.rise, c.advance-2.ensures.rise))
 
 pub loop-i-preserved : goal.loop-i-preserved
@@ -158,10 +158,10 @@ loop-i-preserved c =
           let rise = w.advance.ensures.rise in
           rw (w.front-is, w.meter-is, c.ops.ensures)
           (record {
-            beside = IsBeside-next c.args.old.now c.args.ops.now c.args.a c.args.b c.args.front.at c.args.meter.now c.loop-i.i c.loop-i.at c.loop-i.front.at c.loop-i.front.segments.items c.loop-i.front.heap c.loop-i.meter
+            beside = IsBeside-next c.args.old.now c.args.ops.now.ops c.args.a c.args.b c.args.front.at c.args.meter.now c.loop-i.i c.loop-i.at c.loop-i.front.at c.loop-i.front.segments.items c.loop-i.front.heap c.loop-i.meter
                 w.in_ok-front.front.at w.in_ok-front.front.segments.items w.in_ok-front.front.heap w.advance.new.meter c.index-old-i.result c.loop-i.invariant.beside c.loop-i-test.true c.index-old-i.is front (omega arith) (omega (arith, c.loop-i.invariant.beside.rise, rise))
                 (λ marked behind agrees.
-                let same : w.in_ok-front.front.heap ≡ w.in-Some.mark.now = front.state ∙ ap (λ x. end_from nothing_held (take x c.args.ops.now)) there ∙ sym agrees ∙ ap (end_from nothing_held) (sym (trace_of-front c.args.old.now c.loop-i.i c.loop-i.at c.loop-i.invariant.beside.place)) ∙ sym m in
+                let same : w.in_ok-front.front.heap ≡ w.in-Some.mark.now = front.state ∙ ap (λ x. end_from nothing_held (take x c.args.ops.now.ops)) there ∙ sym agrees ∙ ap (end_from nothing_held) (sym (trace_of-front c.args.old.now c.loop-i.i c.loop-i.at c.loop-i.invariant.beside.place)) ∙ sym m in
                 let t : w.in_ok-same.same ≡ true = w.in_ok-same.ensures.1 same in
                 let f : w.in_ok-same.same ≡ false = w.if-same.false in
                 cc);
@@ -172,7 +172,7 @@ loop-i-preserved c =
       | then-at-a+in_default w ↦
           rw (w.front-is, w.meter-is, c.ops.ensures)
           (record {
-            beside = IsBeside-next c.args.old.now c.args.ops.now c.args.a c.args.b c.args.front.at c.args.meter.now c.loop-i.i c.loop-i.at c.loop-i.front.at c.loop-i.front.segments.items c.loop-i.front.heap c.loop-i.meter
+            beside = IsBeside-next c.args.old.now c.args.ops.now.ops c.args.a c.args.b c.args.front.at c.args.meter.now c.loop-i.i c.loop-i.at c.loop-i.front.at c.loop-i.front.segments.items c.loop-i.front.heap c.loop-i.meter
                 c.loop-i.front.at c.loop-i.front.segments.items c.loop-i.front.heap c.loop-i.meter c.index-old-i.result c.loop-i.invariant.beside c.loop-i-test.true c.index-old-i.is c.loop-i.invariant.beside.front c.loop-i.invariant.beside.order c.loop-i.invariant.beside.rise
                 (λ marked behind agrees. let f : is_some c.index-old-i.result.mark ≡ false = ap is_some (sym w.in_default.ensures) in cc);
             stepped = c.loop-i.invariant.stepped;
@@ -182,7 +182,7 @@ loop-i-preserved c =
       | else-at-a w ↦
           rw (w.front-is, w.meter-is, c.ops.ensures)
           (record {
-            beside = IsBeside-next c.args.old.now c.args.ops.now c.args.a c.args.b c.args.front.at c.args.meter.now c.loop-i.i c.loop-i.at c.loop-i.front.at c.loop-i.front.segments.items c.loop-i.front.heap c.loop-i.meter
+            beside = IsBeside-next c.args.old.now c.args.ops.now.ops c.args.a c.args.b c.args.front.at c.args.meter.now c.loop-i.i c.loop-i.at c.loop-i.front.at c.loop-i.front.segments.items c.loop-i.front.heap c.loop-i.meter
                 c.loop-i.front.at c.loop-i.front.segments.items c.loop-i.front.heap c.loop-i.meter c.index-old-i.result c.loop-i.invariant.beside c.loop-i-test.true c.index-old-i.is c.loop-i.invariant.beside.front c.loop-i.invariant.beside.order c.loop-i.invariant.beside.rise
                 (λ marked behind agrees. let lt : c.loop-i.at < c.args.a = w.if-at-a.false in omega arith);
             stepped = c.loop-i.invariant.stepped;

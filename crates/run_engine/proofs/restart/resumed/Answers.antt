@@ -11,50 +11,50 @@ use Rattle.run_engine.proofs.restart.resumed.Goals as goal
 
 pub converge-requires-clause-front : goal.converge-requires-clause-front
 converge-requires-clause-front c =
-    IsReached-restart c.args.segments.now c.in_ok-front.front.segments.items c.args.end.now c.in_ok-front.front.heap c.args.ops.now c.head-first.result _ c.in_ok-front.front.at
-    c.requires.run c.in_ok-front.ensures.kept c.in_ok-front.ensures.segments (subst (λ t. take c.head-first.result t ≡ take c.head-first.result c.args.ops.now) c.requires.old c.head-first.ensures.same) c.head-first.ensures.within
+    IsReached-restart c.args.segments.now c.in_ok-front.front.segments.items c.args.end.now c.in_ok-front.front.heap c.args.ops.now.ops c.head-first.result _ c.in_ok-front.front.at
+    c.requires.run c.in_ok-front.ensures.kept c.in_ok-front.ensures.segments (subst (λ t. take c.head-first.result t ≡ take c.head-first.result c.args.ops.now.ops) c.requires.base c.head-first.ensures.same) c.head-first.ensures.within
 
 pub converge-requires-clause-new : goal.converge-requires-clause-new
-converge-requires-clause-new c = soundness.are_new c.args.ops.now c.requires.trace.distinct
+converge-requires-clause-new c = soundness.are_new c.args.ops.now.ops c.requires.trace.distinct
 
 pub converge-requires-clause-shared : goal.converge-requires-clause-shared
 converge-requires-clause-shared c =
-    rw (c.len.ensures, c.len-2.ensures, ← c.requires.old) (ShareEnd-tail c.args.old.now c.args.ops.now c.head-first.result c.tail-last.result c.tail-last.ensures)
+    rw (c.base_len.ensures, c.len.ensures, ← c.requires.base) (ShareEnd-tail c.args.ops.now.base c.args.ops.now.ops c.head-first.result c.tail-last.result c.tail-last.ensures)
 
 pub returns-in_err-front-clause-bound : goal.returns-in_err-front-clause-bound
-returns-in_err-front-clause-bound c = bounded-none c.args.old.now c.args.ops.now _ _
+returns-in_err-front-clause-bound c = bounded-none c.args.ops.now.base c.args.ops.now.ops _ _
 
 pub returns-in_err-segments-clause-bound : goal.returns-in_err-segments-clause-bound
 returns-in_err-segments-clause-bound c =
-    from-greatest (λ t r. StepsAtMost c.args.old.now c.args.ops.now (length c.args.old.now - t) (length c.args.ops.now - t) (all_marks c.args.segments.now) r c.args.meter.now c.converge.new.meter)
-    c.args.old.now c.args.ops.now (all_marks c.args.segments.now) c.head-first.result c.tail-last.result c.in_ok-front.front.at
+    from-greatest (λ t r. StepsAtMost c.args.ops.now.base c.args.ops.now.ops (length c.args.ops.now.base - t) (length c.args.ops.now.ops - t) (all_marks c.args.segments.now) r c.args.meter.now c.converge.new.meter)
+    c.args.ops.now.base c.args.ops.now.ops (all_marks c.args.segments.now) c.head-first.result c.tail-last.result c.in_ok-front.front.at
     (record { head_is = c.head-first.ensures; tail_is = c.tail-last.ensures })
     c.in_ok-front.ensures.kept.greatest
-    (subst (λ t. StepsAtMost t c.args.ops.now (length t - c.tail-last.result) (length c.args.ops.now - c.tail-last.result) (all_marks c.args.segments.now) c.in_ok-front.front.at c.args.meter.now c.converge.new.meter) (sym c.requires.old)
-    (rw (c.len.ensures, c.len-2.ensures, c.requires.old) at c.converge.ensures.bound))
+    (subst (λ t. StepsAtMost t c.args.ops.now.ops (length t - c.tail-last.result) (length c.args.ops.now.ops - c.tail-last.result) (all_marks c.args.segments.now) c.in_ok-front.front.at c.args.meter.now c.converge.new.meter) (sym c.requires.base)
+    (rw (c.base_len.ensures, c.len.ensures, c.requires.base) at c.converge.ensures.bound))
 
 pub returns-clause-bound : goal.returns-clause-bound
 returns-clause-bound c =
-    from-greatest (λ t r. StepsAtMost c.args.old.now c.args.ops.now (length c.args.old.now - t) (length c.args.ops.now - t) (all_marks c.args.segments.now) r c.args.meter.now c.converge.new.meter)
-    c.args.old.now c.args.ops.now (all_marks c.args.segments.now) c.head-first.result c.tail-last.result c.in_ok-front.front.at
+    from-greatest (λ t r. StepsAtMost c.args.ops.now.base c.args.ops.now.ops (length c.args.ops.now.base - t) (length c.args.ops.now.ops - t) (all_marks c.args.segments.now) r c.args.meter.now c.converge.new.meter)
+    c.args.ops.now.base c.args.ops.now.ops (all_marks c.args.segments.now) c.head-first.result c.tail-last.result c.in_ok-front.front.at
     (record { head_is = c.head-first.ensures; tail_is = c.tail-last.ensures })
     c.in_ok-front.ensures.kept.greatest
-    (subst (λ t. StepsAtMost t c.args.ops.now (length t - c.tail-last.result) (length c.args.ops.now - c.tail-last.result) (all_marks c.args.segments.now) c.in_ok-front.front.at c.args.meter.now c.converge.new.meter) (sym c.requires.old)
-    (rw (c.len.ensures, c.len-2.ensures, c.requires.old) at c.converge.ensures.bound))
+    (subst (λ t. StepsAtMost t c.args.ops.now.ops (length t - c.tail-last.result) (length c.args.ops.now.ops - c.tail-last.result) (all_marks c.args.segments.now) c.in_ok-front.front.at c.args.meter.now c.converge.new.meter) (sym c.requires.base)
+    (rw (c.base_len.ensures, c.len.ensures, c.requires.base) at c.converge.ensures.bound))
 
 pub returns-clause-stepped : goal.returns-clause-stepped
 returns-clause-stepped c =
-    from-greatest (λ t r. AreStepped c.args.old.now c.args.ops.now (length c.args.old.now - t) (length c.args.ops.now - t) (all_marks c.args.segments.now) r c.args.meter.now c.converge.new.meter)
-    c.args.old.now c.args.ops.now (all_marks c.args.segments.now) c.head-first.result c.tail-last.result c.in_ok-front.front.at
+    from-greatest (λ t r. AreStepped c.args.ops.now.base c.args.ops.now.ops (length c.args.ops.now.base - t) (length c.args.ops.now.ops - t) (all_marks c.args.segments.now) r c.args.meter.now c.converge.new.meter)
+    c.args.ops.now.base c.args.ops.now.ops (all_marks c.args.segments.now) c.head-first.result c.tail-last.result c.in_ok-front.front.at
     (record { head_is = c.head-first.ensures; tail_is = c.tail-last.ensures })
     c.in_ok-front.ensures.kept.greatest
-    (subst (λ t. AreStepped t c.args.ops.now (length t - c.tail-last.result) (length c.args.ops.now - c.tail-last.result) (all_marks c.args.segments.now) c.in_ok-front.front.at c.args.meter.now c.converge.new.meter) (sym c.requires.old)
-    (rw (c.len.ensures, c.len-2.ensures, c.requires.old) at c.in_ok-segments.ensures.stepped))
+    (subst (λ t. AreStepped t c.args.ops.now.ops (length t - c.tail-last.result) (length c.args.ops.now.ops - c.tail-last.result) (all_marks c.args.segments.now) c.in_ok-front.front.at c.args.meter.now c.converge.new.meter) (sym c.requires.base)
+    (rw (c.base_len.ensures, c.len.ensures, c.requires.base) at c.in_ok-segments.ensures.stepped))
 
 pub returns-clause-marks : goal.returns-clause-marks
 returns-clause-marks c =
-    rw c.requires.old
-    (AreMarksAfter-restart c.args.segments.now c.in_ok-front.front.segments.items c.args.end.now c.in_ok-front.front.heap c.args.ops.now (all_marks c.in_ok-segments.segments.items) c.head-first.result c.tail-last.result _ c.in_ok-front.front.at
+    rw c.requires.base
+    (AreMarksAfter-restart c.args.segments.now c.in_ok-front.front.segments.items c.args.end.now c.in_ok-front.front.heap c.args.ops.now.ops (all_marks c.in_ok-segments.segments.items) c.head-first.result c.tail-last.result _ c.in_ok-front.front.at
     c.requires.run c.in_ok-front.ensures.kept c.in_ok-front.ensures.segments
-    (subst (λ t. AreShared t c.args.ops.now c.head-first.result c.tail-last.result) c.requires.old (record { head_is = c.head-first.ensures; tail_is = c.tail-last.ensures }))
-    (rw (c.len.ensures, c.len-2.ensures, c.requires.old) at c.in_ok-segments.ensures.marks))
+    (subst (λ t. AreShared t c.args.ops.now.ops c.head-first.result c.tail-last.result) c.requires.base (record { head_is = c.head-first.ensures; tail_is = c.tail-last.ensures }))
+    (rw (c.base_len.ensures, c.len.ensures, c.requires.base) at c.in_ok-segments.ensures.marks))

@@ -1,11 +1,17 @@
-use Rattle.std.proofs.Common.{sym, arith, refl}
-use Rattle.run_engine.proofs.ListingLemmas.{slice_range-none, slice_range-more}
+use Rattle.std.proofs.Common.{◌≡◌, ◌++◌, take, ap, sym, ◌∙◌, arith, refl}
+use Rattle.std.specs.Prelude.{slice_range}
+use Rattle.run_engine.proofs.ListingLemmas.{slice_range-none, slice_range-further, next-ones}
 use Rattle.run_engine.proofs.listing.Listing.copies.Goals as goal
 
-pub loop-place-init : goal.loop-place-init
-loop-place-init c = rw c.in_ok-copies.ensures.items (sym (slice_range-none c.args.self.now c.args.from))
+pub loop-at-init : goal.loop-at-init
+loop-at-init c = record { from_there = omega arith; before_end = omega arith; copies = rw c.in_ok-copies.ensures.items (sym (slice_range-none c.args.self.now.ops c.args.from)) }
 
-pub loop-place-preserved : goal.loop-place-preserved
-loop-place-preserved c =
-    let more = slice_range-more c.args.self.now c.args.from c.loop-place.place c.at.result.now (omega arith) (omega arith) c.at.ensures in
-    rw (more, c.in_ok-push.ensures.items, c.in_ok-clone.ensures.cases, c.loop-place.invariant) refl
+pub loop-at-preserved : goal.loop-at-preserved
+loop-at-preserved c = record {
+  from_there = omega (arith, c.loop-at.invariant.from_there);
+  before_end = omega arith;
+  copies =
+      c.in_ok-push_copies.ensures ∙ ap (λ xs. xs ++ take c.min-few.result c.from-ops.result.now) c.loop-at.invariant.copies
+      ∙ ap (λ xs. slice_range c.args.self.now.ops c.args.from c.loop-at.at ++ xs) (next-ones c.args.self.now.ops c.from-ops.result.now c.loop-at.at c.min-few.result c.from-ops.ensures.ops (omega arith))
+      ∙ sym (slice_range-further c.args.self.now.ops c.args.from c.loop-at.at c.min-few.result c.loop-at.invariant.from_there);
+}
