@@ -9,3 +9,4 @@ pub mod EarlierLemmas
 pub mod EnterLemmas
 pub mod NeighbourLemmas
 pub mod LeaveLemmas
+pub mod ExchangeLemmas

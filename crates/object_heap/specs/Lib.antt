@@ -3,3 +3,4 @@ pub mod Counted
 pub mod Gains
 pub mod Drops
 pub mod Links
+pub mod Exchange

@@ -8,10 +8,15 @@ ghost use Rattle.ownership_model.specs.Changes.{changed, CanChange};
 ghost use Rattle.ownership_model.specs.Release.{release};
 ghost use Rattle.ownership_model.specs.Falling.{CascadesTo};
 ghost use Rattle.ownership_model.specs.Scopes.{scope_of};
+ghost use Rattle.ownership_model.specs.Agrees.{HaveSameRoots};
+ghost use Rattle.ownership_model.specs.Patch.{patched};
+ghost use Rattle.object_heap.specs.Exchange.{AreWithinLimits};
 ghost use Rattle.object_heap.specs.Links.{first_of, earlier_in};
 
 use crate::counters::counters_of;
 use crate::draft::Draft;
+use ownership_model::remaining::Remaining;
+use share_tree::ShareTree;
 use std::alloc::{AllocError, Global};
 use std::collections::VecDeque;
 use std::marker::Model;
@@ -138,9 +143,12 @@ impl Heap {
         self.draft.objects.keys(alloc)
     }
 
-    /// Whether both have the same roots: handles, cells and scopes.
+    /// Whether both have the same roots: handles, cells and scopes. By its clauses a caller knows that both are sound and within the
+    /// limits.
     pub fn same_roots(&self, other: &Heap) -> bool
-        ensures { IsTrue result ↔ ((self.now.handles ≡ other.now.handles) × (self.now.cells ≡ other.now.cells) × (self.now.scopes ≡ other.now.scopes)) }
+        ensures answer { IsTrue result ↔ HaveSameRoots self.now other.now }
+        ensures sound { IsSound self.now [] × IsSound other.now [] }
+        ensures bounded { IsBounded self.now × IsBounded other.now }
     {
         self.draft.handles.same(&other.draft.handles)
             && self.draft.cells.same(&other.draft.cells)
@@ -195,5 +203,23 @@ impl Heap {
         let mut events = Vec::new(alloc);
         draft.release(alloc, &mut list, &mut events)?;
         Ok((Heap { draft }, Sequence::from_vec(events)))
+    }
+    /// The heap without some objects and with others. The result is to be sound.
+    ///
+    /// The work is that of the objects that go and come, and of their fields: the rest isn't looked at. What this heap alone holds is
+    /// changed in place.
+    pub fn exchanged(
+        self,
+        alloc: Global,
+        removed: &ShareTree<Remaining>,
+        added: &ShareTree<Remaining>,
+    ) -> Result<Heap, AllocError>
+        requires fits { AreWithinLimits added.now }
+        requires sound { IsSound (patched self (record { removed = removed.now; added = added.now })) [] }
+        ensures { IfOk result (λ h. h ≡ patched self (record { removed = removed.now; added = added.now })) }
+    {
+        let Heap { mut draft } = self;
+        draft.exchange(alloc, removed, added)?;
+        Ok(Heap { draft })
     }
 }

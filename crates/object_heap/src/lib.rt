@@ -5,6 +5,7 @@ mod cascade;
 mod changes;
 mod counters;
 mod draft;
+mod exchange;
 pub mod heap;
 pub mod place;
 pub mod reach;

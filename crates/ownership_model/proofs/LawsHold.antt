@@ -1,15 +1,18 @@
 -- The laws, each as the contract of its function in `laws` or `reach_laws` has it. For the layers above: their proofs cite a law by
 -- its name here.
 use Rattle.std.proofs.Common.{arith}
-use Rattle.ownership_model.specs.Laws.{AgreementHolds, SoundnessHolds, ReleasesInTurn, CascadeHolds, BoundsHold, AppendsHold, ScopesHold}
+use Rattle.ownership_model.specs.Laws.{AgreementHolds, PatchesHold, SoundnessHolds, ReleasesInTurn, CascadeHolds, BoundsHold, AppendsHold, ScopesHold}
 use Rattle.ownership_model.specs.Before.{OldTracesReplayAsBefore}
-use Rattle.ownership_model.specs.ReachLaws.{ReachIsLeast, LeakedAreUnreached, HoldersHold}
+use Rattle.ownership_model.specs.ReachLaws.{ReachIsLeast, NamedAreReached, LeakedAreUnreached, HoldersHold}
 use Rattle.ownership_model.proofs.ReleaseLemmas.{release-nil, release-cons, work_drops}
 use Rattle.ownership_model.proofs.DropLemmas.{sound-drop_first, sound-release}
 use Rattle.ownership_model.proofs.CascadeLemmas.{course, freed_exactly}
 use Rattle.ownership_model.proofs.LeastLemmas.{kept_roots, kept_scopes, destroyed}
 use Rattle.ownership_model.proofs.CarryLemmas.{row_carriable, step_sound}
 use Rattle.ownership_model.proofs.JoinedLemmas as joined
+use Rattle.ownership_model.proofs.PatchLemmas.{get-patched}
+use Rattle.ownership_model.proofs.RemainsLemmas.{is_patched, patched_both, patched_less, still_there}
+use Rattle.ownership_model.proofs.LaterLemmas.{stops_later}
 use Rattle.ownership_model.proofs.ReplayLemmas.{appends_hold, nothing_sound, nothing_taken, distinct_new}
 use Rattle.ownership_model.proofs.FitLemmas.{bounds_hold}
 use Rattle.ownership_model.proofs.BeforeLemmas.{as_before}
@@ -17,9 +20,13 @@ use Rattle.ownership_model.proofs.ScopeLemmas.{changed_scoped}
 use Rattle.ownership_model.proofs.ScopeMaps.{own_entered, other_entered, each_left, same_scopes}
 use Rattle.ownership_model.proofs.LeakLemmas.{reach_holds, unreached}
 use Rattle.ownership_model.proofs.HoldingLemmas.{hold}
+use Rattle.ownership_model.proofs.RootLemmas.{named_reached}
 
 pub agreement : AgreementHolds
 agreement = joined.agreement_holds
+
+pub patches : PatchesHold
+patches = record { object = get-patched; only = is_patched; both = patched_both; less = patched_less; there = still_there; later = stops_later }
 
 pub soundness : SoundnessHolds
 soundness = record {
@@ -67,6 +74,9 @@ scopes = record {
 
 pub reach : ReachIsLeast
 reach = reach_holds
+
+pub named : NamedAreReached
+named = named_reached
 
 pub leaked : LeakedAreUnreached
 leaked = unreached

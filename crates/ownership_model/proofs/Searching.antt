@@ -1,5 +1,5 @@
 -- A search for what is reached: what holds at each step of it, and why it ends. For the layers above too: `object_heap::reach`
--- is such a search.
+-- is such a search, and `agreement` lists numbers.
 use Rattle.std.proofs.Common.{◌≡◌, ℕ, ◌+◌, ◌<◌, ◌≤◌, List, [], ◌∷◌, ◌++◌, length, length-append, refl, ap, ◌∙◌, sym, subst, arith, Bool, true, false, cond}
 use Rattle.std.specs.Prelude.{not, Option, Some, None, ◌==◌, ◌||◌, if◌then◌else◌, is_some}
 use Rattle.std.specs.List.{list_any}

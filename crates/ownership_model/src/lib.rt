@@ -9,7 +9,9 @@ pub mod plain;
 pub mod plan;
 pub mod questions;
 pub mod reach_laws;
+pub mod remaining;
 
 pub use leaks::{Holder, HuskLeft, Leak, Leaks};
 pub use link::Link;
 pub use plan::{Plan, Stop};
+pub use remaining::Remaining;

@@ -1,6 +1,8 @@
-//! Tests of the plain program, heaps, steps, leaks, reports, runs and the desk, through what those crates promise.
+//! Tests of the plain program, heaps, agreement, steps, leaks, reports, runs and the desk, through what those crates promise.
 #![tactic(auto)]
 
+#[cfg(test)]
+mod agreeing;
 #[cfg(test)]
 mod desk;
 #[cfg(test)]

@@ -1,0 +1,3 @@
+pub mod RemainsCode
+pub mod Agreement
+pub mod Gathering
