@@ -1,7 +1,7 @@
 //! What two heaps that agree have for themselves, and a later heap with it exchanged.
 ghost use Rattle.std.specs.Prelude.{◌≡◌, [], IfOk};
 ghost use Rattle.ownership_model.specs.State.{IsSound};
-ghost use Rattle.ownership_model.specs.Patch.{patched};
+ghost use Rattle.ownership_model.specs.Patch.{patched, AreThere};
 ghost use Rattle.object_heap.specs.Exchange.{AreWithinLimits};
 
 use object_heap::heap::Heap;
@@ -59,7 +59,8 @@ impl Remains {
 ///
 /// The work is that of the remains, and not of the heap: what stays is shared.
 pub fn patch(alloc: Global, later: &Heap, remains: &Remains) -> Result<Heap, AllocError>
-    requires { IsSound (patched later.now remains.now) [] }
+    requires sound { IsSound (patched later.now remains.now) [] }
+    requires there { AreThere later.now remains.now }
     ensures { IfOk result (λ h. h ≡ patched later.now remains.now) }
 {
     later

@@ -1,7 +1,7 @@
-//! Agreement asked again and again beside one replay: the trail to a difference that was found before is followed first.
-ghost use Rattle.std.specs.Prelude.{◌↔◌, is_some, IfOk, IfSome, IsTrue};
-ghost use Rattle.ownership_model.specs.Laws.{ReplayAlike};
-ghost use Rattle.agreement.specs.Agreement.{Agree, AreRemains, is_apart};
+//! Heaps of one replay compared with those of another: the trail to a difference that was found before is followed first.
+ghost use Rattle.std.specs.Prelude.{IfOk, IsTrue};
+ghost use Rattle.agreement.specs.Agreement.{Agree};
+ghost use Rattle.agreement.specs.Meeting.{Meets};
 
 use crate::agree::agree;
 use crate::differing::differing_path;
@@ -11,26 +11,37 @@ use object_heap::heap::Heap;
 use std::alloc::{AllocError, Global};
 use trace_types::limits::MAX_THREAD;
 
-/// As `agree`. Where the trail still leads to a difference nothing else is looked at; else it is replaced by one to a difference,
-/// if there is any.
-pub fn agree_beside(
+/// How a new heap stands to an old one.
+#[derive(Drop)]
+pub enum Meeting {
+    /// They don't agree on what can be reached.
+    Apart,
+    Same,
+    /// They agree on what can be reached; the remains are what else each has.
+    Alike(Remains),
+}
+
+/// Compares a new heap with an old one. Where the trail still leads to a difference nothing else is looked at. Heaps that are the
+/// same are told as such. Where they don't agree the trail is replaced by one to a difference, if there is any.
+pub fn meet(
     alloc: Global,
     new: &Heap,
     old: &Heap,
     seen: &mut Option<Trail>,
-) -> Result<Option<Remains>, AllocError>
-    ensures answer { IfOk result (λ r. IsTrue (is_some r) ↔ Agree new.now old.now) }
-    ensures remains { IfOk result (λ r. IfSome r (λ x. AreRemains new.now old.now x)) }
-    ensures law { IfOk result (λ r. IfSome r (λ x. ReplayAlike (is_apart new.now old.now) new.now old.now x)) }
+) -> Result<Meeting, AllocError>
+    ensures { IfOk result (Meets new.now old.now) }
 {
     if is_refuted(seen, new, old) {
-        return Ok(None);
+        return Ok(Meeting::Apart);
     }
-    let answer = agree(alloc, new, old)?;
-    if answer.is_none() {
-        *seen = trail_between(alloc, new, old)?;
+    if new.same(old) {
+        return Ok(Meeting::Same);
     }
-    Ok(answer)
+    if let Some(remains) = agree(alloc, new, old)? {
+        return Ok(Meeting::Alike(remains));
+    }
+    *seen = trail_between(alloc, new, old)?;
+    Ok(Meeting::Apart)
 }
 
 fn is_refuted(seen: &Option<Trail>, new: &Heap, old: &Heap) -> bool
