@@ -1,6 +1,6 @@
 -- A replay that goes on beside an old one.
 use Rattle.std.proofs.Common.{◌≡◌, ℕ, ◌+◌, ◌-◌, ◌<◌, ◌≤◌, List, [], ◌∷◌, ◌++◌, length, take, drop, get_or, true, refl, ap, sym, subst, ◌∙◌, arith, append_assoc, length-drop, take-append-drop}
-use Rattle.std.specs.Prelude.{is_some, Contains}
+use Rattle.std.specs.Prelude.{Some, is_some, IsTrue, Contains}
 use mathlib.Core.Logic.{⊎_elim}
 use Rattle.std.proofs.lemmas.List.{drop-drop}
 use Rattle.std.proofs.lemmas.List.Elements.{Contains-append_cases}
@@ -8,15 +8,17 @@ use Rattle.std.proofs.Math.Seq.{take-length}
 use Rattle.ownership_model.specs.State.{State, nothing_held}
 use Rattle.trace_types.specs.Operation.{Operation}
 use Rattle.run_engine.specs.SegmentView.{SegmentView}
-use Rattle.ownership_model.specs.Step.{end_from}
-use Rattle.run_engine.specs.Segments.{trace_of, mark_here, marks_from, AreReplayFrom, AreFull, BeginsMarked, IsRun, IsReached, all_marks}
+use Rattle.trace_types.specs.Trace.{has_distinct_numbers}
+use Rattle.ownership_model.specs.Step.{end_from, AreUnused}
+use Rattle.run_engine.specs.Segments.{trace_of, mark_here, marks_from, AreReplayFrom, AreFull, BeginsMarked, IsRunFrom, IsRun, IsReached, all_marks}
 use Rattle.run_engine.specs.HeadAndTail.{ShareEnd}
 use Rattle.run_engine.specs.Bounds.{AgreesAt, StepsAtMost}
-use Rattle.ownership_model.proofs.LawsHold.{appends}
+use Rattle.ownership_model.proofs.LawsHold.{appends, soundness}
+use Rattle.agreement.specs.Agreement.{Agree}
 use Rattle.run_engine.proofs.SegmentLemmas.{trace_of-append, AreReplayFrom-append, AreReplayFrom-back, length-trace_of-next}
 use Rattle.run_engine.proofs.ListingLemmas.{around}
-use Rattle.run_engine.proofs.PieceLemmas.{AreFull-append, AreFull-back}
-use Rattle.run_engine.proofs.PlaceLemmas.{Contains-one, mark_here-place, mark_here-some, marks_from-least, trace_of-back, place-within}
+use Rattle.run_engine.proofs.PieceLemmas.{AreFull-append, AreFull-back, BeginsMarked-append, mark-is}
+use Rattle.run_engine.proofs.PlaceLemmas.{Contains-one, mark_here-place, mark_here-some, marks_from-least, trace_of-parted, trace_of-back, place-within}
 
 pub ShareEnd-length : (old ops : List Operation) (a b : ℕ) → ShareEnd old ops a b → length old - a ≡ length ops - b
 ShareEnd-length old ops a b h = sym (length-drop a old) ∙ ap length h.same ∙ length-drop b ops
@@ -77,39 +79,70 @@ bounded old ops a b r before i at x segments heap count counted h shared behind 
       stop = λ p mark le agrees. let least : at ≤ p = least-agreeing old ops a b r before i at x segments heap count h p mark le agrees in omega arith;
     }
 
-BeginsMarked-joined : (a b : List SegmentView) → BeginsMarked a → BeginsMarked b → BeginsMarked (a ++ b)
-BeginsMarked-joined [] b h k = k
-BeginsMarked-joined (s ∷ a) b h k = h
+-- the rest of the old run, from the checkpoint of the segment i on
+pub IsRunFrom-back : (old : List SegmentView) (end mark : State) (i : ℕ) (s : SegmentView) → IsRun old end → i < length old → s ≡ get_or old i s → Some mark ≡ s.mark → IsRunFrom mark (drop i old) end
+IsRunFrom-back old end mark i s run lt is marked =
+    let m : mark ≡ end_from nothing_held (trace_of (take i old)) = mark-is old i s mark run.replay lt is marked in
+    let parts : take i old ++ drop i old ≡ old = take-append-drop i old in
+    record {
+      replay = subst (λ n. AreReplayFrom n (drop i old)) (sym m) (AreReplayFrom-back nothing_held (take i old) (drop i old) (subst (AreReplayFrom nothing_held) (sym parts) run.replay));
+      full = AreFull-back (take i old) (drop i old) (subst AreFull (sym parts) run.full);
+      begins = subst BeginsMarked (sym (around old i s lt is)) (ap is_some (sym marked));
+      state = run.state ∙ ap (end_from nothing_held) (sym (trace_of-parted old i)) ∙ appends.end nothing_held (trace_of (take i old)) (trace_of (drop i old)) ∙ ap (λ n. end_from n (trace_of (drop i old))) (sym m);
+    }
 
--- where the heaps are the same the old segments go on
+-- the edited trace ends with the operations of that rest
+pub rest-shared : (old : List SegmentView) (ops : List Operation) (a b i at : ℕ) → ShareEnd (trace_of old) ops a b → length (trace_of (take i old)) ≡ at → a ≤ at → trace_of (drop i old) ≡ drop (at - a + b) ops
+rest-shared old ops a b i at shared place behind =
+    let over : a + (at - a) ≡ at = omega arith in
+    let across : b + (at - a) ≡ at - a + b = omega arith in
+    trace_of-back old i at place ∙ ap (λ n. drop n (trace_of old)) (sym over) ∙ sym (drop-drop (at - a) a (trace_of old)) ∙ ap (drop (at - a)) shared.same ∙ drop-drop (at - a) b ops ∙ ap (λ n. drop n ops) across
+
+-- the numbers of the operations behind a place of a trace are those of no object there
+unused-behind : (ops more : List Operation) → IsTrue (has_distinct_numbers (ops ++ more)) → AreUnused (end_from nothing_held ops) more
+unused-behind ops more distinct = appends.unused_rest nothing_held ops more soundness.start distinct (soundness.unused (ops ++ more))
+
+distinct-parted : (old : List SegmentView) (i : ℕ) → IsTrue (has_distinct_numbers (trace_of old)) → IsTrue (has_distinct_numbers (trace_of (take i old) ++ trace_of (drop i old)))
+distinct-parted old i distinct = subst (λ ops. IsTrue (has_distinct_numbers ops)) (sym (trace_of-parted old i)) distinct
+
+pub distinct-back : (old : List SegmentView) (i : ℕ) → IsTrue (has_distinct_numbers (trace_of old)) → IsTrue (has_distinct_numbers (trace_of (drop i old)))
+distinct-back old i distinct = appends.distinct_rest (trace_of (take i old)) (trace_of (drop i old)) (distinct-parted old i distinct)
+
+-- those of the rest of the old run are unused at its checkpoint, and where the new replay goes on
+pub old-unused : (old : List SegmentView) (end mark : State) (i : ℕ) (s : SegmentView) → IsRun old end → IsTrue (has_distinct_numbers (trace_of old)) → i < length old → s ≡ get_or old i s → Some mark ≡ s.mark
+    → AreUnused mark (trace_of (drop i old))
+old-unused old end mark i s run distinct lt is marked =
+    subst (λ m. AreUnused m (trace_of (drop i old))) (sym (mark-is old i s mark run.replay lt is marked)) (unused-behind (trace_of (take i old)) (trace_of (drop i old)) (distinct-parted old i distinct))
+
+pub new-unused : (ops : List Operation) (x : ℕ) (segments rest : List SegmentView) (heap : State) → IsReached ops x segments heap → IsTrue (has_distinct_numbers ops) → trace_of rest ≡ drop x ops → AreUnused heap (trace_of rest)
+new-unused ops x segments rest heap h distinct back =
+    let whole : IsTrue (has_distinct_numbers (take x ops ++ drop x ops)) = subst (λ os. IsTrue (has_distinct_numbers os)) (sym (take-append-drop x ops)) distinct in
+    subst (λ os. AreUnused heap os) (sym back) (subst (λ m. AreUnused m (drop x ops)) (sym h.state) (unused-behind (take x ops) (drop x ops) whole))
+
+-- that two heaps agree, where the one is that of the edited trace and the other the old checkpoint
+pub AgreesAt-here : (old ops : List Operation) (a b p : ℕ) (heap mark : State) → heap ≡ end_from nothing_held (take (p - a + b) ops) → mark ≡ end_from nothing_held (take p old) → Agree heap mark → AgreesAt old ops a b p
+AgreesAt-here old ops a b p heap mark new is agree = subst (λ m. Agree m (end_from nothing_held (take p old))) new (subst (Agree heap) is agree)
+
+pub AgreesAt-there : (old ops : List Operation) (a b p : ℕ) (heap mark : State) → heap ≡ end_from nothing_held (take (p - a + b) ops) → mark ≡ end_from nothing_held (take p old) → AgreesAt old ops a b p → Agree heap mark
+AgreesAt-there old ops a b p heap mark new is agree = subst (λ m. Agree m mark) (sym new) (subst (Agree (end_from nothing_held (take (p - a + b) ops))) (sym is) agree)
+
+-- segments that are a run of the operations
 pub record IsSpliced (ops : List Operation) (segments : List SegmentView) (end : State) : Type 0 where
   pub run : IsRun segments end
   pub trace : trace_of segments ≡ ops
 
-pub IsSpliced-stop : (old : List SegmentView) (end : State) (ops : List Operation) (a b i at : ℕ) (s : SegmentView) (segments : List SegmentView) (heap : State)
-    → IsRun old end → ShareEnd (trace_of old) ops a b → i < length old → s ≡ get_or old i s → is_some s.mark ≡ true → length (trace_of (take i old)) ≡ at → a ≤ at
-    → IsReached ops (at - a + b) segments heap → heap ≡ end_from nothing_held (trace_of (take i old))
-    → IsSpliced ops (segments ++ drop i old) end
-IsSpliced-stop old end ops a b i at s segments heap run shared lt is marked place behind h same =
-    let x : ℕ = at - a + b in
-    let over : a + (at - a) ≡ at = omega arith in
-    let across : b + (at - a) ≡ at - a + b = omega arith in
-    let back : trace_of (drop i old) ≡ drop (at - a + b) ops =
-    trace_of-back old i at place ∙ ap (λ n. drop n (trace_of old)) (sym over) ∙ sym (drop-drop (at - a) a (trace_of old)) ∙ ap (drop (at - a)) shared.same ∙ drop-drop (at - a) b ops ∙ ap (λ n. drop n ops) across in
-    let trace : trace_of (segments ++ drop i old) ≡ ops = trace_of-append segments (drop i old) ∙ ap (λ xs. xs ++ trace_of (drop i old)) h.trace ∙ ap (λ xs. take (at - a + b) ops ++ xs) back ∙ take-append-drop (at - a + b) ops in
-    let here : end_from nothing_held (trace_of (take i old)) ≡ end_from nothing_held (trace_of segments) = sym same ∙ h.state ∙ ap (end_from nothing_held) (sym h.trace) in
-    let whole : AreReplayFrom nothing_held (take i old ++ drop i old) = subst (AreReplayFrom nothing_held) (sym (take-append-drop i old)) run.replay in
-    let begins : BeginsMarked (drop i old) = subst BeginsMarked (sym (around old i s lt is)) marked in
+-- the rest of a run goes on from the front
+pub IsSpliced-rest : (ops : List Operation) (x : ℕ) (segments rest : List SegmentView) (heap end : State) → IsReached ops x segments heap → trace_of rest ≡ drop x ops → IsRunFrom heap rest end → IsSpliced ops (segments ++ rest) end
+IsSpliced-rest ops x segments rest heap end h back run =
+    let here : heap ≡ end_from nothing_held (trace_of segments) = h.state ∙ ap (end_from nothing_held) (sym h.trace) in
     record {
       run = record {
-        replay = AreReplayFrom-append nothing_held segments (drop i old) h.replay (subst (λ m. AreReplayFrom m (drop i old)) here (AreReplayFrom-back nothing_held (take i old) (drop i old) whole));
-        full = AreFull-append segments (drop i old) h.full (AreFull-back (take i old) (drop i old) (subst AreFull (sym (take-append-drop i old)) run.full));
-        begins = BeginsMarked-joined segments (drop i old) h.begins begins;
-        state = run.state ∙ ap (end_from nothing_held) (ap trace_of (sym (take-append-drop i old)) ∙ trace_of-append (take i old) (drop i old))
-            ∙ appends.end nothing_held (trace_of (take i old)) (trace_of (drop i old)) ∙ ap (λ m. end_from m (trace_of (drop i old))) here
-            ∙ sym (appends.end nothing_held (trace_of segments) (trace_of (drop i old))) ∙ ap (end_from nothing_held) (sym (trace_of-append segments (drop i old)));
+        replay = AreReplayFrom-append nothing_held segments rest h.replay (subst (λ m. AreReplayFrom m rest) here run.replay);
+        full = AreFull-append segments rest h.full run.full;
+        begins = BeginsMarked-append segments rest h.begins run.begins;
+        state = run.state ∙ ap (λ m. end_from m (trace_of rest)) here ∙ sym (appends.end nothing_held (trace_of segments) (trace_of rest)) ∙ ap (end_from nothing_held) (sym (trace_of-append segments rest));
       };
-      trace = trace;
+      trace = trace_of-append segments rest ∙ ap (λ xs. xs ++ trace_of rest) h.trace ∙ ap (λ xs. take x ops ++ xs) back ∙ take-append-drop x ops;
     }
 
 pub IsSpliced-end : (ops : List Operation) (x : ℕ) (segments : List SegmentView) (heap : State) → IsReached ops x segments heap → x ≡ length ops → IsSpliced ops segments heap

@@ -8,6 +8,7 @@ mod SpanLemmas
 mod StretchLemmas
 mod PieceLemmas
 mod PlaceLemmas
+mod RejoinLemmas
 mod ConvergeLemmas
 mod RestartLemmas
 mod MarksLemmas

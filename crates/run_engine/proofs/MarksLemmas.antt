@@ -138,6 +138,14 @@ AreMarksOf-stop old segments ops kept a b i at r s full shared lt is m mark plac
           ∙ ap (λ ps. kept ++ r ∷ (laid.fresh ++ moved ps)) (sym (above-stop old i at s m full lt is mark place));
     }
 
+-- segments with the operations and checkpoints of others, behind a front
+pub all_marks-rest : (segments a b : List SegmentView) → trace_of a ≡ trace_of b → ((at : ℕ) → marks_from at a ≡ marks_from at b) → all_marks (segments ++ a) ≡ all_marks (segments ++ b)
+all_marks-rest segments a b trace marks =
+    let whole : trace_of (segments ++ a) ≡ trace_of (segments ++ b) = trace_of-append segments a ∙ ap (λ t. trace_of segments ++ t) trace ∙ sym (trace_of-append segments b) in
+    ap (λ ps. ps ++ length (trace_of (segments ++ a)) ∷ [])
+    (marks_from-append 0 segments a ∙ ap (λ ps. marks_from 0 segments ++ ps) (marks (0 + length (trace_of segments))) ∙ sym (marks_from-append 0 segments b))
+    ∙ ap (λ t. marks_from 0 (segments ++ b) ++ length t ∷ []) whole
+
 -- with no stop
 pub AreMarksOf-end : (old segments : List SegmentView) (ops : List Operation) (kept : List ℕ) (a b r : ℕ)
     → ShareEnd (trace_of old) ops a b → ((p : ℕ) → Contains (all_marks old) p → a ≤ p → AgreesAt (trace_of old) ops a b p → length (trace_of old) ≤ p)

@@ -33,18 +33,22 @@ marks_from-least at (s ∷ segments) p h = ⊎_elim
     (λ later. let le : at + length (ops_of s) ≤ p = marks_from-least (at + length (ops_of s)) segments p later in omega arith)
     (Contains-append_cases (mark_here at s.mark) (marks_from (at + length (ops_of s)) segments) p h)
 
+-- the operations of the segments before a place and from there on
+pub trace_of-parted : (old : List SegmentView) (i : ℕ) → trace_of (take i old) ++ trace_of (drop i old) ≡ trace_of old
+trace_of-parted old i = sym (trace_of-append (take i old) (drop i old)) ∙ ap trace_of (take-append-drop i old)
+
 -- the trace around a segment's place
 pub trace_of-front : (old : List SegmentView) (i at : ℕ) → length (trace_of (take i old)) ≡ at → trace_of (take i old) ≡ take at (trace_of old)
 trace_of-front old i at e =
     sym (take-append_seam (trace_of (take i old)) (trace_of (drop i old)))
     ∙ ap (λ n. take n (trace_of (take i old) ++ trace_of (drop i old))) e
-    ∙ ap (take at) (sym (trace_of-append (take i old) (drop i old)) ∙ ap trace_of (take-append-drop i old))
+    ∙ ap (take at) (trace_of-parted old i)
 
 pub trace_of-back : (old : List SegmentView) (i at : ℕ) → length (trace_of (take i old)) ≡ at → trace_of (drop i old) ≡ drop at (trace_of old)
 trace_of-back old i at e =
     sym (drop-append_seam (trace_of (take i old)) (trace_of (drop i old)))
     ∙ ap (λ n. drop n (trace_of (take i old) ++ trace_of (drop i old))) e
-    ∙ ap (drop at) (sym (trace_of-append (take i old) (drop i old)) ∙ ap trace_of (take-append-drop i old))
+    ∙ ap (drop at) (trace_of-parted old i)
 
 pub place-within : (old : List SegmentView) (i at : ℕ) → length (trace_of (take i old)) ≡ at → at ≤ length (trace_of old)
 place-within old i at e =

@@ -5,6 +5,7 @@ pub mod ListingView
 pub mod SegmentView
 pub mod Marks
 pub mod Segments
+pub mod Exchanged
 pub mod RunView
 pub mod HeadAndTail
 pub mod Bounds

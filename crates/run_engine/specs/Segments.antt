@@ -57,12 +57,16 @@ abbrev pub BeginsMarked : List SegmentView → Type 0
 BeginsMarked [] = Unit {0}
 BeginsMarked (s ∷ segments) = IsTrue (is_some s.mark)
 
--- segments and the state after them
-pub record IsRun (segments : List SegmentView) (end : State) : Type 0 where
-  pub replay : AreReplayFrom nothing_held segments
+-- segments that go on from a state, and the state after them
+pub record IsRunFrom (start : State) (segments : List SegmentView) (end : State) : Type 0 where
+  pub replay : AreReplayFrom start segments
   pub full : AreFull segments
   pub begins : BeginsMarked segments
-  pub state : end ≡ end_from nothing_held (trace_of segments)
+  pub state : end ≡ end_from start (trace_of segments)
+
+-- so from the beginning
+abbrev pub IsRun : List SegmentView → State → Type 0
+IsRun segments end = IsRunFrom nothing_held segments end
 
 -- the segments are the replay of the first `at` operations
 pub record IsReached (ops : List Operation) (at : ℕ) (segments : List SegmentView) (end : State) : Type 0 where

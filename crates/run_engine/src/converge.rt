@@ -2,16 +2,17 @@
 ghost use Rattle.std.specs.Prelude.{◌≡◌, ℕ, List, ◌++◌, ◌+◌, ◌-◌, ◌^◌, ◌<◌, ◌≤◌, IfOk, length, slice_range};
 ghost use Rattle.ownership_model.specs.State.{nothing_held};
 ghost use Rattle.ownership_model.specs.Step.{AreNew};
+ghost use Rattle.trace_types.specs.Trace.{IsTrace};
 ghost use Rattle.run_engine.specs.Segments.{trace_of, marks_from, all_marks, IsRun, IsReached, IsPiece};
 ghost use Rattle.run_engine.specs.HeadAndTail.{ShareEnd};
 ghost use Rattle.run_engine.specs.Bounds.{StepsAtMost};
 ghost use Rattle.run_engine.specs.NewMarks.{AreLaid, AreMarksOf, IsGap};
 ghost use Rattle.run_engine.specs.Steps.{AreTaken, HaveStepped, AreStepped};
 
-use crate::difference::same_beside;
 use crate::listing::Listing;
 use crate::piece::{Piece, stepped_up_to};
-use crate::segment::{Segment, append, share_segments};
+use crate::rejoin::rejoined;
+use crate::segment::{Segment, append};
 use crate::stretch::old_stretch;
 use object_heap::heap::Heap;
 use op_step::meter::Meter;
@@ -120,16 +121,16 @@ fn advance(
     Ok(front)
 }
 
-// The segments of the front, and then shares of others.
-fn spliced(alloc: Global, front: Front, rest: &[Segment]) -> Result<Vec<Segment>, AllocError>
-    ensures { IfOk result (λ v. v.items ≡ front.segments.items ++ rest.now) }
+// The segments of the front, and then others.
+fn spliced(front: Front, rest: Vec<Segment>) -> Result<Vec<Segment>, AllocError>
+    ensures { IfOk result (λ v. v.items ≡ front.segments.items ++ rest.items) }
 {
     let mut segments = front.segments;
-    append(&mut segments, share_segments(alloc, rest)?)?;
+    append(&mut segments, rest)?;
     Ok(segments)
 }
 
-/// Goes on with the replay to its end, or to the first checkpoint at or behind `a` with the old heap.
+/// Goes on with the replay to its end, or to the first old checkpoint at or behind `a` where the heaps agree.
 ///
 /// From there on each operation has its old neighbours, so that behind a checkpoint with another heap no old stretch serves.
 pub fn converge(
@@ -143,13 +144,12 @@ pub fn converge(
     meter: &mut Meter,
 ) -> Result<(Vec<Segment>, Heap), AllocError>
     requires base { ops.now.base ≡ trace_of old.now }
-    requires old_few { length (trace_of old.now) ≤ MAX_OPS }
+    requires old_trace { IsTrace (trace_of old.now) }
     requires run { IsRun old.now end.now }
     requires front { IsReached ops.now.ops front.at front.segments.items front.heap }
     requires shared { ShareEnd (trace_of old.now) ops.now.ops a b }
     requires order { front.at ≤ b }
-    requires new { AreNew nothing_held ops.now.ops }
-    requires few { length ops.now.ops < 2 ^ 32 }
+    requires trace { IsTrace ops.now.ops }
     ensures run { IfOk result (λ r. IsRun r.0.items r.1) }
     ensures trace { IfOk result (λ r. trace_of r.0.items ≡ ops.now.ops) }
     ensures marks { IfOk result (λ r. AreMarksOf (trace_of old.now) ops.now.ops (marks_from 0 front.segments.items) (all_marks old.now) (all_marks r.0.items) front.at a b) }
@@ -160,6 +160,7 @@ pub fn converge(
     let mut front = front;
     let mut at = 0;
     let mut seen = None;
+    let mut apart = false;
     for (i, segment) in old.iter().enumerate() {
         if at >= a {
             if let Some(mark) = segment.mark() {
@@ -170,27 +171,18 @@ pub fn converge(
                     front,
                     ops,
                     at - a + b,
-                    seen.is_none(),
+                    !apart,
                     meter,
                 )?;
-                let same = same_beside(alloc, &front.heap, mark, &mut seen)?;
-                if same {
-                    let segments = spliced(alloc, front, &old[i..])?;
-                    return Ok((segments, end.share()?));
+                let found = rejoined(alloc, &front.heap, mark, &old[i..], end, &mut seen)?;
+                if let Some((rest, end)) = found {
+                    return Ok((spliced(front, rest)?, end));
                 }
+                apart = true;
             }
         }
         at += segment.ops().len();
     }
-    front = advance(
-        alloc,
-        old,
-        end,
-        front,
-        ops,
-        ops.len(),
-        seen.is_none(),
-        meter,
-    )?;
+    front = advance(alloc, old, end, front, ops, ops.len(), !apart, meter)?;
     Ok((front.segments, front.heap))
 }

@@ -3,7 +3,6 @@
 
 mod contents;
 mod converge;
-mod difference;
 pub mod edits;
 pub mod faults;
 mod head_and_tail;
@@ -11,6 +10,7 @@ mod listing;
 mod original;
 mod part;
 mod piece;
+mod rejoin;
 mod restart;
 pub mod run;
 mod seek;

@@ -94,8 +94,9 @@ impl Run {
     /// The size of the batch is tried first, which takes no memory. Then the edits are tried in order, each on the result
     /// of those before it. The replay begins again at the greatest checkpoint at or before the first operation that
     /// differs, takes old stretches where they begin with the same heap and have the same operations, and stops at the
-    /// first old checkpoint behind the last operation that differs where the heap is the same. The meter rises by the
-    /// operations stepped, and where memory runs out by at most those up to the stop.
+    /// first old checkpoint behind the last operation that differs where the heaps agree on all that can be reached. From
+    /// there on the old outcomes stay, and what can't be reached is exchanged in the checkpoints and the end. The meter rises
+    /// by the operations stepped, and where memory runs out by at most those up to the stop.
     pub fn edited(&self, alloc: Global, batch: &Batch, meter: &mut Meter) -> Result<Run, RunFault>
         ensures trace { IfOk result (λ r. edited_by self.now.trace batch.now ≡ Ok r.trace) }
         ensures marks { IfOk result (λ r. AreMarksAfter self.now r) }

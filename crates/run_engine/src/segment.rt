@@ -1,8 +1,10 @@
 //! A segment of a run.
 ghost use Rattle.std.specs.Prelude.{◌≡◌, ◌++◌, length, IfOk, OnOk, None, is_some};
 ghost use Rattle.std.specs.Option.{option_copied};
+ghost use Rattle.run_engine.specs.Exchanged.{exchanged, IsExchangeable};
 
 use crate::part::{Bounds, Part, bounds_of};
+use agreement::remains::{Remains, patch};
 use object_heap::heap::Heap;
 use std::alloc::{AllocError, Global};
 use std::marker::Model;
@@ -69,6 +71,21 @@ impl Segment {
         let mark = match &self.mark {
             None => None,
             Some(heap) => Some(heap.share()?),
+        };
+        Ok(Segment {
+            mark,
+            body: Arc::try_clone(&self.body)?,
+        })
+    }
+
+    /// The same operations and outcomes, which are shared, with the remains exchanged in the checkpoint.
+    pub fn exchanged(&self, alloc: Global, remains: &Remains) -> Result<Self, AllocError>
+        requires { IsExchangeable remains.now self.now }
+        ensures { IfOk result (λ s. s ≡ exchanged remains.now self.now) }
+    {
+        let mark = match &self.mark {
+            None => None,
+            Some(heap) => Some(patch(alloc, heap, remains)?),
         };
         Ok(Segment {
             mark,

@@ -1,20 +1,22 @@
 use Rattle.run_engine.specs.Segments.{all_marks}
 use Rattle.std.proofs.Common.{◌≡◌, ℕ, ◌+◌, ◌-◌, ◌<◌, ◌≤◌, List, ◌++◌, length, take, drop, true, false, refl, ap, sym, subst, ◌∙◌, arith}
 use Rattle.std.specs.Prelude.{is_some}
-use Rattle.ownership_model.specs.State.{nothing_held}
+use Rattle.ownership_model.specs.State.{State, nothing_held}
+use Rattle.ownership_model.proofs.LawsHold.{soundness}
+use Rattle.agreement.specs.Agreement.{Agree}
 use Rattle.trace_types.specs.Operation.{Operation}
 use Rattle.ownership_model.specs.Step.{end_from}
 use Rattle.run_engine.specs.SegmentView.{SegmentView}
-use Rattle.run_engine.specs.Segments.{trace_of, marks_from, IsReached}
+use Rattle.run_engine.specs.Segments.{trace_of, marks_from, IsReached, IsRunFrom}
 use Rattle.run_engine.specs.HeadAndTail.{ShareEnd}
 use Rattle.std.proofs.Math.Seq.{take-length}
-use Rattle.run_engine.proofs.SegmentLemmas.{length-trace_of-next}
+use Rattle.run_engine.proofs.SegmentLemmas.{length-trace_of-next, trace_of-append}
 use Rattle.run_engine.proofs.PieceLemmas.{mark-is, take-rest}
 use Rattle.run_engine.proofs.PlaceLemmas.{mark-there, place-within, trace_of-front}
-use Rattle.run_engine.proofs.ConvergeLemmas.{IsBeside-none, IsBeside-next, least-agreeing, bounded, ShareEnd-length, IsSpliced, IsSpliced-stop, IsSpliced-end}
-use Rattle.run_engine.proofs.converge.converge.Goals.{then-at-a+in-Some+in_ok-front+in_ok-same+else-same, then-at-a+in_default, else-at-a}
+use Rattle.run_engine.proofs.ConvergeLemmas.{IsBeside-none, IsBeside-next, least-agreeing, bounded, ShareEnd-length, IsRunFrom-back, rest-shared, distinct-back, old-unused, new-unused, AgreesAt-here, AgreesAt-there, IsSpliced, IsSpliced-rest, IsSpliced-end}
+use Rattle.run_engine.proofs.converge.converge.Goals.{then-at-a+in-Some+in_ok-front+in_ok-found+in_default-found, then-at-a+in_default, else-at-a}
 use Rattle.run_engine.specs.NewMarks.{AreLaid}
-use Rattle.run_engine.proofs.MarksLemmas.{AreLaid-none, AreMarksOf-stop, AreMarksOf-end, IsReached-length}
+use Rattle.run_engine.proofs.MarksLemmas.{AreLaid-none, AreMarksOf-stop, AreMarksOf-end, all_marks-rest, IsReached-length}
 use Rattle.run_engine.specs.Bounds.{AgreesAt}
 use Rattle.run_engine.proofs.SteppedLemmas.{HaveStepped-none, AreStepped-stop, AreStepped-end}
 use Rattle.run_engine.proofs.converge.converge.Goals as goal
@@ -30,71 +32,114 @@ advance-requires-clause-within c =
 pub overflow_add-at : goal.overflow_add-at
 overflow_add-at c =
     let le : c.loop-i.at - c.args.a + c.args.b ≤ length c.args.ops.now.ops = moved-within _ _ c.args.a c.args.b c.loop-i.at c.requires.shared (place-within c.args.old.now c.loop-i.i c.loop-i.at c.loop-i.invariant.beside.place) c.if-at-a.true in
-    omega (arith, c.requires.few)
+    omega (arith, c.requires.trace.few)
 
 pub overflow_add-at-in-loop-i : goal.overflow_add-at-in-loop-i
 overflow_add-at-in-loop-i c =
     let next = length-trace_of-next c.args.old.now c.loop-i.i c.index-old-i.result c.loop-i-test.true c.index-old-i.is in
     let n = ap length c.ops.ensures in
     let le : length (trace_of (take (c.loop-i.i + 1) c.args.old.now)) ≤ length (trace_of c.args.old.now) = place-within c.args.old.now (c.loop-i.i + 1) _ refl in
-    omega (arith, c.requires.old_few, c.loop-i.invariant.beside.place)
+    omega (arith, c.requires.old_trace.few, c.loop-i.invariant.beside.place)
 
 pub returns-in_err-front-clause-bound : goal.returns-in_err-front-clause-bound
 returns-in_err-front-clause-bound c =
     bounded _ _ _ _ _ _ _ _ _ _ _ _ _ c.loop-i.invariant.beside c.requires.shared c.if-at-a.true (omega (arith, c.loop-i.invariant.beside.rise, c.advance.ensures.rise))
 
-pub returns-in_err-segments-clause-bound : goal.returns-in_err-segments-clause-bound
-returns-in_err-segments-clause-bound c =
+pub returns-in_err-found-clause-bound : goal.returns-in_err-found-clause-bound
+returns-in_err-found-clause-bound c =
     bounded _ _ _ _ _ _ _ _ _ _ _ _ _ c.loop-i.invariant.beside c.requires.shared c.if-at-a.true (omega (arith, c.loop-i.invariant.beside.rise, c.advance.ensures.rise))
 
-pub returns-in_err-share-clause-bound : goal.returns-in_err-share-clause-bound
-returns-in_err-share-clause-bound c =
+pub returns-in_err-spliced-clause-bound : goal.returns-in_err-spliced-clause-bound
+returns-in_err-spliced-clause-bound c =
     bounded _ _ _ _ _ _ _ _ _ _ _ _ _ c.loop-i.invariant.beside c.requires.shared c.if-at-a.true (omega (arith, c.loop-i.invariant.beside.rise, c.advance.ensures.rise))
 
-pub returns-in_err-same-clause-bound : goal.returns-in_err-same-clause-bound
-returns-in_err-same-clause-bound c =
+pub returns-in-Some-found-clause-bound : goal.returns-in-Some-found-clause-bound
+returns-in-Some-found-clause-bound c =
     bounded _ _ _ _ _ _ _ _ _ _ _ _ _ c.loop-i.invariant.beside c.requires.shared c.if-at-a.true (omega (arith, c.loop-i.invariant.beside.rise, c.advance.ensures.rise))
 
-pub returns-then-same-clause-bound : goal.returns-then-same-clause-bound
-returns-then-same-clause-bound c =
-    bounded _ _ _ _ _ _ _ _ _ _ _ _ _ c.loop-i.invariant.beside c.requires.shared c.if-at-a.true (omega (arith, c.loop-i.invariant.beside.rise, c.advance.ensures.rise))
+pub advance-requires-clause-new : goal.advance-requires-clause-new
+advance-requires-clause-new c = soundness.are_new c.args.ops.now.ops c.requires.trace.distinct
 
-place-end : (old : List SegmentView) (i at : ℕ) → length old ≤ i → i ≤ length old → length (trace_of (take i old)) ≡ at → at ≡ length (trace_of old)
-place-end old i at ge le e = let n : i ≡ length old = omega arith in sym e ∙ ap (λ j. length (trace_of (take j old))) n ∙ ap (λ ss. length (trace_of ss)) (take-length old)
+pub advance-requires-2-clause-new : goal.advance-requires-2-clause-new
+advance-requires-2-clause-new c = soundness.are_new c.args.ops.now.ops c.requires.trace.distinct
 
-spliced-raw : (c : goal.In_ok-share) → IsSpliced c.args.ops.now.ops (c.in_ok-front.front.segments.items ++ drop c.loop-i.i c.args.old.now) c.args.end.now
-spliced-raw c =
-    let old = c.args.old.now in
-    let m : c.in-Some.mark.now ≡ end_from nothing_held (trace_of (take c.loop-i.i c.args.old.now)) = mark-is c.args.old.now c.loop-i.i c.index-old-i.result c.in-Some.mark.now c.requires.run.replay c.loop-i-test.true c.index-old-i.is c.in-Some.ensures in
-    let heap : c.in_ok-front.front.heap ≡ c.in-Some.mark.now = c.in_ok-same.ensures.0 c.if-same.true in
-    let there : c.in_ok-front.front.at ≡ c.loop-i.at - c.args.a + c.args.b = c.in_ok-front.ensures.there in
-    let front : IsReached c.args.ops.now.ops (c.loop-i.at - c.args.a + c.args.b) c.in_ok-front.front.segments.items c.in_ok-front.front.heap =
-    subst (λ x. IsReached c.args.ops.now.ops x c.in_ok-front.front.segments.items c.in_ok-front.front.heap) there c.in_ok-front.ensures.front in
-    IsSpliced-stop c.args.old.now c.args.end.now c.args.ops.now.ops c.args.a c.args.b c.loop-i.i c.loop-i.at c.index-old-i.result c.in_ok-front.front.segments.items c.in_ok-front.front.heap
-    c.requires.run c.requires.shared c.loop-i-test.true c.index-old-i.is (ap is_some (sym c.in-Some.ensures)) c.loop-i.invariant.beside.place c.if-at-a.true front (heap ∙ m)
+pub rejoined-requires-clause-run : goal.rejoined-requires-clause-run
+rejoined-requires-clause-run c =
+    rw (take-rest c.loop-i.i c.args.old.now)
+    (IsRunFrom-back c.args.old.now c.args.end.now c.in-Some.mark.now c.loop-i.i c.index-old-i.result c.requires.run c.loop-i-test.true c.index-old-i.is c.in-Some.ensures)
 
--- the states agree where the replay stops
-agreed : (c : goal.In_ok-share) → AgreesAt (trace_of c.args.old.now) c.args.ops.now.ops c.args.a c.args.b c.loop-i.at
+pub rejoined-requires-clause-distinct : goal.rejoined-requires-clause-distinct
+rejoined-requires-clause-distinct c = rw (take-rest c.loop-i.i c.args.old.now) (distinct-back c.args.old.now c.loop-i.i c.requires.old_trace.distinct)
+
+pub rejoined-requires-clause-old_unused : goal.rejoined-requires-clause-old_unused
+rejoined-requires-clause-old_unused c =
+    rw (take-rest c.loop-i.i c.args.old.now)
+    (old-unused c.args.old.now c.args.end.now c.in-Some.mark.now c.loop-i.i c.index-old-i.result c.requires.run c.requires.old_trace.distinct c.loop-i-test.true c.index-old-i.is c.in-Some.ensures)
+
+-- the edited trace ends with the operations of the rest of the old run
+back : (old : List SegmentView) (ops : List Operation) (a b i at x : ℕ) → ShareEnd (trace_of old) ops a b → length (trace_of (take i old)) ≡ at → a ≤ at → x ≡ at - a + b → trace_of (drop i old) ≡ drop x ops
+back old ops a b i at x shared place behind there = rest-shared old ops a b i at shared place behind ∙ ap (λ n. drop n ops) (sym there)
+
+pub rejoined-requires-clause-unused : goal.rejoined-requires-clause-unused
+rejoined-requires-clause-unused c =
+    rw (take-rest c.loop-i.i c.args.old.now)
+    (new-unused c.args.ops.now.ops c.in_ok-front.front.at c.in_ok-front.front.segments.items (drop c.loop-i.i c.args.old.now) c.in_ok-front.front.heap c.in_ok-front.ensures.front c.requires.trace.distinct
+    (back c.args.old.now c.args.ops.now.ops c.args.a c.args.b c.loop-i.i c.loop-i.at c.in_ok-front.front.at c.requires.shared c.loop-i.invariant.beside.place c.if-at-a.true c.in_ok-front.ensures.there))
+
+-- where the old run goes on it has the operations that are left
+rest-is : (c : goal.Joined-seen-7) → trace_of c.in-Some-found.rest.items ≡ trace_of (drop c.loop-i.i c.args.old.now)
+rest-is c =
+    let trace : trace_of c.in-Some-found.rest.items ≡ trace_of (take (length c.args.old.now - c.loop-i.i) (drop c.loop-i.i c.args.old.now)) = rw c.in-Some-found.is at c.in_ok-found.ensures.trace in
+    trace ∙ ap trace_of (take-rest c.loop-i.i c.args.old.now)
+
+spliced : (c : goal.Joined-seen-7) → IsSpliced c.args.ops.now.ops (c.in_ok-front.front.segments.items ++ c.in-Some-found.rest.items) c.in-Some-found.end
+spliced c =
+    let run : IsRunFrom c.in_ok-front.front.heap c.in-Some-found.rest.items c.in-Some-found.end = rw c.in-Some-found.is at c.in_ok-found.ensures.run in
+    IsSpliced-rest c.args.ops.now.ops c.in_ok-front.front.at c.in_ok-front.front.segments.items c.in-Some-found.rest.items c.in_ok-front.front.heap c.in-Some-found.end c.in_ok-front.ensures.front
+    (rest-is c ∙ back c.args.old.now c.args.ops.now.ops c.args.a c.args.b c.loop-i.i c.loop-i.at c.in_ok-front.front.at c.requires.shared c.loop-i.invariant.beside.place c.if-at-a.true c.in_ok-front.ensures.there)
+    run
+
+-- the heaps agree where the replay stops
+agreed : (c : goal.Joined-seen-7) → AgreesAt (trace_of c.args.old.now) c.args.ops.now.ops c.args.a c.args.b c.loop-i.at
 agreed c =
     let m : c.in-Some.mark.now ≡ end_from nothing_held (trace_of (take c.loop-i.i c.args.old.now)) = mark-is c.args.old.now c.loop-i.i c.index-old-i.result c.in-Some.mark.now c.requires.run.replay c.loop-i-test.true c.index-old-i.is c.in-Some.ensures in
-    let heap : c.in_ok-front.front.heap ≡ c.in-Some.mark.now = c.in_ok-same.ensures.0 c.if-same.true in
     let there : c.in_ok-front.front.at ≡ c.loop-i.at - c.args.a + c.args.b = c.in_ok-front.ensures.there in
-    let front = c.in_ok-front.ensures.front in
-    ap (end_from nothing_held) (sym (trace_of-front c.args.old.now c.loop-i.i c.loop-i.at c.loop-i.invariant.beside.place)) ∙ sym (heap ∙ m) ∙ front.state ∙ ap (λ x. end_from nothing_held (take x c.args.ops.now.ops)) there
+    let agree : Agree c.in_ok-front.front.heap c.in-Some.mark.now = c.in_ok-found.ensures.answer.0 (ap is_some c.in-Some-found.is) in
+    AgreesAt-here (trace_of c.args.old.now) c.args.ops.now.ops c.args.a c.args.b c.loop-i.at c.in_ok-front.front.heap c.in-Some.mark.now
+    (c.in_ok-front.ensures.front.state ∙ ap (λ x. end_from nothing_held (take x c.args.ops.now.ops)) there) (m ∙ ap (end_from nothing_held) (trace_of-front c.args.old.now c.loop-i.i c.loop-i.at c.loop-i.invariant.beside.place)) agree
 
-spliced : (c : goal.In_ok-share) → IsSpliced c.args.ops.now.ops c.in_ok-segments.segments.items c.in_ok-share.field-0
-spliced c = rw (c.in_ok-segments.ensures, take-rest c.loop-i.i c.args.old.now, c.in_ok-share.ensures) (spliced-raw c)
+pub returns-in-Some-found-clause-run : goal.returns-in-Some-found-clause-run
+returns-in-Some-found-clause-run c = rw c.in_ok-spliced.ensures (spliced c).run
 
-pub returns-then-same-clause-marks : goal.returns-then-same-clause-marks
-returns-then-same-clause-marks c =
+pub returns-in-Some-found-clause-trace : goal.returns-in-Some-found-clause-trace
+returns-in-Some-found-clause-trace c = rw c.in_ok-spliced.ensures (spliced c).trace
+
+pub returns-in-Some-found-clause-marks : goal.returns-in-Some-found-clause-marks
+returns-in-Some-found-clause-marks c =
+    let old : List SegmentView = c.args.old.now in
+    let front : List SegmentView = c.in_ok-front.front.segments.items in
     let there : c.in_ok-front.front.at ≡ c.loop-i.at - c.args.a + c.args.b = c.in_ok-front.ensures.there in
     let laid : AreLaid (all_marks c.args.old.now) (marks_from 0 c.args.front.segments.items) c.args.front.at (c.loop-i.at - c.args.a + c.args.b) (marks_from 0 c.in_ok-front.front.segments.items) =
     subst (λ x. AreLaid (all_marks c.args.old.now) (marks_from 0 c.args.front.segments.items) c.args.front.at x (marks_from 0 c.in_ok-front.front.segments.items)) there (c.in_ok-front.ensures.marks _ _ c.loop-i.invariant.laid) in
-    rw (c.in_ok-segments.ensures, take-rest c.loop-i.i c.args.old.now)
+    let marks : (at : ℕ) → marks_from at c.in-Some-found.rest.items ≡ marks_from at (take (length c.args.old.now - c.loop-i.i) (drop c.loop-i.i c.args.old.now)) = rw c.in-Some-found.is at c.in_ok-found.ensures.marks in
+    let alike : all_marks (front ++ c.in-Some-found.rest.items) ≡ all_marks (front ++ drop c.loop-i.i old) =
+    all_marks-rest front c.in-Some-found.rest.items (drop c.loop-i.i old) (rest-is c) (λ at. marks at ∙ ap (marks_from at) (take-rest c.loop-i.i c.args.old.now)) in
+    let trace : trace_of (front ++ drop c.loop-i.i old) ≡ c.args.ops.now.ops =
+    trace_of-append front (drop c.loop-i.i old) ∙ ap (λ t. trace_of front ++ t) (sym (rest-is c)) ∙ sym (trace_of-append front c.in-Some-found.rest.items) ∙ (spliced c).trace in
+    rw (c.in_ok-spliced.ensures, alike)
     (AreMarksOf-stop c.args.old.now c.in_ok-front.front.segments.items c.args.ops.now.ops (marks_from 0 c.args.front.segments.items) c.args.a c.args.b c.loop-i.i c.loop-i.at c.args.front.at c.index-old-i.result
     c.requires.run.full c.requires.shared c.loop-i-test.true c.index-old-i.is c.in-Some.mark.now (sym c.in-Some.ensures) c.loop-i.invariant.beside.place c.if-at-a.true
     (agreed c) (least-agreeing _ _ _ _ _ _ _ _ _ _ _ _ c.loop-i.invariant.beside)
-    (IsReached-length _ _ _ _ c.in_ok-front.ensures.front ∙ there) ((spliced-raw c).trace) laid)
+    (IsReached-length _ _ _ _ c.in_ok-front.ensures.front ∙ there) trace laid)
+
+pub returns-in-Some-found-clause-stepped : goal.returns-in-Some-found-clause-stepped
+returns-in-Some-found-clause-stepped c =
+    AreStepped-stop (trace_of c.args.old.now) c.args.ops.now.ops (all_marks c.args.old.now) c.args.a c.args.b c.args.front.at c.in_ok-front.front.at c.loop-i.at c.args.meter.now _ c.in_ok-front.ensures.there
+    (mark-there c.args.old.now c.loop-i.i c.loop-i.at c.index-old-i.result c.in-Some.mark.now c.loop-i-test.true c.index-old-i.is (sym c.in-Some.ensures) c.loop-i.invariant.beside.place)
+    c.if-at-a.true (agreed c) (c.in_ok-front.ensures.stepped _ _ c.loop-i.invariant.stepped)
+
+place-end : (old : List SegmentView) (i at : ℕ) → length old ≤ i → i ≤ length old → length (trace_of (take i old)) ≡ at → at ≡ length (trace_of old)
+place-end old i at ge le e = let n : i ≡ length old = omega arith in sym e ∙ ap (λ j. length (trace_of (take j old))) n ∙ ap (λ ss. length (trace_of ss)) (take-length old)
 
 pub returns-clause-marks : goal.returns-clause-marks
 returns-clause-marks c =
@@ -108,12 +153,6 @@ returns-clause-marks c =
     omega arith)
     ((IsSpliced-end c.args.ops.now.ops c.in_ok-front-2.front.at c.in_ok-front-2.front.segments.items c.in_ok-front-2.front.heap c.in_ok-front-2.ensures.front there).trace) laid
 
-pub returns-then-same-clause-stepped : goal.returns-then-same-clause-stepped
-returns-then-same-clause-stepped c =
-    AreStepped-stop (trace_of c.args.old.now) c.args.ops.now.ops (all_marks c.args.old.now) c.args.a c.args.b c.args.front.at c.in_ok-front.front.at c.loop-i.at c.args.meter.now _ c.in_ok-front.ensures.there
-    (mark-there c.args.old.now c.loop-i.i c.loop-i.at c.index-old-i.result c.in-Some.mark.now c.loop-i-test.true c.index-old-i.is (sym c.in-Some.ensures) c.loop-i.invariant.beside.place)
-    c.if-at-a.true (agreed c) (c.in_ok-front.ensures.stepped _ _ c.loop-i.invariant.stepped)
-
 pub returns-clause-stepped : goal.returns-clause-stepped
 returns-clause-stepped c =
     AreStepped-end (trace_of c.args.old.now) c.args.ops.now.ops (all_marks c.args.old.now) c.args.a c.args.b c.args.front.at c.in_ok-front-2.front.at c.args.meter.now _ (c.in_ok-front-2.ensures.there ∙ c.len.ensures)
@@ -126,12 +165,6 @@ loop-i-init c = record {
   never_less = omega arith;
   laid = AreLaid-none (all_marks c.args.old.now) (marks_from 0 c.args.front.segments.items) c.args.front.at;
 }
-
-pub returns-then-same-clause-run : goal.returns-then-same-clause-run
-returns-then-same-clause-run c = (spliced c).run
-
-pub returns-then-same-clause-trace : goal.returns-then-same-clause-trace
-returns-then-same-clause-trace c = (spliced c).trace
 
 pub returns-in_err-front-2-clause-bound : goal.returns-in_err-front-2-clause-bound
 returns-in_err-front-2-clause-bound c =
@@ -151,7 +184,7 @@ pub loop-i-preserved : goal.loop-i-preserved
 loop-i-preserved c =
     let old = c.args.old.now in
     elim c.if-at-a.branch [
-      | then-at-a+in-Some+in_ok-front+in_ok-same+else-same w ↦
+      | then-at-a+in-Some+in_ok-front+in_ok-found+in_default-found w ↦
           let m : w.in-Some.mark.now ≡ end_from nothing_held (trace_of (take c.loop-i.i c.args.old.now)) = mark-is c.args.old.now c.loop-i.i c.index-old-i.result w.in-Some.mark.now c.requires.run.replay c.loop-i-test.true c.index-old-i.is w.in-Some.ensures in
           let there : w.in_ok-front.front.at ≡ c.loop-i.at - c.args.a + c.args.b = w.in_ok-front.ensures.there in
           let front = w.in_ok-front.ensures.front in
@@ -161,9 +194,9 @@ loop-i-preserved c =
             beside = IsBeside-next c.args.old.now c.args.ops.now.ops c.args.a c.args.b c.args.front.at c.args.meter.now c.loop-i.i c.loop-i.at c.loop-i.front.at c.loop-i.front.segments.items c.loop-i.front.heap c.loop-i.meter
                 w.in_ok-front.front.at w.in_ok-front.front.segments.items w.in_ok-front.front.heap w.advance.new.meter c.index-old-i.result c.loop-i.invariant.beside c.loop-i-test.true c.index-old-i.is front (omega arith) (omega (arith, c.loop-i.invariant.beside.rise, rise))
                 (λ marked behind agrees.
-                let same : w.in_ok-front.front.heap ≡ w.in-Some.mark.now = front.state ∙ ap (λ x. end_from nothing_held (take x c.args.ops.now.ops)) there ∙ sym agrees ∙ ap (end_from nothing_held) (sym (trace_of-front c.args.old.now c.loop-i.i c.loop-i.at c.loop-i.invariant.beside.place)) ∙ sym m in
-                let t : w.in_ok-same.same ≡ true = w.in_ok-same.ensures.1 same in
-                let f : w.in_ok-same.same ≡ false = w.if-same.false in
+                let agree : Agree w.in_ok-front.front.heap w.in-Some.mark.now = AgreesAt-there (trace_of c.args.old.now) c.args.ops.now.ops c.args.a c.args.b c.loop-i.at w.in_ok-front.front.heap w.in-Some.mark.now (front.state ∙ ap (λ x. end_from nothing_held (take x c.args.ops.now.ops)) there) (m ∙ ap (end_from nothing_held) (trace_of-front c.args.old.now c.loop-i.i c.loop-i.at c.loop-i.invariant.beside.place)) agrees in
+                let t : is_some w.in_ok-found.found ≡ true = w.in_ok-found.ensures.answer.1 agree in
+                let f : is_some w.in_ok-found.found ≡ false = ap is_some w.in_default-found.is in
                 cc);
             stepped = w.in_ok-front.ensures.stepped _ _ c.loop-i.invariant.stepped;
             never_less = omega (arith, c.loop-i.invariant.never_less, w.advance.ensures.never_less);

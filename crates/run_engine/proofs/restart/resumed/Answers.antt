@@ -1,5 +1,4 @@
 use Rattle.std.proofs.Common.{◌≡◌, ◌-◌, length, take, sym, subst}
-use Rattle.ownership_model.proofs.LawsHold.{soundness}
 use Rattle.run_engine.specs.Segments.{all_marks}
 use Rattle.run_engine.specs.Bounds.{StepsAtMost}
 use Rattle.run_engine.specs.Steps.{AreStepped}
@@ -13,9 +12,6 @@ pub converge-requires-clause-front : goal.converge-requires-clause-front
 converge-requires-clause-front c =
     IsReached-restart c.args.segments.now c.in_ok-front.front.segments.items c.args.end.now c.in_ok-front.front.heap c.args.ops.now.ops c.head-first.result _ c.in_ok-front.front.at
     c.requires.run c.in_ok-front.ensures.kept c.in_ok-front.ensures.segments (subst (λ t. take c.head-first.result t ≡ take c.head-first.result c.args.ops.now.ops) c.requires.base c.head-first.ensures.same) c.head-first.ensures.within
-
-pub converge-requires-clause-new : goal.converge-requires-clause-new
-converge-requires-clause-new c = soundness.are_new c.args.ops.now.ops c.requires.trace.distinct
 
 pub converge-requires-clause-shared : goal.converge-requires-clause-shared
 converge-requires-clause-shared c =

@@ -1,0 +1,39 @@
+use Rattle.std.proofs.Common.{◌≡◌, ap, ◌∙◌}
+use Rattle.run_engine.specs.Segments.{trace_of, marks_from}
+use Rattle.agreement.specs.Meeting.{AgreeBut}
+use Rattle.run_engine.proofs.RejoinLemmas.{GoOnAlike, exchangeable, IsRunFrom-exchanged, end-exchangeable, trace_of-exchanged, marks_from-exchanged}
+use Rattle.run_engine.proofs.rejoin.rejoined.Goals as goal
+
+pub exchanged_segments-requires : goal.exchanged_segments-requires
+exchanged_segments-requires c =
+    let agree : AgreeBut c.args.heap.now c.args.mark.now c.in-Alike.remains = rw c.in-Alike.is at c.in_ok-meet.ensures in
+    let alike : GoOnAlike c.args.heap.now c.args.mark.now c.in-Alike.remains (trace_of c.args.rest.now) =
+    record { agree = agree; distinct = c.requires.distinct; unused = c.requires.unused; old_unused = c.requires.old_unused } in
+    exchangeable c.args.heap.now c.args.mark.now c.in-Alike.remains c.args.rest.now alike c.requires.run.replay
+
+pub patch-requires-clause-there : goal.patch-requires-clause-there
+patch-requires-clause-there c =
+    let agree : AgreeBut c.args.heap.now c.args.mark.now c.in-Alike.remains = rw c.in-Alike.is at c.in_ok-meet.ensures in
+    let alike : GoOnAlike c.args.heap.now c.args.mark.now c.in-Alike.remains (trace_of c.args.rest.now) =
+    record { agree = agree; distinct = c.requires.distinct; unused = c.requires.unused; old_unused = c.requires.old_unused } in
+    (end-exchangeable c.args.heap.now c.args.mark.now c.in-Alike.remains c.args.rest.now c.args.end.now alike c.requires.run).there
+
+pub patch-requires-clause-sound : goal.patch-requires-clause-sound
+patch-requires-clause-sound c =
+    let agree : AgreeBut c.args.heap.now c.args.mark.now c.in-Alike.remains = rw c.in-Alike.is at c.in_ok-meet.ensures in
+    let alike : GoOnAlike c.args.heap.now c.args.mark.now c.in-Alike.remains (trace_of c.args.rest.now) =
+    record { agree = agree; distinct = c.requires.distinct; unused = c.requires.unused; old_unused = c.requires.old_unused } in
+    (end-exchangeable c.args.heap.now c.args.mark.now c.in-Alike.remains c.args.rest.now c.args.end.now alike c.requires.run).sound
+
+pub returns-in_ok-patch-in-Alike-clause-run : goal.returns-in_ok-patch-in-Alike-clause-run
+returns-in_ok-patch-in-Alike-clause-run c =
+    let agree : AgreeBut c.args.heap.now c.args.mark.now c.in-Alike.remains = rw c.in-Alike.is at c.in_ok-meet.ensures in
+    let alike : GoOnAlike c.args.heap.now c.args.mark.now c.in-Alike.remains (trace_of c.args.rest.now) =
+    record { agree = agree; distinct = c.requires.distinct; unused = c.requires.unused; old_unused = c.requires.old_unused } in
+    rw (c.in_ok-segments-in-Alike.ensures, c.in_ok-patch-in-Alike.ensures) (IsRunFrom-exchanged c.args.heap.now c.args.mark.now c.in-Alike.remains c.args.rest.now c.args.end.now alike c.requires.run)
+
+pub returns-in_ok-patch-in-Alike-clause-trace : goal.returns-in_ok-patch-in-Alike-clause-trace
+returns-in_ok-patch-in-Alike-clause-trace c = ap trace_of c.in_ok-segments-in-Alike.ensures ∙ trace_of-exchanged c.in-Alike.remains c.args.rest.now
+
+pub returns-in_ok-patch-in-Alike-clause-marks : goal.returns-in_ok-patch-in-Alike-clause-marks
+returns-in_ok-patch-in-Alike-clause-marks c at = ap (marks_from at) c.in_ok-segments-in-Alike.ensures ∙ marks_from-exchanged c.in-Alike.remains at c.args.rest.now

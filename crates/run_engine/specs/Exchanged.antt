@@ -1,0 +1,22 @@
+-- Segments of an old run with the remains of two replays exchanged (for private functions alone).
+use Rattle.std.specs.Prelude.{List, [], IfSome, option_map}
+use Rattle.std.specs.List.{AllByRecursion}
+use Rattle.ownership_model.specs.State.{State, IsSound}
+use Rattle.ownership_model.specs.Patch.{Remains, patched, AreThere}
+use Rattle.run_engine.specs.SegmentView.{SegmentView}
+
+-- the segment, where the checkpoint, if it is kept, is patched
+abbrev pub exchanged : Remains → SegmentView → SegmentView
+exchanged x s = record s { mark = option_map (λ m. patched m x) s.mark }
+
+-- the state can be patched: what is to go is there as it was, and what comes leaves a sound state
+pub record CanExchange (x : Remains) (m : State) : Type 0 where
+  pub sound : IsSound (patched m x) []
+  pub there : AreThere m x
+
+-- so can the checkpoint, if it is kept
+abbrev pub IsExchangeable : Remains → SegmentView → Type 0
+IsExchangeable x s = IfSome s.mark (CanExchange x)
+
+abbrev pub AreExchangeable : Remains → List SegmentView → Type 0
+AreExchangeable x segments = AllByRecursion (IsExchangeable x) segments
