@@ -1,5 +1,4 @@
 //! What `whatif` and `script` write.
-use crate::replay::many_nulls;
 use command_serve::exits::Exit;
 use command_serve::script::serve_script;
 use command_serve::whatif::serve_whatif;
@@ -108,19 +107,4 @@ fn script_tells_the_fault(rt: HostRuntime) {
     let input = b"{\"id\":1,\"t\":0,\"op\":\"new\",\"to\":0,\"fields\":[]}\n--\n{\"base\":0}\n";
     let text = "fault line 3 Missing\n";
     expect(&rt, script(rt.alloc(), input), Exit::Trace, text);
-}
-
-#[test]
-fn full_trace_takes_no_operation_more(rt: HostRuntime) -> Result<(), Fail> {
-    let alloc = rt.alloc();
-    let mut input = many_nulls(alloc, 65_536)?;
-    input.push_str(
-        "--\n{\"base\":0,\"session\":0,\"edits\":[{\"edit\":\"insert\",\"after\":0,\"op\":{\"id\":65537,\"t\":0,\"op\":\"null\",\"to\":0}}]}\n",
-    )?;
-    let (exit, output) = script(alloc, input.as_bytes());
-    assert!(rt; exit == Exit::Fine);
-    let reply = b"refused TooMany 0\n";
-    let (front, _report) = output.as_slice().split_at(reply.len().min(output.len()));
-    assert!(rt; front == reply.as_slice());
-    Ok(())
 }

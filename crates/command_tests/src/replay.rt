@@ -5,7 +5,6 @@ use std::alloc::{AllocError, Global};
 use std::process::Abort;
 use std::test::Fail;
 use trace_types::devices::{Failed, Sink, Source, StdSink, StdSource};
-use trace_types::limits::{MAX_NAME, MAX_OPS};
 
 const TRACE: &[u8] = b"{\"id\":1,\"t\":0,\"op\":\"new\",\"to\":0,\"fields\":[]}
 {\"id\":2,\"t\":1,\"op\":\"clone\",\"from\":0,\"to\":1}
@@ -229,31 +228,6 @@ fn a_source_that_never_ends(rt: HostRuntime) {
     drop(sink);
     assert!(rt; exit == Exit::Trace);
     assert!(rt; output.as_slice() == b"fault input TooLong\n".as_slice());
-}
-
-/// A trace of so many operations, one line each.
-pub fn many_nulls(alloc: Global, count: u32) -> Result<String, AllocError> {
-    let mut text = String::new(alloc);
-    for id in 1..count.saturating_add(1) {
-        let to = id % (MAX_NAME + 1);
-        write!(
-            &mut text,
-            "{{\"id\":{id},\"t\":0,\"op\":\"null\",\"to\":{to}}}\n"
-        )?;
-    }
-    Ok(text)
-}
-
-#[test]
-fn as_many_operations_as_there_may_be(rt: HostRuntime) -> Result<(), Fail> {
-    let most = MAX_OPS as u32;
-    let full = many_nulls(rt.alloc(), most)?;
-    let (exit, _) = served(rt.alloc(), full.as_bytes());
-    assert!(rt; exit == Exit::Fine);
-    let more = many_nulls(rt.alloc(), most + 1)?;
-    let fault = format!(in rt.alloc(); "fault line {} TooMany\n", most + 1)?;
-    expect(&rt, more.as_bytes(), Exit::Trace, fault.as_str());
-    Ok(())
 }
 
 fn chain_trace(alloc: Global, objects: u32) -> Result<String, AllocError> {

@@ -91,7 +91,7 @@ impl Desk {
     /// How many requests were answered and stored.
     pub fn len(&self) -> usize
         ensures length { result ≡ length self.now.standing.history }
-        ensures most { result ≤ 1000000 }
+        ensures most { result ≤ MAX_ENTRIES }
     {
         self.history.len()
     }

@@ -10,6 +10,8 @@ mod heap;
 #[cfg(test)]
 mod leaks;
 #[cfg(test)]
+mod limits;
+#[cfg(test)]
 mod plain;
 #[cfg(test)]
 mod reports;

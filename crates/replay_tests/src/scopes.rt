@@ -11,7 +11,7 @@ use std::test::Fail;
 use trace_reader::read_trace;
 use trace_types::edits::Edit;
 use trace_types::kinds::{Field, Kind};
-use trace_types::limits::MAX_OPS;
+use trace_types::limits::MAX_THREAD;
 use trace_types::ops::Op;
 use trace_types::outcomes::{Answer, Event, Verdict};
 use trace_types::sequence::Sequence;
@@ -296,19 +296,19 @@ fn scope_of_many_handles(rt: HostRuntime) -> Result<(), Fail> {
     Ok(())
 }
 
-// As many labels as a trace has room for beside one end of a scope.
+// A handle in the scope of each label there may be.
 #[test]
 fn scope_of_one_label_among_many(rt: HostRuntime) -> Result<(), Fail> {
     let alloc = rt.alloc();
     let mut trace = Trace::new(alloc);
-    for label in 1u32..=65_535 {
-        add(&mut trace, label, label, made(alloc, label))?;
+    for label in 0..=MAX_THREAD {
+        add(&mut trace, label + 1, label, made(alloc, label))?;
     }
-    add(&mut trace, 65_536, 65_535, Kind::ScopeEnd)?;
-    assert_eq!(rt; trace.len(), MAX_OPS);
-    let gone = [Event::Destroyed(65_535), Event::Freed(65_535)];
+    let last = MAX_THREAD + 1;
+    add(&mut trace, last + 1, MAX_THREAD, Kind::ScopeEnd)?;
+    let gone = [Event::Destroyed(last), Event::Freed(last)];
     let left = assert_last(&rt, alloc, &trace, &gone)?;
-    assert_eq!(rt; left, 65_534);
+    assert_eq!(rt; left, MAX_THREAD as usize);
     Ok(())
 }
 

@@ -39,6 +39,10 @@ Neat n xs = V xs × (length xs ≤ n)
 Neat-number : (n : ℕ) → n ≤ MAX_ID → Neat 9 (decimal n)
 Neat-number n h = (V-decimal n (omega arith), length-decimal-le 9 n (omega arith) (omega arith) (omega arith))
 
+-- how long the quoted name of a member may be
+abbrev max_key : ℕ
+max_key = 20
+
 -- how long the value of a member may be, with room to spare: that of `fields` is the longest
 abbrev max_member : ℕ
 max_member = 10 * MAX_FIELDS + 10
@@ -50,13 +54,13 @@ max_members = 6
 -- the parts of the members are neat
 abbrev AreNeat : Members → Type 0
 AreNeat no_members = Unit {0}
-AreNeat (member k d ms) = Neat 20 (quoted k) × Neat max_member (compact_text d) × AreNeat ms
+AreNeat (member k d ms) = Neat max_key (quoted k) × Neat max_member (compact_text d) × AreNeat ms
 
 abbrev count : Members → ℕ
 count no_members = 0
 count (member k d ms) = suc (count ms)
 
-Neat-members : (later : Bool) (ms : Members) → AreNeat ms → Neat ((max_member + 22) * count ms + 1) (members_text later ms)
+Neat-members : (later : Bool) (ms : Members) → AreNeat ms → Neat ((max_key + max_member + 2) * count ms + 1) (members_text later ms)
 Neat-members later no_members h = (refl, omega arith)
 Neat-members true (member k d ms) h =
     let r = Neat-members true ms h.2 in (

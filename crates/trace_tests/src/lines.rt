@@ -4,7 +4,7 @@ use std::fmt::Write;
 use std::test::Fail;
 use trace_reader::{fault_line, read_op, read_script, read_trace, write_line, write_trace};
 use trace_types::edits::Edit;
-use trace_types::limits::MAX_LINE;
+use trace_types::limits::{MAX_FIELDS, MAX_INDEX, MAX_LINE};
 
 // What is said of a text: its fault's line, or `read`.
 fn told(rt: &HostRuntime, text: &[u8]) -> Result<String, Fail> {
@@ -98,18 +98,59 @@ fn fields_of_a_new_object(rt: HostRuntime) -> Result<(), Fail> {
         ("new_cyclic", "[\"you\"]", "fault line 1 WrongType\n"),
         ("new", "[1000000,true]", "fault line 1 OutOfRange\n"),
         ("new", "[true,1000000]", "fault line 1 WrongType\n"),
-        ("new", "[0,1,2,3,4,5,6,7,8,9,10,11,12,13,14,15]", "read\n"),
-        (
-            "new",
-            "[true,1,2,3,4,5,6,7,8,9,10,11,12,13,14,15,16]",
-            "fault line 1 OutOfRange\n",
-        ),
     ];
     for (name, fields, wanted) in table.iter() {
         let line = format!(in rt.alloc();
             "{{\"id\":1,\"t\":0,\"op\":\"{name}\",\"to\":99,\"fields\":{fields}}}"
         )?;
         assert_eq!(rt; told(&rt, line.as_bytes())?.as_str(), *wanted);
+    }
+    Ok(())
+}
+
+// A new object with so many fields: the first is given, and all others are null.
+fn with_fields(rt: &HostRuntime, first: &str, count: usize) -> Result<String, Fail> {
+    let mut line = format!(in rt.alloc();
+        "{{\"id\":1,\"t\":0,\"op\":\"new\",\"to\":0,\"fields\":[{first}"
+    )?;
+    for _ in 1..count {
+        line.push_str(",null")?;
+    }
+    line.push_str("]}")?;
+    Ok(line)
+}
+
+#[test]
+fn as_many_fields_as_there_may_be(rt: HostRuntime) -> Result<(), Fail> {
+    // Of too many fields the length is told, and no element.
+    let table = [
+        ("null", MAX_FIELDS, "read\n"),
+        ("true", MAX_FIELDS, "fault line 1 WrongType\n"),
+        ("null", MAX_FIELDS + 1, "fault line 1 OutOfRange\n"),
+        ("true", MAX_FIELDS + 1, "fault line 1 OutOfRange\n"),
+    ];
+    for (first, count, wanted) in table {
+        let line = with_fields(&rt, first, count)?;
+        assert_eq!(rt; told(&rt, line.as_bytes())?.as_str(), wanted);
+    }
+    Ok(())
+}
+
+#[test]
+fn greatest_field_number(rt: HostRuntime) -> Result<(), Fail> {
+    let members = [
+        "\"set\",\"from\":1",
+        "\"take\",\"to\":1",
+        "\"get\",\"to\":1",
+    ];
+    for (i, wanted) in [
+        (MAX_INDEX, "read\n"),
+        (MAX_INDEX + 1, "fault line 1 OutOfRange\n"),
+    ] {
+        for op in members {
+            let line = format!(in rt.alloc(); "{{\"id\":1,\"t\":0,\"h\":0,\"i\":{i},\"op\":{op}}}")?;
+            assert_eq!(rt; told(&rt, line.as_bytes())?.as_str(), wanted);
+        }
     }
     Ok(())
 }

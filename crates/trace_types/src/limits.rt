@@ -15,13 +15,13 @@ pub const MAX_ID: u32 = 999_999_999;
 pub const MAX_THREAD: u32 = 65_535;
 
 /// How many fields a value may have.
-pub const MAX_FIELDS: usize = 16;
+pub const MAX_FIELDS: usize = 64;
 
 /// The greatest number of a field; the first is 0.
 pub const MAX_INDEX: u32 = MAX_FIELDS as u32 - 1;
 
 /// How many operations a trace may have.
-pub const MAX_OPS: usize = 65_536;
+pub const MAX_OPS: usize = 1_000_000;
 
 /// How many edits a batch may have.
 pub const MAX_EDITS: usize = 64;
@@ -42,7 +42,7 @@ pub const MAX_WORKERS: u32 = 16;
 pub const MAX_LINE: usize = 4_096;
 
 /// How many bytes an input may have.
-pub const MAX_INPUT: usize = 300_000_000;
+pub const MAX_INPUT: usize = 1_000_000_000;
 
 fn is_field(field: Field) -> bool
     ensures { result ≡ Limits.is_field field }
