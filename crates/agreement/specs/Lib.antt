@@ -1,3 +1,4 @@
 pub mod RemainsCode
 pub mod Agreement
 pub mod Gathering
+pub mod Trimmed

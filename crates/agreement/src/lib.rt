@@ -1,8 +1,10 @@
-//! When the replay of an edited trace may stop: the heap agrees with the old one on all that can be reached.
+//! When the replay of an edited trace may stop: the heap agrees with the old one on all that can be reached, and each later heap is the
+//! old one with the rest exchanged.
 #![tactic(auto)]
 
 pub mod agree;
 mod differing;
+mod exchange;
 pub mod remains;
 pub mod search;
 pub mod trail;
