@@ -2,3 +2,4 @@ pub mod RemainsCode
 pub mod Agreement
 pub mod Gathering
 pub mod Trimmed
+pub mod Pending

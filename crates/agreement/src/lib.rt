@@ -3,10 +3,12 @@
 #![tactic(auto)]
 
 pub mod agree;
+pub mod checkpoint;
 mod differing;
 mod exchange;
 pub mod remains;
 pub mod search;
 pub mod trail;
 
+pub use checkpoint::Checkpoint;
 pub use remains::Remains;
