@@ -18,6 +18,7 @@ use Rattle.ownership_model.proofs.LawsHold.{agreement, reach}
 use Rattle.object_heap.specs.Exchange.{AreWithinLimits}
 use Rattle.agreement.specs.Agreement.{Agree, AreRemains, is_apart}
 use Rattle.agreement.specs.Gathering.{AgreeOn}
+use Rattle.agreement.proofs.TrimmingLemmas.{cut_fits}
 
 pub neither : (b : Bool) → b ≡ false → b ≡ true → false ≡ true
 neither b p t = sym p ∙ t
@@ -48,10 +49,6 @@ module _ (k : ℕ → Bool) (new old : State) (is_reach : IsReach StrongOrWeak n
 entry_fits : (m : State) (q : ℕ) (x : Option Entry) → ObjectFits q x → ObjectFits q (entry_of (remaining_at m q x))
 entry_fits m q None f = tt
 entry_fits m q (Some e) f = f
-
-cut_fits : (b : Bool) (q : ℕ) (x : Option Remaining) → ObjectFits q (entry_of x) → ObjectFits q (entry_of (if b then None else x))
-cut_fits true q x f = tt
-cut_fits false q x f = f
 
 -- what is left of a heap is within its limits
 pub rest_within : (k : ℕ → Bool) (m : State) (rest : FinMap nat_cmp Remaining) → IsBounded m → ((q : ℕ) → get rest q ≡ (if k q then None else remaining_at m q (get m.objects q))) → AreWithinLimits rest

@@ -1,2 +1,3 @@
 pub mod GatheringLemmas
+pub mod TrimmingLemmas
 pub mod AgreeLemmas

@@ -1,4 +1,6 @@
 pub mod RemainsCode
 pub mod Agreement
 pub mod Gathering
+pub mod Trimmed
+pub mod Pending
 pub mod Meeting

@@ -35,7 +35,8 @@ pub fn agree(alloc: Global, new: &Heap, old: &Heap) -> Result<Option<Remains>, A
     }
     let removed = unreached(alloc, old, &reached)?;
     let added = unreached(alloc, new, &reached)?;
-    Ok(Some(Remains::new(removed, added)))
+    let remains = Remains::new(alloc, removed, added)?;
+    Ok(Some(remains))
 }
 
 fn agree_on(new: &Heap, old: &Heap, objects: &BTreeSet<u32>) -> bool

@@ -1,10 +1,14 @@
-//! When the replay of an edited trace may stop: the heap agrees with the old one on all that can be reached.
+//! When the replay of an edited trace may stop: the heap agrees with the old one on all that can be reached, and each later heap is the
+//! old one with the rest exchanged.
 #![tactic(auto)]
 
 pub mod agree;
+pub mod checkpoint;
 mod differing;
+mod exchange;
 pub mod remains;
 pub mod search;
 pub mod trail;
 
+pub use checkpoint::Checkpoint;
 pub use remains::Remains;

@@ -1,9 +1,11 @@
 //! What two heaps that agree have for themselves, and a later heap with it exchanged.
-ghost use Rattle.std.specs.Prelude.{◌≡◌, [], IfOk};
-ghost use Rattle.ownership_model.specs.State.{IsSound};
+ghost use Rattle.std.specs.Prelude.{◌≡◌, ◌↔◌, [], IfOk, IsTrue};
+ghost use Rattle.ownership_model.specs.State.{State, IsSound};
 ghost use Rattle.ownership_model.specs.Patch.{patched, AreThere};
 ghost use Rattle.object_heap.specs.Exchange.{AreWithinLimits};
+ghost use Rattle.agreement.specs.Trimmed.{AreTheSame};
 
+use crate::exchange::Exchange;
 use object_heap::heap::Heap;
 use ownership_model::remaining::Remaining;
 use share_tree::ShareTree;
@@ -11,59 +13,76 @@ use std::alloc::{AllocError, Global};
 use std::marker::Model;
 
 /// Objects that can't be reached: those of an old heap, which are to go, and those of a new one, which come.
+///
+/// Beside all of them it keeps those that differ, over the same nodes: only these are exchanged.
 #[derive(Drop)]
 pub struct Remains {
-    removed: ShareTree<Remaining>,
-    added: ShareTree<Remaining>,
+    all: Exchange,
+    differing: Exchange,
 }
 
 impl Model for Remains {
     ghost use Rattle.ownership_model.specs.Patch as patch;
-    ghost use Rattle.object_heap.specs.Exchange.{AreWithinLimits};
     ghost use Rattle.agreement.specs.RemainsCode.{remains_code};
+    ghost use Rattle.agreement.specs.Trimmed.{IsKept};
 
     ghost Value = { patch.Remains };
 
     ghost coded = { remains_code };
 
-    ghost view = { λ r. record { removed = r.removed; added = r.added } };
+    ghost view = { λ r. r.all };
 
-    ghost invariant = { λ r. AreWithinLimits r.added };
+    ghost invariant = { λ r. IsKept r.all r.differing };
 }
 
 impl Remains {
     /// What of an old heap is to go, and what comes in its place.
-    pub fn new(removed: ShareTree<Remaining>, added: ShareTree<Remaining>) -> Remains
+    pub fn new(
+        alloc: Global,
+        removed: ShareTree<Remaining>,
+        added: ShareTree<Remaining>,
+    ) -> Result<Remains, AllocError>
         requires { AreWithinLimits added }
-        ensures { result ≡ record { removed = removed; added = added } }
+        ensures { IfOk result (λ r. r ≡ record { removed = removed; added = added }) }
     {
-        Remains { removed, added }
+        let all = Exchange::new(removed, added);
+        let differing = all.trimmed(alloc)?;
+        Ok(Remains { all, differing })
     }
 
     /// The objects of the old heap that can't be reached, with their counts.
     pub fn removed(&self) -> &ShareTree<Remaining>
         ensures { result.now ≡ self.now.removed }
     {
-        &self.removed
+        self.all.removed()
     }
 
     /// The objects of the new heap that can't be reached, with their counts.
     pub fn added(&self) -> &ShareTree<Remaining>
         ensures { result.now ≡ self.now.added }
     {
-        &self.added
+        self.all.added()
+    }
+
+    /// Whether what is to go and what comes are the same objects. Then a patch gives the same heap again.
+    pub fn changes_nothing(&self) -> bool
+        ensures answer { IsTrue result ↔ AreTheSame self.now }
+        ensures patch { IsTrue result → (m : State) → AreThere m self.now → patched m self.now ≡ m }
+    {
+        self.differing.is_nothing()
     }
 }
 
 /// A later heap of the old replay, made one of the new replay. The later heap stays as it is.
 ///
-/// The work is that of the remains, and not of the heap: what stays is shared.
+/// The work is that of what differs in the remains, and not of the heap: what stays is shared. Where nothing differs the heap is
+/// shared as it is, and no memory is taken.
 pub fn patch(alloc: Global, later: &Heap, remains: &Remains) -> Result<Heap, AllocError>
     requires sound { IsSound (patched later.now remains.now) [] }
     requires there { AreThere later.now remains.now }
     ensures { IfOk result (λ h. h ≡ patched later.now remains.now) }
 {
-    later
-        .share()?
-        .exchanged(alloc, &remains.removed, &remains.added)
+    let shared = later.share()?;
+    let differing = &remains.differing;
+    shared.exchanged(alloc, differing.removed(), differing.added())
 }

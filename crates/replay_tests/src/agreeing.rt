@@ -16,7 +16,7 @@ use trace_types::sequence::Sequence;
 use trace_types::slots::{Entry, Slot};
 
 // The heap after these lines, and then after operations up to the last number that make an object and drop it again, by turns.
-fn heap_of(alloc: Global, parts: &[&str], from: u32, to: u32) -> Result<Heap, Fail> {
+pub fn heap_of(alloc: Global, parts: &[&str], from: u32, to: u32) -> Result<Heap, Fail> {
     let mut text = String::new(alloc);
     for part in parts {
         text.push_str(part)?;
@@ -47,7 +47,7 @@ fn made_new(alloc: Global, new: &Heap, old: &Heap) -> Result<Option<Heap>, Alloc
 }
 
 // Two objects that hold each other.
-const CYCLE: &str = "\
+pub const CYCLE: &str = "\
 {\"fields\":[null],\"id\":1,\"op\":\"new\",\"t\":0,\"to\":0}
 {\"fields\":[null],\"id\":2,\"op\":\"new\",\"t\":0,\"to\":1}
 {\"from\":0,\"id\":3,\"op\":\"clone\",\"t\":0,\"to\":2}
@@ -58,11 +58,11 @@ const CYCLE: &str = "\
 ";
 
 // The first of them holds the second no more.
-const BREAK: &str = "\
+pub const BREAK: &str = "\
 {\"from\":4,\"h\":0,\"i\":0,\"id\":8,\"op\":\"set\",\"t\":0}
 ";
 
-const LET_GO: &str = "\
+pub const LET_GO: &str = "\
 {\"h\":4,\"id\":9,\"op\":\"drop\",\"t\":0}
 {\"h\":0,\"id\":10,\"op\":\"drop\",\"t\":0}
 {\"h\":1,\"id\":11,\"op\":\"drop\",\"t\":0}

@@ -6,6 +6,8 @@ mod agreeing;
 #[cfg(test)]
 mod desk;
 #[cfg(test)]
+mod exchanges;
+#[cfg(test)]
 mod heap;
 #[cfg(test)]
 mod leaks;

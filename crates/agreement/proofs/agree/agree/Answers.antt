@@ -20,9 +20,9 @@ returns-clause-answer c = (
 
 pub returns-clause-remains : goal.returns-clause-remains
 returns-clause-remains c =
-    remains_from (λ o. contains nat_cmp c.in_ok-reached.reached o) c.args.new.now c.args.old.now c.in_ok-reached.ensures c.new.result
-    (rw c.new.ensures (record { removed = c.in_ok-removed.ensures; added = c.in_ok-added.ensures }))
+    remains_from (λ o. contains nat_cmp c.in_ok-reached.reached o) c.args.new.now c.args.old.now c.in_ok-reached.ensures c.in_ok-remains.remains
+    (rw c.in_ok-remains.ensures (record { removed = c.in_ok-removed.ensures; added = c.in_ok-added.ensures }))
 
 pub returns-clause-law : goal.returns-clause-law
 returns-clause-law c =
-    replay_alike c.args.new.now c.args.old.now c.new.result c.same_roots.ensures.sound.0 c.same_roots.ensures.sound.1 ((returns-clause-answer c).0 refl) (returns-clause-remains c)
+    replay_alike c.args.new.now c.args.old.now c.in_ok-remains.remains c.same_roots.ensures.sound.0 c.same_roots.ensures.sound.1 ((returns-clause-answer c).0 refl) (returns-clause-remains c)
