@@ -1,7 +1,7 @@
 //! Heaps that agree on what can be reached, what they have for themselves, and trails to differences.
 use agreement::agree::agree;
 use agreement::remains::{Remains, patch};
-use agreement::search::agree_beside;
+use agreement::search::{Meeting, meet};
 use agreement::trail::{Path, Root, Trail, refutes};
 use object_heap::heap::Heap;
 use op_step::meter::Meter;
@@ -36,6 +36,10 @@ pub fn heap_of(alloc: Global, parts: &[&str], from: u32, to: u32) -> Result<Heap
     }
     let (_, end) = replay(alloc, &trace, &mut Meter::new())?;
     Ok(end)
+}
+
+fn is_apart(meeting: &Meeting) -> bool {
+    matches!(meeting, Meeting::Apart)
 }
 
 // The old heap with the remains exchanged, where both agree.
@@ -139,7 +143,7 @@ fn counts_of_reached_objects_differ(rt: HostRuntime) -> Result<(), Fail> {
     assert!(rt; new.same_roots(&old));
     assert!(rt; agree(alloc, &new, &old)?.is_none());
     let mut seen = None;
-    assert!(rt; agree_beside(alloc, &new, &old, &mut seen)?.is_none());
+    assert!(rt; is_apart(&meet(alloc, &new, &old, &mut seen)?));
     let Some(trail) = &seen else {
         return Err(Fail::from("a trail"));
     };
@@ -201,7 +205,7 @@ fn labels_differ(rt: HostRuntime) -> Result<(), Fail> {
     )?;
     assert!(rt; agree(alloc, &new, &old)?.is_none());
     let mut seen = None;
-    assert!(rt; agree_beside(alloc, &new, &old, &mut seen)?.is_none());
+    assert!(rt; is_apart(&meet(alloc, &new, &old, &mut seen)?));
     let Some(trail) = &seen else {
         return Err(Fail::from("a trail"));
     };

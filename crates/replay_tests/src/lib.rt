@@ -14,12 +14,18 @@ mod leaks;
 #[cfg(test)]
 mod limits;
 #[cfg(test)]
+mod meetings;
+#[cfg(test)]
 mod plain;
+#[cfg(test)]
+mod random_edits;
 #[cfg(test)]
 mod reports;
 #[cfg(test)]
 mod runs;
 #[cfg(test)]
 mod scopes;
+#[cfg(test)]
+mod small_traces;
 #[cfg(test)]
 mod steps;

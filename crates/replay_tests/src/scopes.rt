@@ -35,17 +35,21 @@ fn end_of(alloc: Global, lines: &str) -> Result<Heap, Fail> {
     Ok(end)
 }
 
-// The report of the run of a trace, where one operation has become another.
-fn reported_with(alloc: Global, trace: &Trace, changed: Op) -> Result<String, Fail> {
-    let mut meter = Meter::new();
-    let run = Run::load(alloc, trace, &mut meter)?;
+// The report of the run of a trace, where one operation has become another. The meter counts what this edit steps.
+fn reported_with(
+    alloc: Global,
+    trace: &Trace,
+    changed: Op,
+    meter: &mut Meter,
+) -> Result<String, Fail> {
+    let run = Run::load(alloc, trace, &mut Meter::new())?;
     let mut batch = Sequence::empty(alloc);
     batch.push(Edit::Change {
         id: changed.id(),
         op: changed,
     })?;
     let edited = run
-        .edited(alloc, &batch, &mut meter)
+        .edited(alloc, &batch, meter)
         .map_err(|_| Fail::from("a refusal"))?;
     let shown = report_of_stretches(alloc, edited.stretches(alloc)?, edited.end())?;
     Ok(text_of(alloc, &shown)?)
@@ -102,7 +106,7 @@ fn scope_end_relabelled(rt: HostRuntime) -> Result<(), Fail> {
     let trace = read_trace(alloc, TWO_LABELS.as_bytes()).map_err(|_| Fail::from("a fault"))?;
     let fields = Sequence::from_vec(Vec::from_slice(alloc, &[Field::Held(2)])?);
     let other = Op::make(5, 1, Kind::New { to: 4, fields }).map_err(|_| Fail::from("limits"))?;
-    let text = reported_with(alloc, &trace, other)?;
+    let text = reported_with(alloc, &trace, other, &mut Meter::new())?;
     assert_eq!(rt;
         text.as_str(),
         "\
@@ -142,7 +146,9 @@ fn scopes_differ(rt: HostRuntime) -> Result<(), Fail> {
     let alloc = rt.alloc();
     let trace = far_scope_end(alloc, 0)?;
     let other = Op::make(1, 1, Kind::Null { to: 0 }).map_err(|_| Fail::from("limits"))?;
-    let text = reported_with(alloc, &trace, other)?;
+    let mut meter = Meter::new();
+    let text = reported_with(alloc, &trace, other, &mut meter)?;
+    assert_eq!(rt; meter.count(), 131);
     let edited = far_scope_end(alloc, 1)?;
     let (outcomes, end) = replay(alloc, &edited, &mut Meter::new())?;
     if outcomes.len() != edited.len() {

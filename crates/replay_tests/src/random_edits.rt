@@ -1,0 +1,129 @@
+//! Random traces, in which objects come to hold each other, are edited again and again, each time after random checkpoints were given
+//! up: each run is what a replay from nothing gives.
+ghost use Rattle.std.specs.Prelude.{◌<◌};
+
+use op_step::meter::Meter;
+use op_step::replay::replay;
+use run_engine::run::Run;
+use std::alloc::Global;
+use std::test::Fail;
+use trace_types::edits::{Batch, Edit};
+use trace_types::kinds::{Field, Kind};
+use trace_types::ops::Op;
+use trace_types::trace::Trace;
+
+use crate::small_traces::{add, batch, has_outcome, new, op_of};
+
+const TRACES: u32 = 200;
+const EDITS: u32 = 6;
+const OPS: u32 = 400;
+
+// Numbers that follow from a seed.
+#[derive(Drop)]
+struct Dice {
+    state: u32,
+}
+
+impl Dice {
+    // A number below the bound.
+    fn roll(&mut self, bound: u32) -> u32
+        requires { 0 < bound }
+        ensures { result < bound }
+    {
+        self.state = self.state.wrapping_mul(1664525).wrapping_add(1013904223);
+        (self.state / 65536) % bound
+    }
+}
+
+// What an operation does, over few handles and fields, so that much of it can be done.
+fn rolled(alloc: Global, dice: &mut Dice) -> Result<Kind, Fail> {
+    let (a, b, i) = (dice.roll(5), dice.roll(5), dice.roll(2));
+    Ok(match dice.roll(40) {
+        0..=6 => new(alloc, a, &[Field::Null, Field::Null])?,
+        7..=13 => Kind::Clone { from: a, to: b },
+        14..=21 => Kind::Set { h: a, i, from: b },
+        22..=25 => Kind::Drop { h: a },
+        26..=27 => Kind::Take { h: a, i, to: b },
+        28..=29 => Kind::Get { h: a, i, to: b },
+        30..=31 => Kind::Downgrade { from: a, to: b },
+        32 => Kind::Upgrade { from: a, to: b },
+        33 => Kind::CellNew { c: i, from: a },
+        34 => Kind::CellDrop { c: i },
+        35 => Kind::MakeMut { h: a },
+        _ => Kind::ScopeEnd,
+    })
+}
+
+fn rolled_trace(alloc: Global, dice: &mut Dice) -> Result<Trace, Fail> {
+    let mut trace = Trace::new(alloc);
+    for id in 1..=OPS {
+        add(&mut trace, id, rolled(alloc, dice)?)?;
+    }
+    Ok(trace)
+}
+
+// An edit near the front, whose new operation, if it has one, has a number of its own.
+fn rolled_edit(alloc: Global, dice: &mut Dice, id: u32) -> Result<Batch, Fail> {
+    let at = dice.roll(OPS / 2) + 1;
+    let op: Op = op_of(id, 0, rolled(alloc, dice)?)?;
+    let edit = match dice.roll(3) {
+        0 => Edit::Insert { after: at, op },
+        1 => Edit::Change { id: at, op },
+        _ => Edit::Remove { id: at },
+    };
+    batch(alloc, edit)
+}
+
+fn give_up_some(alloc: Global, run: &mut Run, dice: &mut Dice) -> Result<(), Fail> {
+    let marks = run.marks(alloc)?;
+    for mark in marks.as_slice() {
+        if dice.roll(4) == 0 {
+            run.give_up(*mark);
+        }
+    }
+    Ok(())
+}
+
+fn is_replay(alloc: Global, run: &Run) -> Result<bool, Fail> {
+    let trace = run.trace(alloc)?;
+    let (outcomes, end) = replay(alloc, &trace, &mut Meter::new())?;
+    for (place, outcome) in outcomes.as_slice().iter().enumerate() {
+        if !has_outcome(run, place, outcome) {
+            return Ok(false);
+        }
+    }
+    Ok(run.end().same(&end) && outcomes.as_slice().len() == run.len())
+}
+
+// How many edits of one trace stop early though the ends differ.
+fn early_stops(alloc: Global, seed: u32) -> Result<u32, Fail> {
+    let mut dice = Dice { state: seed };
+    let mut run = Run::load(alloc, &rolled_trace(alloc, &mut dice)?, &mut Meter::new())?;
+    let mut early = 0u32;
+    for turn in 0..EDITS {
+        give_up_some(alloc, &mut run, &mut dice)?;
+        let edits = rolled_edit(alloc, &mut dice, 1000 + turn)?;
+        let mut meter = Meter::new();
+        // an operation that went in an earlier turn can't be edited
+        if let Ok(edited) = run.edited(alloc, &edits, &mut meter) {
+            if !is_replay(alloc, &edited)? {
+                return Err(Fail::from("another replay"));
+            }
+            if meter.count() <= 128 && !edited.end().same(run.end()) {
+                early = early.saturating_add(1);
+            }
+            run = edited;
+        }
+    }
+    Ok(early)
+}
+
+#[test]
+fn edited_runs_are_replays(rt: HostRuntime) -> Result<(), Fail> {
+    let mut early = 0u32;
+    for seed in 0..TRACES {
+        early = early.saturating_add(early_stops(rt.alloc(), seed)?);
+    }
+    assert!(rt; early > 0);
+    Ok(())
+}
