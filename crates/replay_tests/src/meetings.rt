@@ -1,4 +1,8 @@
 //! Where the replay of an edited trace stops: at a checkpoint where the heaps agree, and at no other.
+use crate::small_traces::{
+    add, add_cycle, add_pairs, are_marks, batch, broken_cycle, counts, did, has_outcome, new, op,
+    two,
+};
 use leak_report::leaks::find_leaks;
 use object_heap::heap::Heap;
 use op_step::meter::Meter;
@@ -12,10 +16,6 @@ use trace_types::outcomes::{Answer, Event, Outcome, Reason, Verdict};
 use trace_types::sequence::Sequence;
 use trace_types::trace::Trace;
 
-use crate::small_traces::{
-    add, add_cycle, add_pairs, are_marks, batch, broken_cycle, counts, did, has_outcome, new, op, two,
-};
-
 // Whether two objects leak, the first and the one after it, each held by the first field of the other.
 fn is_leaked_pair(alloc: Global, heap: &Heap, object: u32, other: u32) -> Result<bool, Fail> {
     let leaks = find_leaks(alloc, heap)?;
@@ -28,11 +28,13 @@ fn is_leaked_pair(alloc: Global, heap: &Heap, object: u32, other: u32) -> Result
         field: 0,
     };
     let by_object = Holder { object, field: 0 };
-    Ok(leaked.len() == 2
-        && first.object == object
-        && first.holders.as_slice() == [by_other].as_slice()
-        && last.object == other
-        && last.holders.as_slice() == [by_object].as_slice())
+    Ok(
+        leaked.len() == 2
+            && first.object == object
+            && first.holders.as_slice() == [by_other].as_slice()
+            && last.object == other
+            && last.holders.as_slice() == [by_object].as_slice(),
+    )
 }
 
 #[test]

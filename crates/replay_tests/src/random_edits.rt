@@ -2,6 +2,7 @@
 //! up: each run is what a replay from nothing gives.
 ghost use Rattle.std.specs.Prelude.{◌<◌};
 
+use crate::small_traces::{add, batch, has_outcome, new, op_of};
 use op_step::meter::Meter;
 use op_step::replay::replay;
 use run_engine::run::Run;
@@ -12,10 +13,10 @@ use trace_types::kinds::{Field, Kind};
 use trace_types::ops::Op;
 use trace_types::trace::Trace;
 
-use crate::small_traces::{add, batch, has_outcome, new, op_of};
+const TRACES: u32 = 50;
 
-const TRACES: u32 = 200;
 const EDITS: u32 = 6;
+
 const OPS: u32 = 400;
 
 // Numbers that follow from a seed.

@@ -1,4 +1,7 @@
 //! Runs of small traces, and what edits make of them.
+use crate::small_traces::{
+    add_cycle, are_marks, batch, broken_cycle, has_outcome, new, op, op_of, two,
+};
 use op_step::meter::Meter;
 use run_engine::edits::apply;
 use run_engine::faults::RunFault;
@@ -8,10 +11,6 @@ use trace_types::edits::Edit;
 use trace_types::kinds::Kind;
 use trace_types::sequence::Sequence;
 use trace_types::trace::Trace;
-
-use crate::small_traces::{
-    add_cycle, are_marks, batch, broken_cycle, has_outcome, new, op, op_of, two,
-};
 
 #[test]
 fn outcomes_are_copied_or_lent(rt: HostRuntime) -> Result<(), Fail> {

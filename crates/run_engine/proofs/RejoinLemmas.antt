@@ -68,8 +68,7 @@ each P Q (Some m) f h = f m h
 exchangeable-behind : (new old : State) (x : Remains) (p : List Operation) (later : List SegmentView) → GoOnAlike new old x (p ++ trace_of later) → AreReplayFrom (end_from old p) later → AreExchangeable x later
 exchangeable-behind new old x p [] h replay = tt
 exchangeable-behind new old x p (s ∷ later) h replay =
-    let here : IsExchangeOf (end_from new p) (end_from old p) x = exchange-behind new old x p (front-alike new old x p (trace_of (s ∷ later)) h) in
-    (
+    let here : IsExchangeOf (end_from new p) (end_from old p) x = exchange-behind new old x p (front-alike new old x p (trace_of (s ∷ later)) h) in (
       each (λ m. m ≡ end_from old p) (CanExchange x) s.mark (λ m e. subst (CanExchange x) (sym e) here.can) replay.0.mark,
       exchangeable-behind new old x (p ++ ops_of s) later (subst (GoOnAlike new old x) (sym (append_assoc p (ops_of s) (trace_of later))) h)
           (subst (λ m. AreReplayFrom m later) (sym (appends.end old p (ops_of s))) replay.1),
@@ -90,8 +89,7 @@ replay-behind new old x p (s ∷ later) h replay =
     let here : IsExchangeOf (end_from new p) (end_from old p) x = exchange-behind new old x p (front-alike new old x p (trace_of (s ∷ later)) h) in
     let more : GoOnAlike new old x ((p ++ ops_of s) ++ trace_of later) = subst (GoOnAlike new old x) (sym (append_assoc p (ops_of s) (trace_of later))) h in
     let next : GoOnAlike new old x (p ++ ops_of s) = front-alike new old x (p ++ ops_of s) (trace_of later) more in
-    let stop : StopsLater new old x p (ops_of s) = patches.later (is_apart new old) new old x h.agree.law p (ops_of s) next.distinct next.unused next.old_unused in
-    (
+    let stop : StopsLater new old x p (ops_of s) = patches.later (is_apart new old) new old x h.agree.law p (ops_of s) next.distinct next.unused next.old_unused in (
       record {
         mark = patched-mark x (end_from new p) (end_from old p) s.mark here.state replay.0.mark;
         outcomes = replay.0.outcomes ∙ sym stop.outcomes;

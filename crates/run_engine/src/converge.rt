@@ -164,16 +164,7 @@ pub fn converge(
     for (i, segment) in old.iter().enumerate() {
         if at >= a {
             if let Some(mark) = segment.mark() {
-                front = advance(
-                    alloc,
-                    old,
-                    end,
-                    front,
-                    ops,
-                    at - a + b,
-                    !apart,
-                    meter,
-                )?;
+                front = advance(alloc, old, end, front, ops, at - a + b, !apart, meter)?;
                 let found = rejoined(alloc, &front.heap, mark, &old[i..], end, &mut seen)?;
                 if let Some((rest, end)) = found {
                     return Ok((spliced(front, rest)?, end));

@@ -6,6 +6,7 @@ ghost use Rattle.run_engine.specs.Segments.{IsPiece};
 
 use crate::listing::Listing;
 use crate::segment::Segment;
+use agreement::checkpoint::Checkpoint;
 use object_heap::heap::Heap;
 use op_step::meter::Meter;
 use op_step::replay::replay_from;
@@ -40,7 +41,7 @@ pub fn stepped(
 {
     let (outcomes, end) = replay_from(alloc, heap.share()?, &ops, meter)?;
     let len = ops.len();
-    let segment = Segment::new(alloc, Some(heap.share()?), ops, outcomes)?;
+    let segment = Segment::new(alloc, Some(Checkpoint::of(heap.share()?)), ops, outcomes)?;
     let mut segments = Vec::new(alloc);
     segments.push(segment)?;
     Ok(Piece { segments, end, len })

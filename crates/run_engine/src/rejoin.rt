@@ -1,5 +1,6 @@
 //! What an old run becomes behind a checkpoint, where a replay comes together with it.
 ghost use Rattle.std.specs.Prelude.{◌≡◌, ◌↔◌, ℕ, map, is_some, IfOk, IfSome, IsTrue};
+ghost use Rattle.std.specs.Arc.{arc_value};
 ghost use Rattle.trace_types.specs.Trace.{has_distinct_numbers};
 ghost use Rattle.ownership_model.specs.Step.{AreUnused};
 ghost use Rattle.agreement.specs.Agreement.{Agree};
@@ -7,11 +8,13 @@ ghost use Rattle.run_engine.specs.Segments.{trace_of, marks_from, IsRunFrom};
 ghost use Rattle.run_engine.specs.Exchanged.{exchanged, AreExchangeable};
 
 use crate::segment::{Segment, share_segments};
+use agreement::checkpoint::Checkpoint;
 use agreement::remains::{Remains, patch};
 use agreement::search::{Meeting, meet};
 use agreement::trail::Trail;
 use object_heap::heap::Heap;
 use std::alloc::{AllocError, Global};
+use std::sync::Arc;
 
 /// The rest of an old run and its end, as they follow the heap of a replay, where it agrees with the checkpoint that the rest
 /// begins with. The outcomes are those of the old run, and shared.
@@ -20,7 +23,7 @@ use std::alloc::{AllocError, Global};
 pub fn rejoined(
     alloc: Global,
     heap: &Heap,
-    mark: &Heap,
+    mark: &Checkpoint,
     rest: &[Segment],
     end: &Heap,
     seen: &mut Option<Trail>,
@@ -34,15 +37,17 @@ pub fn rejoined(
     ensures trace { IfOk result (λ o. IfSome o (λ r. trace_of r.0.items ≡ trace_of rest.now)) }
     ensures marks { IfOk result (λ o. IfSome o (λ r. (at : ℕ) → marks_from at r.0.items ≡ marks_from at rest.now)) }
 {
-    match meet(alloc, heap, mark, seen)? {
+    let old = mark.heap(alloc)?;
+    match meet(alloc, heap, &old, seen)? {
         Meeting::Apart => Ok(None),
         Meeting::Same => {
             let segments = share_segments(alloc, rest)?;
             Ok(Some((segments, end.share()?)))
         }
         Meeting::Alike(remains) => {
-            let segments = exchanged_segments(alloc, rest, &remains)?;
-            Ok(Some((segments, patch(alloc, end, &remains)?)))
+            let end = patch(alloc, end, &remains)?;
+            let segments = exchanged_segments(alloc, rest, &Arc::new(alloc, remains)?)?;
+            Ok(Some((segments, end)))
         }
     }
 }
@@ -51,10 +56,10 @@ pub fn rejoined(
 fn exchanged_segments(
     alloc: Global,
     segments: &[Segment],
-    remains: &Remains,
+    remains: &Arc<Remains>,
 ) -> Result<Vec<Segment>, AllocError>
-    requires { AreExchangeable remains.now segments.now }
-    ensures { IfOk result (λ v. v.items ≡ map (exchanged remains.now) segments.now) }
+    requires { AreExchangeable (arc_value remains.now) segments.now }
+    ensures { IfOk result (λ v. v.items ≡ map (exchanged (arc_value remains.now)) segments.now) }
 {
     let mut all = Vec::new(alloc);
     for segment in segments {

@@ -23,7 +23,12 @@ struct Restart {
 }
 
 // The greatest kept checkpoint at or before the head.
-fn greatest_mark(segments: &[Segment], end: &Heap, head: usize) -> Result<Restart, AllocError>
+fn greatest_mark(
+    alloc: Global,
+    segments: &[Segment],
+    end: &Heap,
+    head: usize,
+) -> Result<Restart, AllocError>
     requires run { IsRun segments.now end.now }
     requires few { length (trace_of segments.now) < 2 ^ 32 }
     ensures { IfOk result (λ r. IsRestart segments.now head r.index r.at r.heap) }
@@ -42,7 +47,7 @@ fn greatest_mark(segments: &[Segment], end: &Heap, head: usize) -> Result<Restar
             best = Restart {
                 index: i,
                 at: here,
-                heap: mark.share()?,
+                heap: mark.heap(alloc)?,
             };
         }
         here += segment.ops().len();
@@ -64,7 +69,7 @@ fn front(alloc: Global, segments: &[Segment], end: &Heap, head: usize) -> Result
     ensures kept { IfOk result (λ f. IsRestart segments.now head (length f.segments.items) f.at f.heap) }
     ensures segments { IfOk result (λ f. f.segments.items ≡ take (length f.segments.items) segments.now) }
 {
-    let best = greatest_mark(segments, end, head)?;
+    let best = greatest_mark(alloc, segments, end, head)?;
     let kept = share_segments(alloc, &segments[..best.index])?;
     Ok(Front {
         segments: kept,

@@ -1,11 +1,12 @@
 //! A segment of a run.
 ghost use Rattle.std.specs.Prelude.{◌≡◌, ◌++◌, length, IfOk, OnOk, None, is_some};
+ghost use Rattle.std.specs.Arc.{arc_value};
 ghost use Rattle.std.specs.Option.{option_copied};
 ghost use Rattle.run_engine.specs.Exchanged.{exchanged, IsExchangeable};
 
 use crate::part::{Bounds, Part, bounds_of};
-use agreement::remains::{Remains, patch};
-use object_heap::heap::Heap;
+use agreement::checkpoint::Checkpoint;
+use agreement::remains::Remains;
 use std::alloc::{AllocError, Global};
 use std::marker::Model;
 use std::sync::Arc;
@@ -24,7 +25,7 @@ struct Replayed {
 /// Operations with their outcomes, which the versions of a run share, and the heap where they begin, if that is kept.
 #[derive(Drop)]
 pub struct Segment {
-    mark: Option<Heap>,
+    mark: Option<Checkpoint>,
     body: Arc<Replayed>,
 }
 
@@ -46,7 +47,7 @@ impl Model for Segment {
 impl Segment {
     pub fn new(
         alloc: Global,
-        mark: Option<Heap>,
+        mark: Option<Checkpoint>,
         ops: Vec<Op>,
         outcomes: Sequence<Outcome>,
     ) -> Result<Self, AllocError>
@@ -70,7 +71,7 @@ impl Segment {
     {
         let mark = match &self.mark {
             None => None,
-            Some(heap) => Some(heap.share()?),
+            Some(checkpoint) => Some(checkpoint.share()?),
         };
         Ok(Segment {
             mark,
@@ -79,13 +80,13 @@ impl Segment {
     }
 
     /// The same operations and outcomes, which are shared, with the remains exchanged in the checkpoint.
-    pub fn exchanged(&self, alloc: Global, remains: &Remains) -> Result<Self, AllocError>
-        requires { IsExchangeable remains.now self.now }
-        ensures { IfOk result (λ s. s ≡ exchanged remains.now self.now) }
+    pub fn exchanged(&self, alloc: Global, remains: &Arc<Remains>) -> Result<Self, AllocError>
+        requires { IsExchangeable (arc_value remains.now) self.now }
+        ensures { IfOk result (λ s. s ≡ exchanged (arc_value remains.now) self.now) }
     {
         let mark = match &self.mark {
             None => None,
-            Some(heap) => Some(patch(alloc, heap, remains)?),
+            Some(checkpoint) => Some(checkpoint.patched(alloc, remains)?),
         };
         Ok(Segment {
             mark,
@@ -130,7 +131,7 @@ impl Segment {
         self.mark.is_some()
     }
 
-    pub fn mark(&self) -> Option<&Heap>
+    pub fn mark(&self) -> Option<&Checkpoint>
         ensures { option_copied result ≡ self.now.mark }
     {
         self.mark.as_ref()

@@ -56,16 +56,16 @@ pub fn old_stretch(
     if len > to - at {
         return Ok(None);
     }
-    if !mark.same(heap) {
+    if !mark.heap(alloc)?.same(heap) {
         return Ok(None);
     }
-    let Some(after) = heap_at(old, end, j) else {
+    let Some(after) = heap_at(alloc, old, end, j)? else {
         return Ok(None);
     };
     let segments = share_segments(alloc, stretch)?;
     Ok(Some(Piece {
         segments,
-        end: after.share()?,
+        end: after,
         len,
     }))
 }
@@ -84,15 +84,22 @@ fn unmarked(segments: &[Segment]) -> usize
 }
 
 // The heap where the segment at j begins, or the end, if it is kept.
-fn heap_at<'a>(segments: &'a [Segment], end: &'a Heap, j: usize) -> Option<&'a Heap>
+fn heap_at(
+    alloc: Global,
+    segments: &[Segment],
+    end: &Heap,
+    j: usize,
+) -> Result<Option<Heap>, AllocError>
     requires within { j ≤ length segments.now }
     requires run { IsRun segments.now end.now }
-    ensures heap { IfSome (option_copied result) (λ h. h ≡ end_from nothing_held (trace_of (take j segments.now))) }
-    ensures kept { IfSome (option_copied result) (λ h. BeginsMarked (drop j segments.now)) }
+    ensures heap { IfOk result (λ o. IfSome o (λ h. h ≡ end_from nothing_held (trace_of (take j segments.now)))) }
+    ensures kept { IfOk result (λ o. IfSome o (λ h. BeginsMarked (drop j segments.now))) }
 {
-    if j < segments.len() {
-        segments[j].mark()
-    } else {
-        Some(end)
+    if j == segments.len() {
+        return Ok(Some(end.share()?));
+    }
+    match segments[j].mark() {
+        None => Ok(None),
+        Some(mark) => Ok(Some(mark.heap(alloc)?)),
     }
 }

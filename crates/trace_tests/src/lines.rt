@@ -148,7 +148,9 @@ fn greatest_field_number(rt: HostRuntime) -> Result<(), Fail> {
         (MAX_INDEX + 1, "fault line 1 OutOfRange\n"),
     ] {
         for op in members {
-            let line = format!(in rt.alloc(); "{{\"id\":1,\"t\":0,\"h\":0,\"i\":{i},\"op\":{op}}}")?;
+            let line = format!(in rt.alloc();
+                "{{\"id\":1,\"t\":0,\"h\":0,\"i\":{i},\"op\":{op}}}"
+            )?;
             assert_eq!(rt; told(&rt, line.as_bytes())?.as_str(), wanted);
         }
     }

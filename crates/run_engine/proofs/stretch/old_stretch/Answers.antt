@@ -32,13 +32,15 @@ returns c =
     stretch-ops c.args.old.now ops c.in-Some-segment_at.i (suc c.unmarked-bare.result) c.in-Some.alike.from c.in-Some.alike.at c.in-Some.alike.len c.args.at c.args.to alike c.in-Some-segment_at.ensures.place (omega arith) (omega arith)
     ∙ ap (λ k. take k (slice_range ops c.args.at c.args.to)) (sym long) in
     let bare = rw (take-rest (i + 1) c.args.old.now) at c.unmarked-bare.ensures.none in
-    let heap : c.in-Some-mark.mark.now ≡ c.args.heap.now = c.same.ensures.0 t in
+    let heap : c.in-Some-mark.mark.now ≡ c.args.heap.now = sym c.in_ok-heap.ensures ∙ c.same.ensures.0 t in
     let mark : c.index-old-i.result.mark ≡ Some c.args.heap.now = sym c.in-Some-mark.ensures ∙ ap Some heap in
+    let kept = rw (c.in-Some-2.is, m) at c.in_ok-after.ensures.kept in
+    let after = rw c.in-Some-2.is at c.in_ok-after.ensures.heap in
     record {
-      gap = old-neighbours c.args.old.now c.in-Some-segment_at.i c.unmarked-bare.result c.index-old-i.result c.args.heap.now (slice_range ops c.args.at c.args.to) c.len_in-len.result c.in-Some-segment_at.ensures.within c.index-old-i.is mark bare fits parts (rw m at c.in-Some-heap_at.ensures.kept);
-      stretch = old-stretch-is c.args.old.now c.args.end.now c.in-Some-segment_at.i c.unmarked-bare.result c.index-old-i.result c.args.heap.now (slice_range ops c.args.at c.args.to) c.len_in-len.result c.requires.run c.in-Some-segment_at.ensures.within c.index-old-i.is mark bare fits parts (rw m at c.in-Some-heap_at.ensures.kept);
+      gap = old-neighbours c.args.old.now c.in-Some-segment_at.i c.unmarked-bare.result c.index-old-i.result c.args.heap.now (slice_range ops c.args.at c.args.to) c.len_in-len.result c.in-Some-segment_at.ensures.within c.index-old-i.is mark bare fits parts kept;
+      stretch = old-stretch-is c.args.old.now c.args.end.now c.in-Some-segment_at.i c.unmarked-bare.result c.index-old-i.result c.args.heap.now (slice_range ops c.args.at c.args.to) c.len_in-len.result c.requires.run c.in-Some-segment_at.ensures.within c.index-old-i.is mark bare fits parts kept;
       piece = rw (c.in_ok-segments.ensures, n)
-          (old-piece c.args.old.now c.args.end.now c.in-Some-segment_at.i c.unmarked-bare.result c.index-old-i.result c.args.heap.now c.in_ok-share.field-0 (slice_range ops c.args.at c.args.to) c.len_in-len.result
+          (old-piece c.args.old.now c.args.end.now c.in-Some-segment_at.i c.unmarked-bare.result c.index-old-i.result c.args.heap.now c.in-Some-2.after (slice_range ops c.args.at c.args.to) c.len_in-len.result
           c.requires.run c.in-Some-segment_at.ensures.within c.index-old-i.is mark bare fits parts
-          (c.in_ok-share.ensures ∙ c.in-Some-heap_at.ensures.heap ∙ ap (λ j. end_from nothing_held (trace_of (take j c.args.old.now))) m));
+          (after ∙ ap (λ j. end_from nothing_held (trace_of (take j c.args.old.now))) m));
     }

@@ -7,8 +7,7 @@ use Rattle.agreement.proofs.remains.Remains.changes_nothing.Goals as goal
 pub returns-clause-answer : goal.returns-clause-answer
 returns-clause-answer c =
     let x = c.self.inside.all in
-    let z = c.self.inside.differing in
-    (
+    let z = c.self.inside.differing in (
       λ t. subst (λ (r : Remains). AreTheSame r) c.self.view_is (same_of_nothing x z c.self.invariant.trimmed (c.is_nothing.ensures.0 t)),
       λ same. c.is_nothing.ensures.1 (nothing_of_same x z c.self.invariant.trimmed (subst (λ (r : Remains). AreTheSame r) (sym c.self.view_is) same)),
     )
