@@ -14,7 +14,7 @@ use Rattle.run_engine.specs.Revision.{IsLastFrom}
 use Rattle.run_engine.proofs.SegmentLemmas.{AreReplayFrom-front, marks_from-append}
 use Rattle.run_engine.proofs.ListingLemmas.{take-shorter}
 use Rattle.run_engine.proofs.PieceLemmas.{AreFull-front, BeginsMarked-front}
-use Rattle.run_engine.proofs.PlaceLemmas.{Contains-one, Contains-none, mark_here-place, mark_here-some, marks_from-least, marks_from-most, trace_of-front, place-within, mark-there, end-mark, first-mark-there, all-within}
+use Rattle.run_engine.proofs.PlaceLemmas.{Contains-one, mark_here-place, mark_here-some, marks_from-least, marks_from-most, trace_of-front, place-within, mark-there, end-mark, all-within}
 
 -- a loop that looks for the restart from behind: all checkpoints at or before the head are those of the first i segments
 abbrev pub AreFirst : List SegmentView → ℕ → ℕ → Type 0
@@ -53,10 +53,6 @@ pub AreFirst-bare : (segments : List SegmentView) (head i j : ℕ) (s : SegmentV
 AreFirst-bare segments head i j s h next lt is bare p mark le =
     ⊎_elim (λ k. k) (λ k. let t : is_some s.mark ≡ true = mark_here-some (0 + length (trace_of (take j segments))) p s.mark k in cc)
     (mark-up-to segments j p s lt is (subst (λ n. Contains (marks_from 0 (take n segments)) p) (sym next) (h p mark le)))
-
--- the first segment has a checkpoint, so that the loop doesn't come to the front
-pub AreFirst-none : (segments : List SegmentView) (head : ℕ) → BeginsMarked segments → AreFirst segments head 0 → ⊥
-AreFirst-none segments head begins h = Contains-none 0 (h 0 (first-mark-there segments begins) (omega arith))
 
 -- the last checkpoint among those
 pub IsRestart-there : (segments : List SegmentView) (head i j at last from : ℕ) (heap m : State) (s : SegmentView) → AreReplayFrom nothing_held segments → AreFirst segments head i → j + 1 ≡ i → j < length segments → s ≡ get_or segments j s → s.mark ≡ Some m
