@@ -1,12 +1,16 @@
 -- What a desk has, and what it prepares.
-use Rattle.std.specs.Prelude.{◌≡◌, ◌⊎◌, ℕ, List, Ok}
+use Rattle.std.specs.Prelude.{◌≡◌, ◌⊎◌, ℕ, List, Ok, refl}
+use Rattle.std.specs.Coded.{Coded, code_by, coded×, coded_ℕ, coded_list}
 use Rattle.trace_types.specs.Operation.{Operation}
 use Rattle.trace_types.specs.declared.edits.Edit.{Edit}
 use Rattle.run_engine.specs.RunView.{RunView}
 use Rattle.run_engine.specs.Bounds.{StepsAtMostFrom}
-use Rattle.run_engine.specs.NewMarks.{AreMarksAfter}
+use Rattle.trace_types.specs.contracts.ops.Op as op
+use Rattle.mark_shelf.specs.Shelf.{Shelf, shelf_code}
+use Rattle.run_engine.specs.GivenUp.{AreMarksKept}
 use Rattle.run_engine.specs.Steps.{AreSteppedFrom}
 use Rattle.edit_desk.specs.declared.entries.Entry.{Entry}
+use Rattle.edit_desk.specs.contracts.entries.Entry as entry
 use Rattle.edit_desk.specs.declared.entries.Request.{Request}
 use Rattle.edit_desk.specs.declared.replies.Reply.{Reply}
 use Rattle.run_engine.specs.Edited.{edited_by}
@@ -17,12 +21,21 @@ pub record Version : Type 0 where
   pub version : ℕ
   pub run : RunView
 
--- what stands, the checkpoints of its run, how many entries more the history has room for, and how many operations were replayed
+-- what stands, the checkpoints of its run, the shelf, how many entries more the history has room for, and how many operations were replayed
 pub record DeskView : Type 0 where
   pub standing : Standing
   pub marks : List ℕ
+  pub shelf : Shelf
   pub room : ℕ
   pub meter : ℕ
+
+-- by which a proof tells desks apart
+abbrev pub desk_code : Coded DeskView
+desk_code = code_by ((List Operation × (List Operation × (ℕ × List Entry))) × (List ℕ × (Shelf × (ℕ × ℕ))))
+    (coded× (coded× (coded_list op.the_row.coded) (coded× (coded_list op.the_row.coded) (coded× coded_ℕ (coded_list entry.the_row.coded)))) (coded× (coded_list coded_ℕ) (coded× shelf_code (coded× coded_ℕ coded_ℕ))))
+    (λ d. ((d.standing.opening, (d.standing.trace, (d.standing.version, d.standing.history))), (d.marks, (d.shelf, (d.room, d.meter)))))
+    (λ p. record { standing = record { opening = p.0.0; trace = p.0.1.0; version = p.0.1.1.0; history = p.0.1.1.1 }; marks = p.1.0; shelf = p.1.1.0; room = p.1.1.1.0; meter = p.1.1.1.1 })
+    (λ _. refl)
 
 -- a request with the reply to it, and what will stand
 pub record PreparedView : Type 0 where
@@ -49,6 +62,6 @@ ReplaysWithin trace marks batch before after = (ops : List Operation) → edited
 unfoldable pub StepsAtLeast : List Operation → List ℕ → List Edit → ℕ → ℕ → Type 0
 StepsAtLeast trace marks batch before after = (ops : List Operation) → edited_by trace batch ≡ Ok ops → AreSteppedFrom trace ops marks before after
 
--- the next run is the one that stands, or that of an edit of its trace, with the checkpoints that such an edit leaves
-abbrev pub IsNextRun : List Operation → List ℕ → RunView → Type 0
-IsNextRun trace marks next = let now : RunView = record { trace = trace; marks = marks } in (next ≡ now) ⊎ AreMarksAfter now next
+-- the next run is the one that stands, or that of an edit of its trace, with the checkpoints that such an edit leaves, and the shelf after it
+abbrev pub IsNextRun : List Operation → List ℕ → RunView → Shelf → Shelf → Type 0
+IsNextRun trace marks next shelf after = let now : RunView = record { trace = trace; marks = marks } in (next ≡ now) ⊎ AreMarksKept now next shelf after

@@ -8,12 +8,16 @@ ghost use Rattle.edit_desk.specs.Answers.{opened, reply_to, after, IsLegal};
 ghost use Rattle.edit_desk.specs.Versions.{IsDue, IsSettled, IsNextRun, ReplaysWithin, StepsAtLeast};
 ghost use Rattle.run_engine.specs.RunView.{RunView};
 ghost use Rattle.run_engine.specs.Marks.{load_marks};
+ghost use Rattle.run_engine.specs.GivenUp.{names_at, IsTouched};
+ghost use Rattle.mark_shelf.specs.Shelf.{empty_shelf};
 ghost use Rattle.op_step.specs.Meter.{raised};
 
 use crate::entries::{Entry, Request};
+use crate::kept::{KEPT_CHUNKS, KEPT_MARKS, KEPT_NAMES};
 use crate::prepared::Prepared;
-use crate::published::{Published, what_if};
+use crate::published::{Published, revised};
 use crate::replies::Reply;
+use mark_shelf::MarkShelf;
 use op_step::meter::Meter;
 use run_engine::run::Run;
 use std::alloc::{AllocError, Global};
@@ -23,7 +27,7 @@ use trace_types::limits::MAX_ENTRIES;
 use trace_types::trace::Trace;
 
 /// One trace in versions. Contracts see the trace that stands, its version and the history, the checkpoints of its run, the
-/// room for more entries that is there already, and how many operations were replayed.
+/// shelf that bounds them, the room for more entries that is there already, and how many operations were replayed.
 ///
 /// The history leads from the opening trace to what stands, and each reply in it is the one that was due.
 #[derive(Drop)]
@@ -31,6 +35,7 @@ pub struct Desk {
     opening: Trace,
     published: Published,
     history: Vec<Arc<Entry>>,
+    shelf: MarkShelf,
     meter: Meter,
 }
 
@@ -40,13 +45,16 @@ impl Model for Desk {
     ghost use Rattle.std.specs.Vec.{vec_len, vec_capacity};
     ghost use Rattle.trace_types.specs.declared.limits.TheConstants.{MAX_ENTRIES};
     ghost use Rattle.edit_desk.specs.Answers.{IsLegal};
-    ghost use Rattle.edit_desk.specs.Versions.{DeskView};
+    ghost use Rattle.edit_desk.specs.Versions.{DeskView, desk_code};
 
     ghost Value = { DeskView };
+
+    ghost coded = { desk_code };
 
     ghost view = { λ d. record {
       standing = record { opening = d.opening; trace = d.published.run.trace; version = d.published.version; history = map arc_value d.history.items };
       marks = d.published.run.marks;
+      shelf = d.shelf;
       room = vec_capacity d.history - vec_len d.history;
       meter = d.meter;
     } };
@@ -56,18 +64,21 @@ impl Model for Desk {
 }
 
 impl Desk {
-    /// A desk with this trace, at version 0, which was asked nothing yet. The trace is replayed.
+    /// A desk with this trace, at version 0, which was asked nothing yet. The trace is replayed, and of its checkpoints those are given up
+    /// for which the shelf has no room.
     pub fn open(alloc: Global, trace: Trace) -> Result<Desk, AllocError>
         ensures standing { IfOk result (λ d. d.standing ≡ opened trace) }
-        ensures marks { IfOk result (λ d. d.marks ≡ load_marks (length trace)) }
+        ensures marks { IfOk result (λ d. let all : RunView = record { trace = trace; marks = load_marks (length trace) } in IsTouched all (record { trace = trace; marks = d.marks }) (empty_shelf KEPT_MARKS KEPT_CHUNKS KEPT_NAMES) d.shelf (names_at trace all.marks)) }
         ensures meter { IfOk result (λ d. d.meter ≡ raised 0 (length trace)) }
     {
         let mut meter = Meter::new();
-        let run = Run::load(alloc, &trace, &mut meter)?;
+        let mut shelf = MarkShelf::new(alloc, KEPT_MARKS, KEPT_CHUNKS, KEPT_NAMES)?;
+        let run = Run::load_kept(alloc, &trace, &mut shelf, &mut meter)?;
         Ok(Desk {
             opening: trace,
             published: Published::new(alloc, 0, run)?,
             history: Vec::new(alloc),
+            shelf,
             meter,
         })
     }
@@ -119,7 +130,7 @@ impl Desk {
     }
 
     /// Replies to a session's request, and makes its edits where it accepts them. Out of memory the trace, its version
-    /// and the history stay as they were; the meter may have risen.
+    /// and the history stay as they were; the meter may have risen, and the shelf may have been touched.
     pub fn answer(
         &mut self,
         alloc: Global,
@@ -131,7 +142,7 @@ impl Desk {
         ensures history_full { MAX_ENTRIES ≤ length self.old.standing.history → result ≡ Ok HistoryFull }
         ensures after { OnOk result (self.new.standing ≡ after self.old.standing session request) }
         ensures unchanged { OnErr result (self.new.standing ≡ self.old.standing) }
-        ensures run { OnOk result (let next : RunView = record { trace = self.new.standing.trace; marks = self.new.marks } in IsNextRun self.old.standing.trace self.old.marks next) }
+        ensures run { OnOk result (let next : RunView = record { trace = self.new.standing.trace; marks = self.new.marks } in IsNextRun self.old.standing.trace self.old.marks next self.old.shelf self.new.shelf) }
         ensures same_run { OnErr result (self.new.marks ≡ self.old.marks) }
         ensures bound { length self.old.standing.history < MAX_ENTRIES → request.base ≡ self.old.standing.version → ReplaysWithin self.old.standing.trace self.old.marks request.batch self.old.meter self.new.meter }
         ensures stepped { OnOk result (length self.old.standing.history < MAX_ENTRIES → request.base ≡ self.old.standing.version → StepsAtLeast self.old.standing.trace self.old.marks request.batch self.old.meter self.new.meter) }
@@ -148,7 +159,8 @@ impl Desk {
     }
 
     /// Replies to a request, and makes all that the reply wants, but neither trace, version nor history change by it.
-    /// Ask first that `len` is below `MAX_ENTRIES`; out of memory the meter may have risen.
+    /// Ask first that `len` is below `MAX_ENTRIES`; out of memory the meter may have risen. The shelf is touched for an accepted
+    /// request already here; where it isn't committed, checkpoints stay that the shelf has no names of.
     pub fn prepare(
         &mut self,
         alloc: Global,
@@ -160,7 +172,7 @@ impl Desk {
         ensures request { IfOk result (λ p. (p.entry.session ≡ session) × (p.entry.request ≡ request)) }
         ensures history { IfOk result (λ p. (after self.old.standing p.entry.session p.entry.request).history ≡ self.old.standing.history ++ p.entry ∷ []) }
         ensures legal { IfOk result (λ p. IsLegal (after self.old.standing p.entry.session p.entry.request)) }
-        ensures run { IfOk result (λ p. IsNextRun self.old.standing.trace self.old.marks p.next.run) }
+        ensures run { IfOk result (λ p. IsNextRun self.old.standing.trace self.old.marks p.next.run self.old.shelf self.new.shelf) }
         ensures room { OnOk result (0 < self.new.room) }
         ensures unchanged { self.new.standing ≡ self.old.standing }
         ensures same_run { self.new.marks ≡ self.old.marks }
@@ -170,7 +182,13 @@ impl Desk {
         ensures refused { IsErr (edited_by self.old.standing.trace request.batch) → self.new.meter ≡ self.old.meter }
         ensures never_less { self.old.meter ≤ self.new.meter }
     {
-        let (reply, next) = settle(alloc, &self.published, &request, &mut self.meter)?;
+        let (reply, next) = settle(
+            alloc,
+            &self.published,
+            &request,
+            &mut self.shelf,
+            &mut self.meter,
+        )?;
         self.history.reserve(1)?;
         let entry = Entry {
             session,
@@ -190,6 +208,7 @@ impl Desk {
         ensures after { self.new.standing ≡ after self.old.standing prepared.entry.session prepared.entry.request }
         ensures history { self.new.standing.history ≡ self.old.standing.history ++ prepared.entry ∷ [] }
         ensures marks { self.new.marks ≡ prepared.next.run.marks }
+        ensures shelf { self.new.shelf ≡ self.old.shelf }
         ensures meter { self.new.meter ≡ self.old.meter }
     {
         let Prepared { entry, next } = prepared;
@@ -205,11 +224,12 @@ fn settle(
     alloc: Global,
     published: &Published,
     request: &Request,
+    shelf: &mut MarkShelf,
     meter: &mut Meter,
 ) -> Result<(Reply, Published), AllocError>
     requires { published.now.version < MAX_ENTRIES }
     ensures settled { IfOk result (λ r. IsSettled published.now request.now r.0 r.1) }
-    ensures run { IfOk result (λ r. IsNextRun published.now.run.trace published.now.run.marks r.1.run) }
+    ensures run { IfOk result (λ r. IsNextRun published.now.run.trace published.now.run.marks r.1.run shelf.old shelf.new) }
     ensures bound { request.now.base ≡ published.now.version → ReplaysWithin published.now.run.trace published.now.run.marks request.now.batch meter.old meter.new }
     ensures stepped { OnOk result (request.now.base ≡ published.now.version → StepsAtLeast published.now.run.trace published.now.run.marks request.now.batch meter.old meter.new) }
     ensures stale { request.now.base ≢ published.now.version → meter.new ≡ meter.old }
@@ -220,7 +240,7 @@ fn settle(
     if request.base != version {
         return Ok((Reply::Stale(version), published.share()?));
     }
-    match what_if(alloc, published, &request.batch, meter) {
+    match revised(alloc, published, &request.batch, shelf, meter) {
         Ok(run) => {
             let next = Published::new(alloc, version + 1, run)?;
             Ok((Reply::Accepted(version + 1), next))

@@ -3,6 +3,7 @@
 
 pub mod desk;
 pub mod entries;
+pub mod kept;
 pub mod prepared;
 pub mod published;
 pub mod replies;

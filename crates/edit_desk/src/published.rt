@@ -1,13 +1,17 @@
 //! A version of the trace, with its run.
-ghost use Rattle.std.specs.Prelude.{◌≡◌, ◌<◌, ◌≤◌, length, IfOk, IfErr, IsErr, Ok, Err};
+ghost use Rattle.std.specs.Prelude.{◌≡◌, ◌<◌, ◌≤◌, length, IfOk, IfErr, OnErr, IsErr, Ok, Err};
 ghost use Rattle.run_engine.specs.Edited.{edited_by, IsFaultOf};
-ghost use Rattle.run_engine.specs.NewMarks.{AreMarksAfter};
+ghost use Rattle.mark_shelf.specs.Shelf.{Shelf, empty_shelf};
+ghost use Rattle.run_engine.specs.GivenUp.{AreMarksKept};
 ghost use Rattle.run_engine.specs.Steps.{AreSteppedFrom};
 ghost use Rattle.edit_desk.specs.Versions.{ReplaysWithin};
 ghost use Rattle.run_engine.specs.declared.faults.RunFault.TheVariants.{EmptyBatch, TooManyEdits};
 ghost use Rattle.trace_reader.specs.Writing.{lines_text};
 
+use crate::kept::KEPT_MARKS;
+use mark_shelf::MarkShelf;
 use op_step::meter::Meter;
+use run_engine::edits::try_size;
 use run_engine::faults::RunFault;
 use run_engine::run::Run;
 use std::alloc::{AllocError, Global};
@@ -67,7 +71,30 @@ impl Published {
     }
 }
 
-/// The run of the version's trace after edits, which nobody else sees. The meter rises as with `Run::edited`.
+/// The run of the version's trace after edits. The meter rises and the shelf is touched as with `Run::edited`.
+pub(crate) fn revised(
+    alloc: Global,
+    published: &Published,
+    batch: &Batch,
+    shelf: &mut MarkShelf,
+    meter: &mut Meter,
+) -> Result<Run, RunFault>
+    ensures trace { IfOk result (λ r. edited_by published.now.run.trace batch.now ≡ Ok r.trace) }
+    ensures marks { IfOk result (λ r. AreMarksKept published.now.run r shelf.old shelf.new) }
+    ensures fault { IfErr result (IsFaultOf (edited_by published.now.run.trace batch.now)) }
+    ensures empty { length batch.now ≡ 0 → result ≡ Err EmptyBatch }
+    ensures too_many { 64 < length batch.now → result ≡ Err TooManyEdits }
+    ensures bound { ReplaysWithin published.now.run.trace published.now.run.marks batch.now meter.old meter.new }
+    ensures stepped { IfOk result (λ r. AreSteppedFrom published.now.run.trace r.trace published.now.run.marks meter.old meter.new) }
+    ensures refused { IsErr (edited_by published.now.run.trace batch.now) → meter.new ≡ meter.old }
+    ensures same_shelf { OnErr result (shelf.new ≡ shelf.old) }
+    ensures never_less { meter.old ≤ meter.new }
+{
+    published.run.edited(alloc, batch, shelf, meter)
+}
+
+/// The run of the version's trace after edits, which nobody else sees, over a shelf of its own, which has room for as many
+/// checkpoints as a desk's. The meter rises as with `Run::edited`.
 pub fn what_if(
     alloc: Global,
     published: &Published,
@@ -75,7 +102,7 @@ pub fn what_if(
     meter: &mut Meter,
 ) -> Result<Run, RunFault>
     ensures trace { IfOk result (λ r. edited_by published.now.run.trace batch.now ≡ Ok r.trace) }
-    ensures marks { IfOk result (λ r. AreMarksAfter published.now.run r) }
+    ensures marks { IfOk result (λ r. (after : Shelf) × AreMarksKept published.now.run r (empty_shelf KEPT_MARKS 1 1) after) }
     ensures fault { IfErr result (IsFaultOf (edited_by published.now.run.trace batch.now)) }
     ensures empty { length batch.now ≡ 0 → result ≡ Err EmptyBatch }
     ensures too_many { 64 < length batch.now → result ≡ Err TooManyEdits }
@@ -84,7 +111,9 @@ pub fn what_if(
     ensures refused { IsErr (edited_by published.now.run.trace batch.now) → meter.new ≡ meter.old }
     ensures never_less { meter.old ≤ meter.new }
 {
-    published.run.edited(alloc, batch, meter)
+    try_size(batch.len())?;
+    let mut shelf = MarkShelf::new(alloc, KEPT_MARKS, 1, 1)?;
+    revised(alloc, published, batch, &mut shelf, meter)
 }
 
 /// The canonical lines of a run's trace.

@@ -1,4 +1,4 @@
-//! Tests of the plain program, heaps, agreement, steps, leaks, reports, runs and the desk, through what those crates promise.
+//! Tests of the plain program, heaps, agreement, steps, leaks, reports, shelves, runs and the desk, through what those crates promise.
 #![tactic(auto)]
 
 #[cfg(test)]
@@ -9,6 +9,8 @@ mod desk;
 mod exchanges;
 #[cfg(test)]
 mod heap;
+#[cfg(test)]
+mod kept;
 #[cfg(test)]
 mod leaks;
 #[cfg(test)]
@@ -25,6 +27,8 @@ mod reports;
 mod runs;
 #[cfg(test)]
 mod scopes;
+#[cfg(test)]
+mod shelves;
 #[cfg(test)]
 mod small_traces;
 #[cfg(test)]

@@ -1,4 +1,5 @@
 //! A trace with as many operations as there may be, and its edits.
+use crate::small_traces::edited_alone;
 use op_step::meter::Meter;
 use run_engine::faults::RunFault;
 use run_engine::run::Run;
@@ -54,11 +55,11 @@ fn full_trace_is_edited(rt: HostRuntime) -> Result<(), Fail> {
         },
     )?;
     let mut meter = Meter::new();
-    let fault = run.edited(alloc, &more, &mut meter).err();
+    let fault = edited_alone(&run, alloc, &more, &mut meter).err();
     assert_eq!(rt; fault, Some(RunFault::TooMany(0)));
     assert_eq!(rt; meter.count(), 0);
     let less = one(alloc, Edit::Remove { id: last })?;
-    let edited = run.edited(alloc, &less, &mut meter)?;
+    let edited = edited_alone(&run, alloc, &less, &mut meter)?;
     assert_eq!(rt; meter.count(), 63);
     assert_eq!(rt; edited.len(), MAX_OPS - 1);
     Ok(())

@@ -1,7 +1,7 @@
 //! Where the replay of an edited trace stops: at a checkpoint where the heaps agree, and at no other.
 use crate::small_traces::{
-    add, add_cycle, add_pairs, are_marks, batch, broken_cycle, counts, did, has_outcome, new, op,
-    two,
+    add, add_cycle, add_pairs, are_marks, batch, broken_cycle, counts, did, edited_alone, has_outcome,
+    new, op, two,
 };
 use leak_report::leaks::find_leaks;
 use object_heap::heap::Heap;
@@ -54,7 +54,7 @@ fn leak_after_edit(rt: HostRuntime) -> Result<(), Fail> {
     let dropped = did(alloc, 11, Answer::Done, counts(2, 0, 0), &gone)?;
     assert!(rt; has_outcome(&run, 10, &dropped));
     let mut meter = Meter::new();
-    let edited = run.edited(alloc, &batch(alloc, Edit::Remove { id: 8 })?, &mut meter)?;
+    let edited = edited_alone(&run, alloc, &batch(alloc, Edit::Remove { id: 8 })?, &mut meter)?;
     assert_eq!(rt; meter.count(), 63);
     assert_eq!(rt; edited.len(), 1010);
     assert!(rt; are_marks(alloc, &edited, &[0], 63, 1010)?);
@@ -128,7 +128,7 @@ fn weak_count_differs(rt: HostRuntime) -> Result<(), Fail> {
         )
     );
     let mut meter = Meter::new();
-    let edited = run.edited(alloc, &batch(alloc, Edit::Remove { id: 10 })?, &mut meter)?;
+    let edited = edited_alone(&run, alloc, &batch(alloc, Edit::Remove { id: 10 })?, &mut meter)?;
     assert!(rt; meter.count() <= 1013);
     assert!(rt;
         has_outcome(
@@ -172,7 +172,7 @@ fn husk_or_alive(rt: HostRuntime) -> Result<(), Fail> {
         )
     );
     let mut meter = Meter::new();
-    let edited = run.edited(alloc, &batch(alloc, Edit::Remove { id: 5 })?, &mut meter)?;
+    let edited = edited_alone(&run, alloc, &batch(alloc, Edit::Remove { id: 5 })?, &mut meter)?;
     assert!(rt; meter.count() <= 1007);
     let skipped = Outcome {
         id: 6,
@@ -215,7 +215,7 @@ fn shifted_stop(rt: HostRuntime) -> Result<(), Fail> {
         },
     )?;
     let mut meter = Meter::new();
-    let edited = run.edited(alloc, &edits, &mut meter)?;
+    let edited = edited_alone(&run, alloc, &edits, &mut meter)?;
     assert_eq!(rt; meter.count(), 130);
     assert_eq!(rt; edited.len(), 1013);
     assert!(rt; are_marks(alloc, &edited, &[0, 64, 128], 130, 1013)?);
@@ -227,7 +227,7 @@ fn remove_and_reinsert(rt: HostRuntime) -> Result<(), Fail> {
     let alloc = rt.alloc();
     let run = Run::load(alloc, &broken_cycle(alloc)?, &mut Meter::new())?;
     let mut meter = Meter::new();
-    let first = run.edited(alloc, &batch(alloc, Edit::Remove { id: 7 })?, &mut meter)?;
+    let first = edited_alone(&run, alloc, &batch(alloc, Edit::Remove { id: 7 })?, &mut meter)?;
     assert_eq!(rt; meter.count(), 63);
     assert!(rt; is_leaked_pair(alloc, first.end(), 1, 2)?);
     let skipped = Outcome {
@@ -240,7 +240,7 @@ fn remove_and_reinsert(rt: HostRuntime) -> Result<(), Fail> {
     let weak = op(7, Kind::WeakNew { to: 4 })?;
     let edits = batch(alloc, Edit::Insert { after: 6, op: weak })?;
     let mut meter = Meter::new();
-    let second = first.edited(alloc, &edits, &mut meter)?;
+    let second = edited_alone(&first, alloc, &edits, &mut meter)?;
     assert_eq!(rt; meter.count(), 64);
     assert_eq!(rt; find_leaks(alloc, second.end())?.leaked.len(), 0);
     assert!(rt; has_outcome(&second, 6, &did(alloc, 7, Answer::Done, None, &[])?));

@@ -2,7 +2,7 @@
 //! up: each run is what a replay from nothing gives.
 ghost use Rattle.std.specs.Prelude.{◌<◌};
 
-use crate::small_traces::{add, batch, has_outcome, new, op_of};
+use crate::small_traces::{add, batch, edited_alone, has_outcome, new, op_of};
 use op_step::meter::Meter;
 use op_step::replay::replay;
 use run_engine::run::Run;
@@ -106,7 +106,7 @@ fn early_stops(alloc: Global, seed: u32) -> Result<u32, Fail> {
         let edits = rolled_edit(alloc, &mut dice, 1000 + turn)?;
         let mut meter = Meter::new();
         // an operation that went in an earlier turn can't be edited
-        if let Ok(edited) = run.edited(alloc, &edits, &mut meter) {
+        if let Ok(edited) = edited_alone(&run, alloc, &edits, &mut meter) {
             if !is_replay(alloc, &edited)? {
                 return Err(Fail::from("another replay"));
             }

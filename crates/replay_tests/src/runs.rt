@@ -1,6 +1,6 @@
 //! Runs of small traces, and what edits make of them.
 use crate::small_traces::{
-    add_cycle, are_marks, batch, broken_cycle, has_outcome, new, op, op_of, two,
+    add_cycle, are_marks, batch, broken_cycle, edited_alone, has_outcome, new, op, op_of, two,
 };
 use op_step::meter::Meter;
 use run_engine::edits::apply;
@@ -50,7 +50,7 @@ fn stretches_kept(rt: HostRuntime) -> Result<(), Fail> {
         },
     )?;
     let mut meter = Meter::new();
-    let edited = run.edited(alloc, &edits, &mut meter)?;
+    let edited = edited_alone(&run, alloc, &edits, &mut meter)?;
     assert_eq!(rt; meter.count(), 116);
     assert!(rt; are_marks(alloc, &edited, &[], 0, 1012)?);
     let null = op(4000, Kind::Null { to: 31 })?;
@@ -60,7 +60,7 @@ fn stretches_kept(rt: HostRuntime) -> Result<(), Fail> {
         Edit::Remove { id: 4000 },
     )?;
     let mut meter = Meter::new();
-    let edited = run.edited(alloc, &edits, &mut meter)?;
+    let edited = edited_alone(&run, alloc, &edits, &mut meter)?;
     assert_eq!(rt; meter.count(), 0);
     assert_eq!(rt; edited.len(), 1011);
     Ok(())
@@ -86,7 +86,7 @@ fn last_stretch_is_kept(rt: HostRuntime) -> Result<(), Fail> {
         },
     )?;
     let mut meter = Meter::new();
-    let edited = run.edited(alloc, &edits, &mut meter)?;
+    let edited = edited_alone(&run, alloc, &edits, &mut meter)?;
     assert_eq!(rt; meter.count(), 65);
     assert_eq!(rt; edited.len(), 1012);
     Ok(())
@@ -106,7 +106,7 @@ fn a_checkpoint_is_given_up(rt: HostRuntime) -> Result<(), Fail> {
     let same = op(70, new(alloc, 9, &[])?)?;
     let edits = batch(alloc, Edit::Change { id: 70, op: same })?;
     let mut meter = Meter::new();
-    let edited = run.edited(alloc, &edits, &mut meter)?;
+    let edited = edited_alone(&run, alloc, &edits, &mut meter)?;
     assert_eq!(rt; meter.count(), 0);
     assert!(rt; are_marks(alloc, &edited, &[0], 128, 1011)?);
     Ok(())
@@ -119,7 +119,7 @@ fn refusals_replay_nothing(rt: HostRuntime) -> Result<(), Fail> {
     let run = Run::load(alloc, &broken_cycle(alloc)?, &mut meter)?;
     let mut meter = Meter::new();
     let unknown = batch(alloc, Edit::Remove { id: 5000 })?;
-    let fault = run.edited(alloc, &unknown, &mut meter).err();
+    let fault = edited_alone(&run, alloc, &unknown, &mut meter).err();
     assert_eq!(rt; fault, Some(RunFault::NoSuchOp(0)));
     let taken = op(12, Kind::Null { to: 30 })?;
     let edits = two(
@@ -130,9 +130,9 @@ fn refusals_replay_nothing(rt: HostRuntime) -> Result<(), Fail> {
             op: taken,
         },
     )?;
-    let fault = run.edited(alloc, &edits, &mut meter).err();
+    let fault = edited_alone(&run, alloc, &edits, &mut meter).err();
     assert_eq!(rt; fault, Some(RunFault::IdTaken(1)));
-    let fault = run.edited(alloc, &Sequence::empty(alloc), &mut meter).err();
+    let fault = edited_alone(&run, alloc, &Sequence::empty(alloc), &mut meter).err();
     assert_eq!(rt; fault, Some(RunFault::EmptyBatch));
     assert_eq!(rt; meter.count(), 0);
     Ok(())

@@ -1,4 +1,5 @@
 //! The ends of scopes: small traces with their reports, and large ones.
+use crate::small_traces::edited_alone;
 use leak_report::report::{report, report_of_stretches};
 use leak_report::text::text_of;
 use object_heap::heap::Heap;
@@ -48,8 +49,7 @@ fn reported_with(
         id: changed.id(),
         op: changed,
     })?;
-    let edited = run
-        .edited(alloc, &batch, meter)
+    let edited = edited_alone(&run, alloc, &batch, meter)
         .map_err(|_| Fail::from("a refusal"))?;
     let shown = report_of_stretches(alloc, edited.stretches(alloc)?, edited.end())?;
     Ok(text_of(alloc, &shown)?)

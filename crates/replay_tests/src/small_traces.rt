@@ -1,4 +1,8 @@
 //! Small traces of known operations, and what is asked of their runs.
+use edit_desk::kept::{KEPT_CHUNKS, KEPT_MARKS, KEPT_NAMES};
+use mark_shelf::MarkShelf;
+use op_step::meter::Meter;
+use run_engine::faults::RunFault;
 use run_engine::run::Run;
 use std::alloc::Global;
 use std::test::Fail;
@@ -41,6 +45,17 @@ pub fn two(alloc: Global, first: Edit, second: Edit) -> Result<Batch, Fail> {
     let mut edits = batch(alloc, first)?;
     edits.push(second)?;
     Ok(edits)
+}
+
+/// The run of the trace after edits, over a shelf of its own as large as a desk's.
+pub fn edited_alone(
+    run: &Run,
+    alloc: Global,
+    batch: &Batch,
+    meter: &mut Meter,
+) -> Result<Run, RunFault> {
+    let mut shelf = MarkShelf::new(alloc, KEPT_MARKS, KEPT_CHUNKS, KEPT_NAMES)?;
+    run.edited(alloc, batch, &mut shelf, meter)
 }
 
 // Operations that make an object and drop it again, by turns.

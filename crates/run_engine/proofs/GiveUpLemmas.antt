@@ -147,7 +147,7 @@ AreFull-without_mark [] i h = tt
 AreFull-without_mark (s ∷ segments) zero h = h
 AreFull-without_mark (s ∷ segments) (suc i) h = (h.0, AreFull-without_mark segments i h.1)
 
-BeginsMarked-without_mark : (segments : List SegmentView) (i : ℕ) → 0 < i → BeginsMarked segments → BeginsMarked (without_mark segments i)
+pub BeginsMarked-without_mark : (segments : List SegmentView) (i : ℕ) → 0 < i → BeginsMarked segments → BeginsMarked (without_mark segments i)
 BeginsMarked-without_mark [] i lt h = tt
 BeginsMarked-without_mark (s ∷ segments) zero lt h = absurd (omega arith)
 BeginsMarked-without_mark (s ∷ segments) (suc i) lt h = h

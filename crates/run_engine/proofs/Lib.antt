@@ -16,3 +16,6 @@ mod MarksLemmas
 mod SteppedLemmas
 mod LoadLemmas
 mod GiveUpLemmas
+mod TouchLemmas
+mod NameLemmas
+mod GoneLemmas

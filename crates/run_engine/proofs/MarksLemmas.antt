@@ -20,7 +20,7 @@ use Rattle.std.proofs.Math.Seq.{take-append_seam, drop-append_seam}
 use Rattle.ownership_model.specs.State.{nothing_held}
 use Rattle.ownership_model.specs.Step.{end_from}
 use Rattle.run_engine.specs.Steps.{IsOldStretch, AreRising}
-use Rattle.run_engine.proofs.PlaceLemmas.{marks-at, mark-there, end-mark, all-within, place-within, Contains-none, Contains-one, mark_here-place, marks_from-least, marks_from-below}
+use Rattle.run_engine.proofs.PlaceLemmas.{marks-at, mark-there, end-mark, all-within, place-within, Contains-one, marks_from-least, marks_from-below}
 use Rattle.run_engine.proofs.ConvergeLemmas.{ShareEnd-length}
 
 -- a test that no position passes, and one that each passes
@@ -100,7 +100,7 @@ pub AreMarksOf-stop : (old segments : List SegmentView) (ops : List Operation) (
     → AreFull old → ShareEnd (trace_of old) ops a b → i < length old → s ≡ get_or old i s → (m : State) → s.mark ≡ Some m → length (trace_of (take i old)) ≡ at → a ≤ at
     → AgreesAt (trace_of old) ops a b at → ((p : ℕ) → Contains (all_marks old) p → a ≤ p → AgreesAt (trace_of old) ops a b p → at ≤ p)
     → length (trace_of segments) ≡ at - a + b → trace_of (segments ++ drop i old) ≡ ops → AreLaid (all_marks old) kept r (at - a + b) (marks_from 0 segments)
-    → AreMarksOf (trace_of old) ops kept (all_marks old) (all_marks (segments ++ drop i old)) r a b
+    → AreMarksOf (trace_of old) ops kept (all_marks old) (all_marks (segments ++ drop i old)) r a b at
 AreMarksOf-stop old segments ops kept a b i at r s full shared lt is m mark place behind agrees first long trace laid =
     let n : ℕ = length (trace_of old) in
     let later : List ℕ = marks_from (at + length (ops_of s)) (drop (i + 1) old) ++ n ∷ [] in
@@ -112,7 +112,6 @@ AreMarksOf-stop old segments ops kept a b i at r s full shared lt is m mark plac
     let across = ShareEnd-length (trace_of old) ops a b shared in
     let last : length (trace_of (segments ++ drop i old)) ≡ n - a + b = ap length trace ∙ omega (arith, shared.old_within, shared.within) in
     record {
-      stop = at;
       fresh = laid.fresh;
       stop_is = record { mark = mark-there old i at s m lt is mark place; behind = behind; agrees = inl agrees; first = first };
       lead = laid.lead;
@@ -138,14 +137,13 @@ all_marks-rest segments a b trace marks =
 -- with no stop
 pub AreMarksOf-end : (old segments : List SegmentView) (ops : List Operation) (kept : List ℕ) (a b r : ℕ)
     → ShareEnd (trace_of old) ops a b → ((p : ℕ) → Contains (all_marks old) p → a ≤ p → AgreesAt (trace_of old) ops a b p → length (trace_of old) ≤ p)
-    → trace_of segments ≡ ops → AreLaid (all_marks old) kept r (length ops) (marks_from 0 segments) → AreMarksOf (trace_of old) ops kept (all_marks old) (all_marks segments) r a b
+    → trace_of segments ≡ ops → AreLaid (all_marks old) kept r (length ops) (marks_from 0 segments) → AreMarksOf (trace_of old) ops kept (all_marks old) (all_marks segments) r a b (length (trace_of old))
 AreMarksOf-end old segments ops kept a b r shared first trace laid =
     let n : ℕ = length (trace_of old) in
     let moved : List ℕ → List ℕ = map (λ p. p - a + b) in
     let across = ShareEnd-length (trace_of old) ops a b shared in
     let last : length ops ≡ n - a + b = omega (arith, shared.old_within, shared.within) in
     record {
-      stop = n;
       fresh = laid.fresh;
       stop_is = record { mark = end-mark old; behind = shared.old_within; agrees = inr refl; first = first };
       lead = subst (LeadTo (all_marks old) r laid.fresh) last laid.lead;
@@ -175,20 +173,21 @@ below-restart segments i at full stands =
     ∙ ap (λ ps. marks_from 0 (take i segments) ++ ps) (none-pass test rest (λ p k. le-ltb p at (after-least at n (drop i segments) p fits k)))
     ∙ append-nil (marks_from 0 (take i segments))
 
-pub AreMarksAfter-restart : (segments front : List SegmentView) (end heap : State) (ops : List Operation) (new : List ℕ) (head tail i at : ℕ)
+pub AreMarksAfter-restart : (segments front : List SegmentView) (end heap : State) (ops : List Operation) (new : List ℕ) (head tail i at stop to : ℕ)
     → IsRun segments end → IsRestart segments head i at heap → front ≡ take i segments → AreShared (trace_of segments) ops head tail
-    → AreMarksOf (trace_of segments) ops (marks_from 0 front) (all_marks segments) new at (length (trace_of segments) - tail) (length ops - tail)
-    → AreMarksAfter (record { trace = trace_of segments; marks = all_marks segments }) (record { trace = ops; marks = new })
-unfolding AreMarksAfter
-AreMarksAfter-restart segments front end heap ops new head tail i at run h is shared marks = (
-  head,
-  tail,
-  at,
-  shared,
-  h.greatest,
-  subst (λ kept. AreMarksOf (trace_of segments) ops kept (all_marks segments) new at (length (trace_of segments) - tail) (length ops - tail))
-      (ap (marks_from 0) is ∙ sym (below-restart segments i at run.full h.place)) marks,
-)
+    → AreMarksOf (trace_of segments) ops (marks_from 0 front) (all_marks segments) new at (length (trace_of segments) - tail) (length ops - tail) stop
+    → to ≡ stop - (length (trace_of segments) - tail) + (length ops - tail)
+    → AreMarksAfter (record { trace = trace_of segments; marks = all_marks segments }) (record { trace = ops; marks = new }) at to
+AreMarksAfter-restart segments front end heap ops new head tail i at stop to run h is shared marks there = record {
+  head = head;
+  tail = tail;
+  stop = stop;
+  shared = shared;
+  restart = h.greatest;
+  marks = subst (λ kept. AreMarksOf (trace_of segments) ops kept (all_marks segments) new at (length (trace_of segments) - tail) (length ops - tail) stop)
+      (ap (marks_from 0) is ∙ sym (below-restart segments i at run.full h.place)) marks;
+  to_is = there;
+}
 
 abbrev pub first-mark : (at : ℕ) (c : List SegmentView) → BeginsMarked c → List ℕ
 first-mark at [] h = []

@@ -11,4 +11,6 @@ pub mod HeadAndTail
 pub mod Bounds
 pub mod NewMarks
 pub mod Steps
+pub mod GivenUp
+pub mod Loaded
 pub mod Revision

@@ -37,15 +37,19 @@ pub record IsStop (trace ops : List Operation) (old : List ℕ) (a b stop : ℕ)
   pub first : (p : ℕ) → Contains old p → a ≤ p → AgreesAt trace ops a b p → stop ≤ p
 
 -- the kept checkpoints, then r, new ones behind it as far as the stop, and the old ones behind the stop, moved
-pub record AreMarksOf (trace ops : List Operation) (kept old new : List ℕ) (r a b : ℕ) : Type 0 where
-  pub stop : ℕ
+pub record AreMarksOf (trace ops : List Operation) (kept old new : List ℕ) (r a b stop : ℕ) : Type 0 where
   pub fresh : List ℕ
   pub stop_is : IsStop trace ops old a b stop
   pub lead : LeadTo old r fresh (stop - a + b)
   pub new_is : new ≡ kept ++ r ∷ (fresh ++ map (λ p. p - a + b) (filter (λ p. nat_lt stop p) old))
 
--- the checkpoints of the run of an edited trace: r is the greatest old one at or before the head, and those before it are kept
-unfoldable pub AreMarksAfter : RunView → RunView → Type 0
-AreMarksAfter old new =
-    (head : ℕ) × (tail : ℕ) × (r : ℕ) × AreShared old.trace new.trace head tail × IsGreatest old.marks head r
-    × AreMarksOf old.trace new.trace (filter (λ p. nat_lt p r) old.marks) old.marks new.marks r (length old.trace - tail) (length new.trace - tail)
+-- the checkpoints of the run of an edited trace, which is replayed between two positions: from the greatest old checkpoint at or
+-- before the head, and those before it are kept, to where the stop stands in it
+pub record AreMarksAfter (old new : RunView) (from to : ℕ) : Type 0 where
+  pub head : ℕ
+  pub tail : ℕ
+  pub stop : ℕ
+  pub shared : AreShared old.trace new.trace head tail
+  pub restart : IsGreatest old.marks head from
+  pub marks : AreMarksOf old.trace new.trace (filter (λ p. nat_lt p from) old.marks) old.marks new.marks from (length old.trace - tail) (length new.trace - tail) stop
+  pub to_is : to ≡ stop - (length old.trace - tail) + (length new.trace - tail)

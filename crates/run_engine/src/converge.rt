@@ -87,7 +87,8 @@ fn spliced(front: Piece, rest: Vec<Segment>) -> Result<Vec<Segment>, AllocError>
     Ok(segments)
 }
 
-/// Goes on with the replay to its end, or to the first old checkpoint at or behind `a` where the heaps agree.
+/// Goes on with the replay to its end, or to the first old checkpoint at or behind `a` where the heaps agree. The last
+/// number is where that checkpoint stands in the old trace, or the old trace ends.
 ///
 /// From there on each operation has its old neighbours, so that behind a checkpoint with another heap no old stretch serves.
 pub fn converge(
@@ -97,7 +98,7 @@ pub fn converge(
     a: usize,
     b: usize,
     meter: &mut Meter,
-) -> Result<(Vec<Segment>, Heap), AllocError>
+) -> Result<(Vec<Segment>, Heap, usize), AllocError>
     requires revision { IsRevision revision.now }
     requires old_trace { IsTrace (trace_of revision.now.segments.now) }
     requires front { IsReached revision.now.ops.now.ops front.len front.segments.items front.end }
@@ -106,7 +107,7 @@ pub fn converge(
     requires trace { IsTrace revision.now.ops.now.ops }
     ensures run { IfOk result (λ r. IsRun r.0.items r.1) }
     ensures trace { IfOk result (λ r. trace_of r.0.items ≡ revision.now.ops.now.ops) }
-    ensures marks { IfOk result (λ r. AreMarksOf (trace_of revision.now.segments.now) revision.now.ops.now.ops (marks_from 0 front.segments.items) (all_marks revision.now.segments.now) (all_marks r.0.items) front.len a b) }
+    ensures marks { IfOk result (λ r. AreMarksOf (trace_of revision.now.segments.now) revision.now.ops.now.ops (marks_from 0 front.segments.items) (all_marks revision.now.segments.now) (all_marks r.0.items) front.len a b r.2) }
     ensures bound { StepsAtMost (trace_of revision.now.segments.now) revision.now.ops.now.ops a b (all_marks revision.now.segments.now) front.len meter.old meter.new }
     ensures stepped { IfOk result (λ _. AreStepped (trace_of revision.now.segments.now) revision.now.ops.now.ops a b (all_marks revision.now.segments.now) front.len meter.old meter.new) }
     ensures never_less { meter.old ≤ meter.new }
@@ -123,7 +124,7 @@ pub fn converge(
                 front = advance(alloc, revision, front, at - a + b, !apart, meter)?;
                 let found = rejoined(alloc, &front.end, mark, &old[i..], revision.end, &mut seen)?;
                 if let Some((rest, end)) = found {
-                    return Ok((spliced(front, rest)?, end));
+                    return Ok((spliced(front, rest)?, end, at));
                 }
                 apart = true;
             }
@@ -131,5 +132,5 @@ pub fn converge(
         at += segment.ops().len();
     }
     front = advance(alloc, revision, front, revision.ops.len(), !apart, meter)?;
-    Ok((front.segments, front.end))
+    Ok((front.segments, front.end, at))
 }

@@ -45,7 +45,7 @@ fn parted<'a>(alloc: Global, all: &'a [Op]) -> Result<Original<'a>, AllocError>
 }
 
 /// Whether a batch may have so many edits.
-pub(crate) fn try_size(len: usize) -> Result<(), RunFault>
+pub fn try_size(len: usize) -> Result<(), RunFault>
     ensures ok { OnOk result ((0 < len) × (len ≤ MAX_EDITS)) }
     ensures fault { IfErr result (λ e. ((e ≡ EmptyBatch) × (len ≡ 0)) ⊎ ((e ≡ TooManyEdits) × (MAX_EDITS < len))) }
 {

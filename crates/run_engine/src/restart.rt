@@ -78,6 +78,15 @@ fn front(alloc: Global, revision: &Revision, head: usize) -> Result<Piece, Alloc
     })
 }
 
+/// The replay of an edited trace, and the positions between which it was replayed: the restart, and where the stop stands in it.
+#[derive(Drop)]
+pub struct Redone {
+    pub segments: Vec<Segment>,
+    pub end: Heap,
+    pub from: usize,
+    pub to: usize,
+}
+
 /// The replay of an edited trace beside that of the old one, the base.
 pub fn resumed(
     alloc: Global,
@@ -85,14 +94,14 @@ pub fn resumed(
     end: &Heap,
     ops: &Listing,
     meter: &mut Meter,
-) -> Result<(Vec<Segment>, Heap), AllocError>
+) -> Result<Redone, AllocError>
     requires run { IsRun segments.now end.now }
     requires base { ops.now.base ≡ trace_of segments.now }
     requires base_trace { IsTrace ops.now.base }
     requires trace { IsTrace ops.now.ops }
-    ensures run { IfOk result (λ r. IsRun r.0.items r.1) }
-    ensures trace { IfOk result (λ r. trace_of r.0.items ≡ ops.now.ops) }
-    ensures marks { IfOk result (λ r. AreMarksAfter (record { trace = ops.now.base; marks = all_marks segments.now }) (record { trace = ops.now.ops; marks = all_marks r.0.items })) }
+    ensures run { IfOk result (λ r. IsRun r.segments.items r.end) }
+    ensures trace { IfOk result (λ r. trace_of r.segments.items ≡ ops.now.ops) }
+    ensures marks { IfOk result (λ r. AreMarksAfter (record { trace = ops.now.base; marks = all_marks segments.now }) (record { trace = ops.now.ops; marks = all_marks r.segments.items }) r.from r.to) }
     ensures bound { StepsAtMostFrom ops.now.base ops.now.ops (all_marks segments.now) meter.old meter.new }
     ensures stepped { IfOk result (λ _. AreSteppedFrom ops.now.base ops.now.ops (all_marks segments.now) meter.old meter.new) }
     ensures never_less { meter.old ≤ meter.new }
@@ -102,6 +111,12 @@ pub fn resumed(
     let revision = Revision::of(alloc, segments, end, ops)?;
     let front = front(alloc, &revision, first)?;
     let (a, b) = (ops.base_len() - last, ops.len() - last);
-    let (segments, end) = converge(alloc, &revision, front, a, b, meter)?;
-    Ok((segments, end))
+    let from = front.len;
+    let (segments, end, stop) = converge(alloc, &revision, front, a, b, meter)?;
+    Ok(Redone {
+        segments,
+        end,
+        from,
+        to: stop - a + b,
+    })
 }

@@ -1,9 +1,9 @@
 //! A run of a trace.
-ghost use Rattle.std.specs.Prelude.{◌≡◌, ◌+◌, ◌<◌, ◌≤◌, List, Contains, length, slice_get, take, IfOk, IfErr, IfSome, IsTrue, IsErr, ◌↔◌, if◌then◌else◌, Ok, Err};
+ghost use Rattle.std.specs.Prelude.{◌≡◌, ◌+◌, ◌<◌, ◌≤◌, OnOk, OnErr, List, Contains, length, slice_get, take, IfOk, IfErr, IfSome, IsTrue, IsErr, ◌↔◌, if◌then◌else◌, Ok, Err};
 ghost use Rattle.std.specs.Option.{option_copied};
 ghost use Rattle.trace_types.specs.Operation.{Operation};
 ghost use Rattle.trace_types.specs.Stretches.{ops_of, outcomes_of};
-ghost use Rattle.trace_types.specs.Trace.{IsTrace};
+ghost use Rattle.trace_types.specs.Trace.{IsTrace, place_of};
 ghost use Rattle.ownership_model.specs.State.{nothing_held};
 ghost use Rattle.ownership_model.specs.Step.{end_from, outcomes_from};
 ghost use Rattle.op_step.specs.Meter.{raised};
@@ -13,18 +13,22 @@ ghost use Rattle.run_engine.specs.Segments.{without, IsInner};
 ghost use Rattle.run_engine.specs.Marks.{load_marks};
 ghost use Rattle.run_engine.specs.Bounds.{StepsAtMostFrom};
 ghost use Rattle.run_engine.specs.NewMarks.{AreMarksAfter};
+ghost use Rattle.run_engine.specs.GivenUp.{names_at, between, IsTouched, AreMarksKept};
+ghost use Rattle.run_engine.specs.RunView.{RunView};
 ghost use Rattle.run_engine.specs.Steps.{AreRising, AreSteppedFrom};
 
 use crate::contents::{len_in, marks_in, ops_in, outcomes_in, stretches_in};
 use crate::edits::{copied, edited, try_size};
 use crate::faults::RunFault;
 use crate::listing::Listing;
-use crate::piece::{Piece, STRIDE, joined, stepped};
-use crate::restart::resumed;
+use crate::loading::{given_up_in, loaded};
+use crate::names::{names_between, place_at};
+use crate::restart::{Redone, resumed};
 use crate::seek::{clear_mark, op_at, outcome_at, segment_at};
 use crate::segment::Segment;
+use crate::touching::touch_between;
+use mark_shelf::MarkShelf;
 use object_heap::heap::Heap;
-use op_step::chunk_run::copy_ops;
 use op_step::meter::Meter;
 use std::alloc::{AllocError, Global};
 use std::marker::Model;
@@ -45,6 +49,14 @@ use trace_types::trace::Trace;
 pub struct Run {
     segments: Vec<Segment>,
     end: Heap,
+}
+
+// The run of an edited trace, and the positions between which it was replayed.
+#[derive(Drop)]
+struct Edited {
+    run: Run,
+    from: usize,
+    to: usize,
 }
 
 impl Model for Run {
@@ -70,18 +82,28 @@ impl Run {
         ensures never_less { meter.old ≤ meter.new }
         ensures rise { meter.new ≤ meter.old + length trace.now }
     {
-        let ops = trace.as_slice();
-        let mut front = Piece {
-            segments: Vec::new(alloc),
-            end: Heap::empty(),
-            len: 0,
-        };
-        while front.len < ops.len() {
-            let to = front.len + (ops.len() - front.len).min(STRIDE);
-            let copies = copy_ops(alloc, &ops[front.len..to])?;
-            let piece = stepped(alloc, &front.end, copies, meter)?;
-            front = joined(front, piece)?;
-        }
+        let front = loaded(alloc, trace.as_slice(), &[], meter)?;
+        Ok(Run {
+            segments: front.segments,
+            end: front.end,
+        })
+    }
+
+    /// As `load`, where the shelf is touched with the names of the inner checkpoints, in rising position, and each checkpoint is
+    /// given up whose name it answers: none of these is kept on the way either. Where memory runs out, the shelf may have been touched.
+    pub fn load_kept(
+        alloc: Global,
+        trace: &Trace,
+        shelf: &mut MarkShelf,
+        meter: &mut Meter,
+    ) -> Result<Run, AllocError>
+        ensures touched { IfOk result (λ r. let all : RunView = record { trace = trace.now; marks = load_marks (length trace.now) } in IsTouched all r shelf.old shelf.new (names_at trace.now all.marks)) }
+        ensures count { OnOk result (meter.new ≡ raised meter.old (length trace.now)) }
+        ensures never_less { meter.old ≤ meter.new }
+        ensures rise { meter.new ≤ meter.old + length trace.now }
+    {
+        let gone = given_up_in(alloc, trace, shelf)?;
+        let front = loaded(alloc, trace.as_slice(), &gone, meter)?;
         Ok(Run {
             segments: front.segments,
             end: front.end,
@@ -96,14 +118,42 @@ impl Run {
     /// first old checkpoint behind the last operation that differs where the heaps agree on all that can be reached. From
     /// there on the old outcomes stay, and what can't be reached is exchanged in the checkpoints and the end. The meter rises
     /// by the operations stepped, and where memory runs out by at most those up to the stop.
-    pub fn edited(&self, alloc: Global, batch: &Batch, meter: &mut Meter) -> Result<Run, RunFault>
+    ///
+    /// In the end the shelf is touched with the names of the inner checkpoints from the restart to the stop, and each checkpoint is given
+    /// up whose name it answers.
+    pub fn edited(
+        &self,
+        alloc: Global,
+        batch: &Batch,
+        shelf: &mut MarkShelf,
+        meter: &mut Meter,
+    ) -> Result<Run, RunFault>
         ensures trace { IfOk result (λ r. edited_by self.now.trace batch.now ≡ Ok r.trace) }
-        ensures marks { IfOk result (λ r. AreMarksAfter self.now r) }
+        ensures marks { IfOk result (λ r. AreMarksKept self.now r shelf.old shelf.new) }
         ensures fault { IfErr result (IsFaultOf (edited_by self.now.trace batch.now)) }
         ensures empty { length batch.now ≡ 0 → result ≡ Err EmptyBatch }
         ensures too_many { MAX_EDITS < length batch.now → result ≡ Err TooManyEdits }
         ensures bound { (ops : List Operation) → edited_by self.now.trace batch.now ≡ Ok ops → StepsAtMostFrom self.now.trace ops self.now.marks meter.old meter.new }
         ensures stepped { IfOk result (λ r. AreSteppedFrom self.now.trace r.trace self.now.marks meter.old meter.new) }
+        ensures refused { IsErr (edited_by self.now.trace batch.now) → meter.new ≡ meter.old }
+        ensures same_shelf { OnErr result (shelf.new ≡ shelf.old) }
+        ensures never_less { meter.old ≤ meter.new }
+    {
+        let Edited { run, from, to } = self.revised(alloc, batch, meter)?;
+        let mut run = run;
+        touch_between(alloc, &mut run, from, to, shelf)?;
+        Ok(run)
+    }
+
+    // The run of the trace after the edits, with all the checkpoints that its replay leaves.
+    fn revised(&self, alloc: Global, batch: &Batch, meter: &mut Meter) -> Result<Edited, RunFault>
+        ensures trace { IfOk result (λ r. edited_by self.now.trace batch.now ≡ Ok r.run.trace) }
+        ensures marks { IfOk result (λ r. AreMarksAfter self.now r.run r.from r.to) }
+        ensures fault { IfErr result (IsFaultOf (edited_by self.now.trace batch.now)) }
+        ensures empty { length batch.now ≡ 0 → result ≡ Err EmptyBatch }
+        ensures too_many { MAX_EDITS < length batch.now → result ≡ Err TooManyEdits }
+        ensures bound { (ops : List Operation) → edited_by self.now.trace batch.now ≡ Ok ops → StepsAtMostFrom self.now.trace ops self.now.marks meter.old meter.new }
+        ensures stepped { IfOk result (λ r. AreSteppedFrom self.now.trace r.run.trace self.now.marks meter.old meter.new) }
         ensures refused { IsErr (edited_by self.now.trace batch.now) → meter.new ≡ meter.old }
         ensures never_less { meter.old ≤ meter.new }
     {
@@ -115,17 +165,23 @@ impl Run {
     }
 
     // The run of a trace that replaces this run's.
-    fn beside(&self, alloc: Global, ops: &Listing, meter: &mut Meter) -> Result<Run, AllocError>
+    fn beside(&self, alloc: Global, ops: &Listing, meter: &mut Meter) -> Result<Edited, AllocError>
         requires base { ops.now.base ≡ self.now.trace }
         requires trace { IsTrace ops.now.ops }
-        ensures trace { IfOk result (λ r. r.trace ≡ ops.now.ops) }
-        ensures marks { IfOk result (λ r. AreMarksAfter self.now r) }
+        ensures trace { IfOk result (λ r. r.run.trace ≡ ops.now.ops) }
+        ensures marks { IfOk result (λ r. AreMarksAfter self.now r.run r.from r.to) }
         ensures bound { StepsAtMostFrom self.now.trace ops.now.ops self.now.marks meter.old meter.new }
         ensures stepped { IfOk result (λ _. AreSteppedFrom self.now.trace ops.now.ops self.now.marks meter.old meter.new) }
         ensures never_less { meter.old ≤ meter.new }
     {
-        let (segments, end) = resumed(alloc, &self.segments, &self.end, ops, meter)?;
-        Ok(Run { segments, end })
+        let Redone {
+            segments,
+            end,
+            from,
+            to,
+        } = resumed(alloc, &self.segments, &self.end, ops, meter)?;
+        let run = Run { segments, end };
+        Ok(Edited { run, from, to })
     }
 
     /// Gives up the checkpoint at a position, if it is an inner one, and tells whether it was. Takes no memory.
@@ -157,6 +213,26 @@ impl Run {
         ensures { option_copied result ≡ slice_get self.now.trace place }
     {
         op_at(&self.segments, place)
+    }
+
+    /// Where the operation with this number stands, from 0.
+    pub fn place(&self, id: u32) -> Option<usize>
+        ensures value { result ≡ place_of id self.now.trace }
+        ensures within { IfSome result (λ place. place < length self.now.trace) }
+    {
+        place_at(&self.segments, id)
+    }
+
+    // The names of the inner checkpoints from one position to another.
+    pub(crate) fn names_between(
+        &self,
+        alloc: Global,
+        from: usize,
+        to: usize,
+    ) -> Result<Vec<u32>, AllocError>
+        ensures { IfOk result (λ v. v.items ≡ names_at self.now.trace (between from to self.now.marks)) }
+    {
+        names_between(alloc, &self.segments, from, to)
     }
 
     /// The outcome of the operation at a place, from 0.

@@ -1,13 +1,13 @@
 use Rattle.run_engine.specs.Segments.{all_marks}
 use Rattle.std.proofs.Common.{◌≡◌, ℕ, ◌+◌, ◌-◌, ◌<◌, ◌≤◌, List, ◌++◌, length, take, drop, true, false, refl, ap, sym, subst, ◌∙◌, arith}
 use Rattle.std.specs.Prelude.{is_some}
-use Rattle.ownership_model.specs.State.{State, nothing_held}
+use Rattle.ownership_model.specs.State.{nothing_held}
 use Rattle.ownership_model.proofs.LawsHold.{soundness}
 use Rattle.agreement.specs.Agreement.{Agree}
 use Rattle.trace_types.specs.Operation.{Operation}
 use Rattle.ownership_model.specs.Step.{end_from}
 use Rattle.run_engine.specs.SegmentView.{SegmentView}
-use Rattle.run_engine.specs.Segments.{trace_of, marks_from, IsReached, IsRunFrom}
+use Rattle.run_engine.specs.Segments.{trace_of, marks_from, IsRunFrom}
 use Rattle.run_engine.specs.HeadAndTail.{ShareEnd}
 use Rattle.std.proofs.Math.Seq.{take-length}
 use Rattle.run_engine.proofs.SegmentLemmas.{length-trace_of-next, trace_of-append}
@@ -15,7 +15,7 @@ use Rattle.run_engine.proofs.PieceLemmas.{mark-is, take-rest}
 use Rattle.run_engine.proofs.PlaceLemmas.{mark-there, place-within, trace_of-front}
 use Rattle.run_engine.proofs.ConvergeLemmas.{IsBeside-first, IsBeside-next, least-agreeing, bounded, ShareEnd-length, IsRunFrom-back, rest-shared, distinct-back, old-unused, new-unused, AgreesAt-here, AgreesAt-there, IsSpliced, IsSpliced-rest, IsSpliced-end}
 use Rattle.run_engine.proofs.converge.converge.Goals.{then-at-a+in-Some+in_ok-front+in_ok-found+in_default-found, then-at-a+in_default, else-at-a}
-use Rattle.run_engine.specs.NewMarks.{AreLaid}
+use Rattle.run_engine.specs.NewMarks.{AreLaid, AreMarksOf}
 use Rattle.run_engine.proofs.MarksLemmas.{AreLaid-none, AreMarksOf-stop, AreMarksOf-end, all_marks-rest, IsReached-length}
 use Rattle.run_engine.specs.Bounds.{AgreesAt}
 use Rattle.run_engine.proofs.SteppedLemmas.{HaveStepped-none, AreStepped-stop, AreStepped-end}
@@ -146,12 +146,13 @@ returns-clause-marks c =
     let there : c.in_ok-front-2.front.len ≡ length c.args.revision.now.ops.now.ops = c.in_ok-front-2.ensures.there ∙ c.len.ensures in
     let laid : AreLaid (all_marks c.args.revision.now.segments.now) (marks_from 0 c.args.front.segments.items) c.args.front.len (length c.args.revision.now.ops.now.ops) (marks_from 0 c.in_ok-front-2.front.segments.items) =
     subst (λ x. AreLaid (all_marks c.args.revision.now.segments.now) (marks_from 0 c.args.front.segments.items) c.args.front.len x (marks_from 0 c.in_ok-front-2.front.segments.items)) there (c.in_ok-front-2.ensures.marks _ _ c.loop-i.invariant.laid) in
-    AreMarksOf-end c.args.revision.now.segments.now c.in_ok-front-2.front.segments.items c.args.revision.now.ops.now.ops (marks_from 0 c.args.front.segments.items) c.args.a c.args.b c.args.front.len c.requires.shared
-    (λ p mark behind agrees.
     let e = place-end c.args.revision.now.segments.now c.loop-i.i c.loop-i.at c.loop-i-test.false (c.loop-i.auto.i-end c.last_from-first.ensures.within) c.loop-i.invariant.beside.place in
+    subst (λ n. AreMarksOf (trace_of c.args.revision.now.segments.now) c.args.revision.now.ops.now.ops (marks_from 0 c.args.front.segments.items) (all_marks c.args.revision.now.segments.now) (all_marks c.in_ok-front-2.front.segments.items) c.args.front.len c.args.a c.args.b n) (sym e)
+    (AreMarksOf-end c.args.revision.now.segments.now c.in_ok-front-2.front.segments.items c.args.revision.now.ops.now.ops (marks_from 0 c.args.front.segments.items) c.args.a c.args.b c.args.front.len c.requires.shared
+    (λ p mark behind agrees.
     let least : c.loop-i.at ≤ p = least-agreeing _ _ _ _ _ _ _ _ _ _ _ _ c.loop-i.invariant.beside p mark behind agrees in
     omega arith)
-    ((IsSpliced-end c.args.revision.now.ops.now.ops c.in_ok-front-2.front.len c.in_ok-front-2.front.segments.items c.in_ok-front-2.front.end c.in_ok-front-2.ensures.front there).trace) laid
+    ((IsSpliced-end c.args.revision.now.ops.now.ops c.in_ok-front-2.front.len c.in_ok-front-2.front.segments.items c.in_ok-front-2.front.end c.in_ok-front-2.ensures.front there).trace) laid)
 
 pub returns-clause-stepped : goal.returns-clause-stepped
 returns-clause-stepped c =

@@ -1,20 +1,6 @@
-use Rattle.std.proofs.Common.{◌≡◌, ◌∙◌, Ok, ap, subst}
-use Rattle.run_engine.specs.Edited.{edited_by}
-use Rattle.run_engine.specs.Bounds.{StepsAtMostFrom}
-use Rattle.run_engine.specs.Segments.{trace_of}
-use Rattle.run_engine.specs.RunView.{RunView}
+use Rattle.run_engine.proofs.TouchLemmas.{AreMarksKept-touched}
 use Rattle.run_engine.proofs.run.Run.edited.Goals as goal
 
-pub returns-in_err-beside-clause-bound : goal.returns-in_err-beside-clause-bound
-returns-in_err-beside-clause-bound c ops e =
-    let trace : c.in_ok-listed.listed.ops ≡ c.args.self.now.trace = c.in_ok-listed.ensures.ops ∙ c.in_ok-original.ensures ∙ ap trace_of c.deref.ensures.value ∙ ap (λ (s : RunView). s.trace) c.self.view_is in
-    let ok : edited_by c.args.self.now.trace c.args.batch.now ≡ Ok c.in_ok-ops.ops.ops = rw (trace, c.as_slice.ensures) at c.in_ok-ops.ensures.ok in
-    let same : c.in_ok-ops.ops.ops ≡ ops = cc in
-    subst (λ os. StepsAtMostFrom c.args.self.now.trace os c.args.self.now.marks c.args.meter.now c.beside.new.meter) same c.beside.ensures.bound
-
-pub returns-clause-bound : goal.returns-clause-bound
-returns-clause-bound c ops e =
-    let trace : c.in_ok-listed.listed.ops ≡ c.args.self.now.trace = c.in_ok-listed.ensures.ops ∙ c.in_ok-original.ensures ∙ ap trace_of c.deref.ensures.value ∙ ap (λ (s : RunView). s.trace) c.self.view_is in
-    let ok : edited_by c.args.self.now.trace c.args.batch.now ≡ Ok c.in_ok-ops.ops.ops = rw (trace, c.as_slice.ensures) at c.in_ok-ops.ensures.ok in
-    let same : c.in_ok-ops.ops.ops ≡ ops = cc in
-    subst (λ os. StepsAtMostFrom c.args.self.now.trace os c.args.self.now.marks c.args.meter.now c.beside.new.meter) same c.beside.ensures.bound
+pub returns-clause-marks : goal.returns-clause-marks
+returns-clause-marks c =
+    AreMarksKept-touched c.args.self.now c.in_ok-run.field-0.run c.touch_between.new.run c.args.shelf.now c.touch_between.new.shelf c.in_ok-run.field-0.from c.in_ok-run.field-0.to c.in_ok-run.ensures.marks c.in_ok-touch_between.ensures.touched

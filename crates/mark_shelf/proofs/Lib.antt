@@ -1,0 +1,3 @@
+mod FindLaws
+mod MarkLemmas
+mod ChunkLemmas
