@@ -4,6 +4,7 @@ mod HeadAndTailLemmas
 mod SegmentLemmas
 mod NumberLemmas
 mod PartLemmas
+mod StartLemmas
 mod SpanLemmas
 mod StretchLemmas
 mod PieceLemmas

@@ -1,5 +1,5 @@
 -- The greatest checkpoint at or before the head.
-use Rattle.std.proofs.Common.{◌≡◌, ℕ, ◌+◌, ◌<◌, ◌≤◌, List, [], ◌∷◌, ◌++◌, length, take, drop, get_or, true, false, refl, ap, sym, subst, ◌∙◌, arith, append_assoc, take-append-drop}
+use Rattle.std.proofs.Common.{suc, zero, ◌≡◌, ℕ, ◌+◌, ◌<◌, ◌≤◌, List, [], ◌∷◌, ◌++◌, length, take, drop, get_or, true, false, refl, ap, sym, subst, ◌∙◌, arith, append_assoc, take-append-drop}
 use Rattle.std.specs.Prelude.{Some, is_some, Contains}
 use mathlib.Core.Logic.{◌⊎◌, inl, inr, ⊎_elim}
 use Rattle.std.proofs.lemmas.List.Elements.{Contains-append_cases}
@@ -21,11 +21,22 @@ pub record IsSought (segments : List SegmentView) (head j here i at : ℕ) (heap
   pub place : length (trace_of (take i segments)) ≡ at
   pub early : at ≤ head
   pub mark : Contains (all_marks segments) at
-  pub heap_is : heap ≡ end_from nothing_held (trace_of (take i segments))
+  pub heap_is : 0 < j → heap ≡ end_from nothing_held (trace_of (take i segments))
   pub later : (p : ℕ) → Contains (all_marks segments) p → p ≤ head → (p ≤ at) ⊎ Contains (marks_from here (drop j segments) ++ length (trace_of segments) ∷ []) p
 
-pub IsSought-none : (segments : List SegmentView) (head : ℕ) → BeginsMarked segments → IsSought segments head 0 0 0 0 nothing_held
-IsSought-none segments head begins = record { stands = refl; within = omega arith; place = refl; early = omega arith; mark = first-mark-there segments begins; heap_is = refl; later = λ p h k. inr h }
+pub IsSought-none : (segments : List SegmentView) (head : ℕ) (heap : State) → BeginsMarked segments → IsSought segments head 0 0 0 0 heap
+IsSought-none segments head heap begins = record { stands = refl; within = omega arith; place = refl; early = omega arith; mark = first-mark-there segments begins; heap_is = λ none. absurd (omega arith); later = λ p h k. inr h }
+
+-- behind the start there is a segment in front
+some-before : (segments : List SegmentView) (j here : ℕ) → length (trace_of (take j segments)) ≡ here → 0 < here → 0 < j
+some-before segments zero here stands lt = absurd (omega (arith, stands, lt))
+some-before segments (suc j) here stands lt = omega arith
+
+-- a segment without a checkpoint isn't the first
+other-before : (segments : List SegmentView) (j : ℕ) (s : SegmentView) → BeginsMarked segments → j < length segments → s ≡ get_or segments j s → is_some s.mark ≡ false → 0 < j
+other-before [] j s begins lt is bare = absurd (omega arith)
+other-before (t ∷ segments) zero s begins lt is bare = let first : is_some t.mark ≡ false = ap (λ x. is_some x.mark) (sym is) ∙ bare in cc
+other-before (t ∷ segments) (suc j) s begins lt is bare = omega arith
 
 -- at a segment that begins after the head, the search is over
 pub IsRestart-early : (segments : List SegmentView) (head j here i at : ℕ) (heap : State) → IsSought segments head j here i at heap → head < here → IsRestart segments head i at heap
@@ -42,7 +53,7 @@ IsRestart-early segments head j here i at heap h past =
             (Contains-append_cases (marks_from here (drop j segments)) (length (trace_of segments) ∷ []) p k))
             (h.later p mark le);
       };
-      heap_is = h.heap_is;
+      heap_is = h.heap_is (some-before segments j here h.stands (omega arith));
     }
 
 later-passed : (segments : List SegmentView) (head j here i at at_next : ℕ) (heap : State) (s : SegmentView) → IsSought segments head j here i at heap → j < length segments → s ≡ get_or segments j s
@@ -61,15 +72,15 @@ later-passed segments head j here i at at_next heap s h lt is grows marked p mar
     (h.later p mark le)
 
 -- a segment without a checkpoint
-pub IsSought-bare : (segments : List SegmentView) (head j here i at : ℕ) (heap : State) (s : SegmentView) → IsSought segments head j here i at heap → j < length segments → s ≡ get_or segments j s → is_some s.mark ≡ false
+pub IsSought-bare : (segments : List SegmentView) (head j here i at : ℕ) (heap : State) (s : SegmentView) → BeginsMarked segments → IsSought segments head j here i at heap → j < length segments → s ≡ get_or segments j s → is_some s.mark ≡ false
     → IsSought segments head (j + 1) (here + length s.ops) i at heap
-IsSought-bare segments head j here i at heap s h lt is bare = record {
+IsSought-bare segments head j here i at heap s begins h lt is bare = record {
   stands = length-trace_of-next segments j s lt is ∙ ap (λ m. m + length s.ops) h.stands;
   within = h.within;
   place = h.place;
   early = h.early;
   mark = h.mark;
-  heap_is = h.heap_is;
+  heap_is = λ more. h.heap_is (other-before segments j s begins lt is bare);
   later = later-passed segments head j here i at at heap s h lt is (omega arith) (λ t. cc);
 }
 
@@ -83,7 +94,7 @@ IsSought-marked segments head j here i at heap next m s h lt is marked grows le 
   place = h.stands;
   early = le;
   mark = mark-there segments j here s m lt is marked h.stands;
-  heap_is = same;
+  heap_is = λ more. same;
   later = later-passed segments head j here i at here heap s h lt is grows (λ t. omega arith);
 }
 

@@ -1,5 +1,5 @@
 -- Operations that stand in parts.
-use Rattle.std.specs.Prelude.{ℕ, ◌≤◌, List, [], ◌∷◌}
+use Rattle.std.specs.Prelude.{ℕ, ◌+◌, ◌<◌, ◌≤◌, List, [], ◌∷◌, length, take}
 use Rattle.std.specs.List.{flat_map}
 use Rattle.trace_types.specs.Operation.{Operation}
 
@@ -11,3 +11,14 @@ AreBetween least greatest (op ∷ ops) = (least ≤ op.id) × (op.id ≤ greates
 -- the operations of all parts
 abbrev pub joined : List (List Operation) → List Operation
 joined parts = flat_map (λ part. part) parts
+
+-- where the parts begin, the first of them at `at`
+abbrev pub starts_from : ℕ → List (List Operation) → List ℕ
+starts_from at [] = []
+starts_from at (part ∷ parts) = at ∷ starts_from (at + length part) parts
+
+-- the part at i begins at or before a place, and has it, where it isn't behind all parts
+pub record IsPartAt (parts : List (List Operation)) (place i : ℕ) : Type 0 where
+  pub within : i < length parts
+  pub before : length (joined (take i parts)) ≤ place
+  pub inside : place < length (joined parts) → place < length (joined (take (i + 1) parts))

@@ -30,11 +30,11 @@ pub fn ops_in<'a>(alloc: Global, segments: &'a [Segment]) -> Result<Original<'a>
     requires { length (trace_of segments.now) ≤ MAX_OPS }
     ensures { IfOk result (λ v. v ≡ trace_of segments.now) }
 {
-    let mut ops = Original::with_room(alloc, segments.len())?;
+    let mut parts = Vec::with_capacity(alloc, segments.len())?;
     for segment in segments {
-        ops.push(segment.part())?;
+        parts.push(segment.part())?;
     }
-    Ok(ops)
+    Original::of(alloc, parts)
 }
 
 /// The operations and outcomes of each segment, where they stand.

@@ -33,15 +33,15 @@ fn parted<'a>(alloc: Global, all: &'a [Op]) -> Result<Original<'a>, AllocError>
     requires { length all.now ≤ MAX_OPS }
     ensures { IfOk result (λ l. l ≡ all.now) }
 {
-    let mut original = Original::with_room(alloc, all.len() / 64 + 1)?;
+    let mut parts = Vec::with_capacity(alloc, all.len() / 64 + 1)?;
     let mut at = 0;
     while at < all.len() {
         let to = at + (all.len() - at).min(64);
         let ops = &all[at..to];
-        original.push(Part::new(ops, bounds_of(ops)))?;
+        parts.push(Part::new(ops, bounds_of(ops)))?;
         at = to;
     }
-    Ok(original)
+    Original::of(alloc, parts)
 }
 
 /// Whether a batch may have so many edits.

@@ -16,4 +16,5 @@ pub mod run;
 mod seek;
 mod segment;
 mod spans;
+mod starts;
 mod stretch;

@@ -1,8 +1,10 @@
 //! The operations that edits begin with, where they stand.
-ghost use Rattle.std.specs.Prelude.{◌≡◌, ◌+◌, ◌<◌, ◌≤◌, ◌++◌, [], length, take, drop, IfOk, OnOk, IfSome, slice_index_or};
+ghost use Rattle.std.specs.Prelude.{◌≡◌, ◌<◌, ◌≤◌, length, take, drop, IfOk, slice_index_or};
 ghost use Rattle.trace_types.specs.Trace.{place_of};
+ghost use Rattle.run_engine.specs.Parts.{joined};
 
 use crate::part::Part;
+use crate::starts::part_at;
 use std::alloc::{AllocError, Global};
 use std::marker::Model;
 use trace_types::limits::MAX_OPS;
@@ -12,6 +14,7 @@ use trace_types::ops::Op;
 #[derive(Drop)]
 pub struct Original<'a> {
     parts: Vec<Part<'a>>,
+    starts: Vec<usize>,
     len: usize,
 }
 
@@ -19,35 +22,28 @@ impl<'a> Model for Original<'a> {
     ghost use Rattle.std.specs.Prelude.{◌≡◌, ◌≤◌, List, length};
     ghost use Rattle.trace_types.specs.Operation.{Operation};
     ghost use Rattle.trace_types.specs.declared.limits.TheConstants.{MAX_OPS};
-    ghost use Rattle.run_engine.specs.Parts.{joined};
+    ghost use Rattle.run_engine.specs.Parts.{joined, starts_from};
 
     ghost Value = { List Operation };
 
     ghost view = { λ o. joined o.parts.items };
 
-    ghost invariant = { λ o. (o.len ≡ length (joined o.parts.items)) × (o.len ≤ MAX_OPS) };
+    ghost invariant = { λ o. (o.len ≡ length (joined o.parts.items)) × (o.len ≤ MAX_OPS) × (o.starts.items ≡ starts_from 0 o.parts.items) };
 }
 
 impl<'a> Original<'a> {
-    /// No operation, with room for so many parts.
-    pub fn with_room(alloc: Global, parts: usize) -> Result<Self, AllocError>
-        ensures { IfOk result (λ o. o ≡ []) }
+    /// The operations of all parts.
+    pub fn of(alloc: Global, parts: Vec<Part<'a>>) -> Result<Self, AllocError>
+        requires { length (joined parts.items) ≤ MAX_OPS }
+        ensures { IfOk result (λ o. o ≡ joined parts.entry.items) }
     {
-        Ok(Original {
-            parts: Vec::with_capacity(alloc, parts)?,
-            len: 0,
-        })
-    }
-
-    /// Adds a part at the end.
-    pub fn push(&mut self, part: Part<'a>) -> Result<(), AllocError>
-        requires { length self.old + length part ≤ MAX_OPS }
-        ensures { OnOk result (self.new ≡ self.old ++ part.entry) }
-    {
-        let more = part.ops().len();
-        self.parts.push(part)?;
-        self.len += more;
-        Ok(())
+        let mut starts = Vec::with_capacity(alloc, parts.len())?;
+        let mut len = 0;
+        for part in parts.as_slice() {
+            starts.push(len)?;
+            len += part.ops().len();
+        }
+        Ok(Original { parts, starts, len })
     }
 
     pub fn len(&self) -> usize
@@ -62,14 +58,14 @@ impl<'a> Original<'a> {
         ensures some { place < length self.now → 0 < length result.now }
         ensures ops { result.now ≡ take (length result.now) (drop place self.now) }
     {
-        let parts = self.parts.as_slice();
-        let mut rest = place;
-        for part in parts {
-            let ops = part.ops();
-            if rest < ops.len() {
-                return &ops[rest..];
-            }
-            rest -= ops.len();
+        let starts = self.starts.as_slice();
+        let Some(i) = part_at(starts, place) else {
+            return &[];
+        };
+        let ops = self.parts[i].ops();
+        let rest = place - starts[i];
+        if rest < ops.len() {
+            return &ops[rest..];
         }
         &[]
     }

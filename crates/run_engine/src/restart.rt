@@ -10,56 +10,53 @@ use crate::converge::{Front, converge};
 use crate::head_and_tail::{head, tail};
 use crate::listing::Listing;
 use crate::segment::{Segment, share_segments};
+use agreement::checkpoint::Checkpoint;
 use object_heap::heap::Heap;
 use op_step::meter::Meter;
 use std::alloc::{AllocError, Global};
 
 // Where a replay begins again: a segment's index, its position, and the heap there.
-#[derive(Drop)]
-struct Restart {
+#[derive(Clone, Copy)]
+struct Restart<'a> {
     index: usize,
     at: usize,
-    heap: Heap,
+    heap: &'a Checkpoint,
 }
 
 // The greatest kept checkpoint at or before the head.
-fn greatest_mark(
-    alloc: Global,
-    segments: &[Segment],
-    end: &Heap,
-    head: usize,
-) -> Result<Restart, AllocError>
+fn greatest_mark<'a>(segments: &'a [Segment], end: &'a Checkpoint, head: usize) -> Restart<'a>
     requires run { IsRun segments.now end.now }
     requires few { length (trace_of segments.now) < 2 ^ 32 }
-    ensures { IfOk result (λ r. IsRestart segments.now head r.index r.at r.heap) }
+    ensures { IsRestart segments.now head result.index result.at result.heap.now }
 {
+    // without a segment this is the restart, and else the first one has a checkpoint
     let mut best = Restart {
         index: 0,
         at: 0,
-        heap: Heap::empty(),
+        heap: end,
     };
     let mut here = 0;
     for (i, segment) in segments.iter().enumerate() {
         if here > head {
-            return Ok(best);
+            return best;
         }
         if let Some(mark) = segment.mark() {
             best = Restart {
                 index: i,
                 at: here,
-                heap: mark.heap(alloc)?,
+                heap: mark,
             };
         }
         here += segment.ops().len();
     }
     if here > head {
-        return Ok(best);
+        return best;
     }
-    Ok(Restart {
+    Restart {
         index: segments.len(),
         at: here,
-        heap: end.share()?,
-    })
+        heap: end,
+    }
 }
 
 // The front of the replay of an edited trace.
@@ -69,11 +66,12 @@ fn front(alloc: Global, segments: &[Segment], end: &Heap, head: usize) -> Result
     ensures kept { IfOk result (λ f. IsRestart segments.now head (length f.segments.items) f.at f.heap) }
     ensures segments { IfOk result (λ f. f.segments.items ≡ take (length f.segments.items) segments.now) }
 {
-    let best = greatest_mark(alloc, segments, end, head)?;
+    let last = Checkpoint::of(end.share()?);
+    let best = greatest_mark(segments, &last, head);
     let kept = share_segments(alloc, &segments[..best.index])?;
     Ok(Front {
         segments: kept,
-        heap: best.heap,
+        heap: best.heap.heap(alloc)?,
         at: best.at,
     })
 }

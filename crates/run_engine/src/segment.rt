@@ -22,15 +22,17 @@ struct Replayed {
     bounds: Bounds,
 }
 
-/// Operations with their outcomes, which the versions of a run share, and the heap where they begin, if that is kept.
+/// Operations with their outcomes, and the heap where they begin, if that is kept. The versions of a run share both: one
+/// more of a segment takes two counts.
 #[derive(Drop)]
 pub struct Segment {
-    mark: Option<Checkpoint>,
+    mark: Option<Arc<Checkpoint>>,
     body: Arc<Replayed>,
 }
 
 impl Model for Segment {
     ghost use Rattle.std.specs.Arc.{arc_value};
+    ghost use Rattle.std.specs.Option.{option_map};
     ghost use Rattle.run_engine.specs.SegmentView.{SegmentView, segment_code};
 
     ghost Value = { SegmentView };
@@ -39,7 +41,7 @@ impl Model for Segment {
 
     ghost use Rattle.run_engine.specs.Parts.{AreBetween};
 
-    ghost view = { λ s. record { mark = s.mark; ops = (arc_value s.body).ops.items; outcomes = (arc_value s.body).outcomes } };
+    ghost view = { λ s. record { mark = option_map arc_value s.mark; ops = (arc_value s.body).ops.items; outcomes = (arc_value s.body).outcomes } };
 
     ghost invariant = { λ s. AreBetween (arc_value s.body).bounds.least (arc_value s.body).bounds.greatest (arc_value s.body).ops.items };
 }
@@ -53,6 +55,10 @@ impl Segment {
     ) -> Result<Self, AllocError>
         ensures { IfOk result (λ s. s ≡ record { mark = mark; ops = ops.items; outcomes = outcomes }) }
     {
+        let mark = match mark {
+            None => None,
+            Some(checkpoint) => Some(Arc::new(alloc, checkpoint)?),
+        };
         let bounds = bounds_of(&ops);
         let replayed = Replayed {
             ops,
@@ -65,13 +71,13 @@ impl Segment {
         })
     }
 
-    /// The same segment again, whose operations and outcomes are shared.
+    /// The same segment again, whose checkpoint, operations and outcomes are shared.
     pub fn share(&self) -> Result<Self, AllocError>
         ensures { IfOk result (λ s. s ≡ self.now) }
     {
         let mark = match &self.mark {
             None => None,
-            Some(checkpoint) => Some(checkpoint.share()?),
+            Some(checkpoint) => Some(Arc::try_clone(checkpoint)?),
         };
         Ok(Segment {
             mark,
@@ -86,7 +92,7 @@ impl Segment {
     {
         let mark = match &self.mark {
             None => None,
-            Some(checkpoint) => Some(checkpoint.patched(alloc, remains)?),
+            Some(checkpoint) => Some(Arc::new(alloc, checkpoint.patched(alloc, remains)?)?),
         };
         Ok(Segment {
             mark,
@@ -134,7 +140,10 @@ impl Segment {
     pub fn mark(&self) -> Option<&Checkpoint>
         ensures { option_copied result ≡ self.now.mark }
     {
-        self.mark.as_ref()
+        match &self.mark {
+            None => None,
+            Some(checkpoint) => Some(checkpoint),
+        }
     }
 
     /// Gives up the checkpoint, and tells whether there was one.
