@@ -4,3 +4,4 @@ pub mod Gains
 pub mod Drops
 pub mod Links
 pub mod Exchange
+pub mod Descent

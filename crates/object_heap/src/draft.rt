@@ -5,17 +5,18 @@ ghost use Rattle.ownership_model.specs.State.{nothing_held};
 ghost use Rattle.object_heap.specs.Counted.{state_of};
 
 use crate::counters::Counters;
+use crate::objects::Objects;
 use crate::scopes::Scopes;
 use share_tree::ShareTree;
 use std::alloc::AllocError;
-use trace_types::slots::{Entry, Holding, Slot};
+use trace_types::slots::{Holding, Slot};
 
 /// What handles and cells hold, which objects stand, how often each is named, and in which scopes the handles stand.
 #[derive(Drop)]
 pub struct Draft {
     pub handles: ShareTree<Holding>,
     pub cells: ShareTree<Slot>,
-    pub objects: ShareTree<Entry>,
+    pub objects: Objects,
     pub counts: ShareTree<Counters>,
     pub scopes: Scopes,
 }
@@ -29,7 +30,7 @@ impl Draft {
         Draft {
             handles: ShareTree::empty(),
             cells: ShareTree::empty(),
-            objects: ShareTree::empty(),
+            objects: Objects::empty(),
             counts: ShareTree::empty(),
             scopes: Scopes::empty(),
         }

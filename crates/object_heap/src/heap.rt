@@ -1,5 +1,5 @@
 //! The heap of a traced program at one moment.
-ghost use Rattle.std.specs.Prelude.{◌≡◌, ◌↔◌, [], IfOk, IsTrue};
+ghost use Rattle.std.specs.Prelude.{◌≡◌, ◌↔◌, [], true, IfOk, IsTrue};
 ghost use Rattle.std.specs.Option.{option_copied};
 ghost use Rattle.std.specs.FinMap as map;
 ghost use Rattle.ownership_model.specs.State.{nothing_held, strong, weak, IsSound};
@@ -9,6 +9,8 @@ ghost use Rattle.ownership_model.specs.Release.{release};
 ghost use Rattle.ownership_model.specs.Falling.{CascadesTo};
 ghost use Rattle.ownership_model.specs.Scopes.{scope_of};
 ghost use Rattle.ownership_model.specs.Agrees.{HaveSameRoots};
+ghost use Rattle.ownership_model.specs.declared.link.Link.TheVariants.{StrongOrWeak};
+ghost use Rattle.ownership_model.specs.Reach.{is_reached};
 ghost use Rattle.ownership_model.specs.Patch.{patched};
 ghost use Rattle.object_heap.specs.Exchange.{AreWithinLimits};
 ghost use Rattle.object_heap.specs.Links.{first_of, earlier_in};
@@ -106,6 +108,19 @@ impl Heap {
         ensures { option_copied result ≡ map.get self.now.objects object }
     {
         self.draft.objects.get(object)
+    }
+
+    /// Whether it is known without a search that handles and cells lead to the object, by strong or weak slots. Takes no memory.
+    ///
+    /// It is known where the object stands, and no field has ever named its own object or a later one, of those from this one on: as
+    /// where objects are made one after another, each with the one before it in a field. Where it isn't known the answer is false.
+    pub fn is_surely_reached(&self, object: u32) -> bool
+        ensures { result ≡ true → is_reached StrongOrWeak self.now object ≡ true }
+    {
+        match self.object(object) {
+            Some(_) => self.draft.objects.descend_from() <= object as u64,
+            None => false,
+        }
     }
 
     /// How many slots name the object strongly.

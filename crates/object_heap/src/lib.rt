@@ -7,6 +7,7 @@ mod counters;
 mod draft;
 mod exchange;
 pub mod heap;
+mod objects;
 pub mod place;
 pub mod reach;
 mod scopes;
