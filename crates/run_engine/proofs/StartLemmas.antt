@@ -1,10 +1,12 @@
 -- Where parts begin.
-use Rattle.std.proofs.Common.{◌≡◌, ℕ, suc, zero, ◌+◌, ◌-◌, ◌<◌, ◌≤◌, List, [], ◌∷◌, ◌++◌, length, take, get_or, refl, ap, sym, subst, ◌∙◌, arith, length-append}
+use Rattle.std.proofs.Common.{◌≡◌, ℕ, suc, zero, ◌+◌, ◌-◌, ◌<◌, ◌≤◌, List, [], ◌∷◌, ◌++◌, length, take, get_or, map, refl, ap, sym, subst, ◌∙◌, arith, length-append}
 use mathlib.Core.Logic.{⊎_elim}
 use Rattle.std.proofs.lemmas.Bool.{cases_lt}
-use Rattle.std.proofs.lemmas.List.{take_all, take_more}
+use Rattle.std.proofs.lemmas.List.{take_all, take_more, take-map, map-append, length-map}
 use Rattle.trace_types.specs.Operation.{Operation}
 use Rattle.run_engine.specs.Parts.{joined, starts_from, IsPartAt}
+use Rattle.run_engine.specs.SegmentView.{SegmentView}
+use Rattle.run_engine.specs.Segments.{ops_of, trace_of}
 use Rattle.run_engine.proofs.ListingLemmas.{take-shorter}
 use Rattle.run_engine.proofs.PartLemmas.{joined-few}
 
@@ -82,3 +84,28 @@ rest-in-part parts starts place i is h =
     let here : get_or starts i 0 ≡ 0 + length (joined (take i parts)) = ap (λ ss. get_or ss i 0) is ∙ start-is 0 parts i 0 h.within in
     let le = h.before in
     (omega arith, omega arith)
+
+-- the operations of segments are those of parts
+joined-ops : (segments : List SegmentView) → joined (map ops_of segments) ≡ trace_of segments
+joined-ops [] = refl
+joined-ops (s ∷ segments) = ap (λ ops. ops_of s ++ ops) (joined-ops segments)
+
+-- where one segment more begins
+pub segment-starts-next : (segments : List SegmentView) (i at : ℕ) (s : SegmentView) → i < length segments → s ≡ get_or segments i s → at ≡ length (trace_of (take i segments))
+    → starts_from 0 (map ops_of (take (i + 1) segments)) ≡ starts_from 0 (map ops_of (take i segments)) ++ at ∷ []
+segment-starts-next segments i at s lt is here =
+    let place : 0 + length (joined (map ops_of (take i segments))) ≡ at = omega (arith, here, ap length (joined-ops (take i segments))) in
+    ap (λ ss. starts_from 0 (map ops_of ss)) (take_more segments i s lt ∙ ap (λ t. take i segments ++ t ∷ []) (sym is))
+    ∙ ap (starts_from 0) (map-append ops_of (take i segments) (s ∷ []))
+    ∙ starts-more 0 (map ops_of (take i segments)) (ops_of s) ∙ ap (λ n. starts_from 0 (map ops_of (take i segments)) ++ n ∷ []) place
+
+-- the segment that begins at a position
+pub segment-begins : (segments : List SegmentView) (starts : List ℕ) (i d position : ℕ) → starts ≡ starts_from 0 (map ops_of segments) → i < length segments → get_or starts i d ≡ position
+    → length (trace_of (take i segments)) ≡ position
+segment-begins segments starts i d position is lt there =
+    let here : get_or starts i d ≡ 0 + length (joined (take i (map ops_of segments))) = ap (λ ss. get_or ss i d) is ∙ start-is 0 (map ops_of segments) i d (omega (arith, length-map segments ops_of)) in
+    let long : length (joined (take i (map ops_of segments))) ≡ length (trace_of (take i segments)) = ap (λ ps. length (joined ps)) (take-map ops_of i segments) ∙ ap length (joined-ops (take i segments)) in
+    omega arith
+
+pub segment-there : (segments : List SegmentView) (place i : ℕ) → IsPartAt (map ops_of segments) place i → i < length segments
+segment-there segments place i h = let lt = h.within in omega (arith, length-map segments ops_of)

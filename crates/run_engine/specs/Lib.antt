@@ -11,3 +11,4 @@ pub mod HeadAndTail
 pub mod Bounds
 pub mod NewMarks
 pub mod Steps
+pub mod Revision

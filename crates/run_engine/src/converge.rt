@@ -4,20 +4,20 @@ ghost use Rattle.ownership_model.specs.State.{nothing_held};
 ghost use Rattle.ownership_model.specs.Step.{AreNew};
 ghost use Rattle.trace_types.specs.Trace.{IsTrace};
 ghost use Rattle.run_engine.specs.Segments.{trace_of, marks_from, all_marks, IsRun, IsReached, IsPiece};
+ghost use Rattle.run_engine.specs.Revision.{IsRevision};
 ghost use Rattle.run_engine.specs.HeadAndTail.{ShareEnd};
 ghost use Rattle.run_engine.specs.Bounds.{StepsAtMost};
 ghost use Rattle.run_engine.specs.NewMarks.{AreLaid, AreMarksOf, IsGap};
 ghost use Rattle.run_engine.specs.Steps.{AreTaken, HaveStepped, AreStepped};
 
-use crate::listing::Listing;
 use crate::piece::{Piece, stepped_up_to};
 use crate::rejoin::rejoined;
+use crate::revision::Revision;
 use crate::segment::{Segment, append};
 use crate::stretch::old_stretch;
 use object_heap::heap::Heap;
 use op_step::meter::Meter;
 use std::alloc::{AllocError, Global};
-use trace_types::limits::MAX_OPS;
 
 /// How far a replay has come: its segments, the heap after them, and how many operations they have.
 #[derive(Drop)]
@@ -30,35 +30,30 @@ pub struct Front {
 // What a replay goes on with: an old stretch, if one may serve, or else operations that are stepped.
 fn next_piece(
     alloc: Global,
-    old: &[Segment],
-    end: &Heap,
-    heap: &Heap,
-    ops: &Listing,
-    at: usize,
+    revision: &Revision,
+    front: &Front,
     to: usize,
     may_serve: bool,
     meter: &mut Meter,
 ) -> Result<Piece, AllocError>
-    requires some { at < to }
-    requires within { to ≤ length ops.now.ops }
-    requires base { ops.now.base ≡ trace_of old.now }
-    requires old_few { length (trace_of old.now) ≤ MAX_OPS }
-    requires run { IsRun old.now end.now }
-    requires new { AreNew heap.now (slice_range ops.now.ops at to) }
-    ensures piece { IfOk result (λ p. IsPiece heap.now (slice_range ops.now.ops at to) p.segments.items p.end p.len) }
-    ensures gap { IfOk result (λ p. IsGap (all_marks old.now) p.len) }
+    requires revision { IsRevision revision.now }
+    requires some { front.now.at < to }
+    requires within { to ≤ length revision.now.ops.now.ops }
+    requires new { AreNew front.now.heap (slice_range revision.now.ops.now.ops front.now.at to) }
+    ensures piece { IfOk result (λ p. IsPiece front.now.heap (slice_range revision.now.ops.now.ops front.now.at to) p.segments.items p.end p.len) }
+    ensures gap { IfOk result (λ p. IsGap (all_marks revision.now.segments.now) p.len) }
     ensures steps { IfOk result (λ p. meter.new ≤ meter.old + p.len) }
-    ensures taken { IfOk result (λ p. AreTaken (trace_of old.now) (all_marks old.now) heap.now (slice_range ops.now.ops at to) p.len meter.old meter.new) }
+    ensures taken { IfOk result (λ p. AreTaken (trace_of revision.now.segments.now) (all_marks revision.now.segments.now) front.now.heap (slice_range revision.now.ops.now.ops front.now.at to) p.len meter.old meter.new) }
     ensures never_less { meter.old ≤ meter.new }
-    ensures rise { meter.new + at ≤ meter.old + to }
+    ensures rise { meter.new + front.now.at ≤ meter.old + to }
 {
     if may_serve {
-        let found = old_stretch(alloc, old, end, heap, ops, at, to)?;
+        let found = old_stretch(alloc, revision, &front.heap, front.at, to)?;
         if let Some(piece) = found {
             return Ok(piece);
         }
     }
-    let piece = stepped_up_to(alloc, heap, ops, at, to, meter)?;
+    let piece = stepped_up_to(alloc, &front.heap, revision.ops, front.at, to, meter)?;
     Ok(piece)
 }
 
@@ -81,41 +76,27 @@ pub fn joined(front: Front, piece: Piece) -> Result<Front, AllocError>
 // Goes on with the replay up to the position `to`. Old stretches are looked for where they may serve.
 fn advance(
     alloc: Global,
-    old: &[Segment],
-    end: &Heap,
+    revision: &Revision,
     front: Front,
-    ops: &Listing,
     to: usize,
     may_serve: bool,
     meter: &mut Meter,
 ) -> Result<Front, AllocError>
-    requires base { ops.now.base ≡ trace_of old.now }
-    requires old_few { length (trace_of old.now) ≤ MAX_OPS }
-    requires run { IsRun old.now end.now }
-    requires front { IsReached ops.now.ops front.at front.segments.items front.heap }
+    requires revision { IsRevision revision.now }
+    requires front { IsReached revision.now.ops.now.ops front.at front.segments.items front.heap }
     requires order { front.at ≤ to }
-    requires within { to ≤ length ops.now.ops }
-    requires new { AreNew nothing_held ops.now.ops }
-    ensures front { IfOk result (λ f. IsReached ops.now.ops f.at f.segments.items f.heap) }
+    requires within { to ≤ length revision.now.ops.now.ops }
+    requires new { AreNew nothing_held revision.now.ops.now.ops }
+    ensures front { IfOk result (λ f. IsReached revision.now.ops.now.ops f.at f.segments.items f.heap) }
     ensures there { IfOk result (λ f. f.at ≡ to) }
     ensures never_less { meter.old ≤ meter.new }
     ensures rise { meter.new + front.at ≤ meter.old + to }
-    ensures stepped { (r before : ℕ) → HaveStepped (trace_of old.now) ops.now.ops (all_marks old.now) r front.at before meter.old → IfOk result (λ f. HaveStepped (trace_of old.now) ops.now.ops (all_marks old.now) r f.at before meter.new) }
-    ensures marks { (kept : List ℕ) (r : ℕ) → AreLaid (all_marks old.now) kept r front.at (marks_from 0 front.segments.items) → IfOk result (λ f. AreLaid (all_marks old.now) kept r f.at (marks_from 0 f.segments.items)) }
+    ensures stepped { (r before : ℕ) → HaveStepped (trace_of revision.now.segments.now) revision.now.ops.now.ops (all_marks revision.now.segments.now) r front.at before meter.old → IfOk result (λ f. HaveStepped (trace_of revision.now.segments.now) revision.now.ops.now.ops (all_marks revision.now.segments.now) r f.at before meter.new) }
+    ensures marks { (kept : List ℕ) (r : ℕ) → AreLaid (all_marks revision.now.segments.now) kept r front.at (marks_from 0 front.segments.items) → IfOk result (λ f. AreLaid (all_marks revision.now.segments.now) kept r f.at (marks_from 0 f.segments.items)) }
 {
     let mut front = front;
     while front.at < to {
-        let piece = next_piece(
-            alloc,
-            old,
-            end,
-            &front.heap,
-            ops,
-            front.at,
-            to,
-            may_serve,
-            meter,
-        )?;
+        let piece = next_piece(alloc, revision, &front, to, may_serve, meter)?;
         front = joined(front, piece)?;
     }
     Ok(front)
@@ -135,28 +116,26 @@ fn spliced(front: Front, rest: Vec<Segment>) -> Result<Vec<Segment>, AllocError>
 /// From there on each operation has its old neighbours, so that behind a checkpoint with another heap no old stretch serves.
 pub fn converge(
     alloc: Global,
-    old: &[Segment],
-    end: &Heap,
+    revision: &Revision,
     front: Front,
-    ops: &Listing,
     a: usize,
     b: usize,
     meter: &mut Meter,
 ) -> Result<(Vec<Segment>, Heap), AllocError>
-    requires base { ops.now.base ≡ trace_of old.now }
-    requires old_trace { IsTrace (trace_of old.now) }
-    requires run { IsRun old.now end.now }
-    requires front { IsReached ops.now.ops front.at front.segments.items front.heap }
-    requires shared { ShareEnd (trace_of old.now) ops.now.ops a b }
+    requires revision { IsRevision revision.now }
+    requires old_trace { IsTrace (trace_of revision.now.segments.now) }
+    requires front { IsReached revision.now.ops.now.ops front.at front.segments.items front.heap }
+    requires shared { ShareEnd (trace_of revision.now.segments.now) revision.now.ops.now.ops a b }
     requires order { front.at ≤ b }
-    requires trace { IsTrace ops.now.ops }
+    requires trace { IsTrace revision.now.ops.now.ops }
     ensures run { IfOk result (λ r. IsRun r.0.items r.1) }
-    ensures trace { IfOk result (λ r. trace_of r.0.items ≡ ops.now.ops) }
-    ensures marks { IfOk result (λ r. AreMarksOf (trace_of old.now) ops.now.ops (marks_from 0 front.segments.items) (all_marks old.now) (all_marks r.0.items) front.at a b) }
-    ensures bound { StepsAtMost (trace_of old.now) ops.now.ops a b (all_marks old.now) front.at meter.old meter.new }
-    ensures stepped { IfOk result (λ _. AreStepped (trace_of old.now) ops.now.ops a b (all_marks old.now) front.at meter.old meter.new) }
+    ensures trace { IfOk result (λ r. trace_of r.0.items ≡ revision.now.ops.now.ops) }
+    ensures marks { IfOk result (λ r. AreMarksOf (trace_of revision.now.segments.now) revision.now.ops.now.ops (marks_from 0 front.segments.items) (all_marks revision.now.segments.now) (all_marks r.0.items) front.at a b) }
+    ensures bound { StepsAtMost (trace_of revision.now.segments.now) revision.now.ops.now.ops a b (all_marks revision.now.segments.now) front.at meter.old meter.new }
+    ensures stepped { IfOk result (λ _. AreStepped (trace_of revision.now.segments.now) revision.now.ops.now.ops a b (all_marks revision.now.segments.now) front.at meter.old meter.new) }
     ensures never_less { meter.old ≤ meter.new }
 {
+    let old = revision.segments;
     let mut front = front;
     let mut at = 0;
     let mut seen = None;
@@ -164,8 +143,8 @@ pub fn converge(
     for (i, segment) in old.iter().enumerate() {
         if at >= a {
             if let Some(mark) = segment.mark() {
-                front = advance(alloc, old, end, front, ops, at - a + b, !apart, meter)?;
-                let found = rejoined(alloc, &front.heap, mark, &old[i..], end, &mut seen)?;
+                front = advance(alloc, revision, front, at - a + b, !apart, meter)?;
+                let found = rejoined(alloc, &front.heap, mark, &old[i..], revision.end, &mut seen)?;
                 if let Some((rest, end)) = found {
                     return Ok((spliced(front, rest)?, end));
                 }
@@ -174,6 +153,6 @@ pub fn converge(
         }
         at += segment.ops().len();
     }
-    front = advance(alloc, old, end, front, ops, ops.len(), !apart, meter)?;
+    front = advance(alloc, revision, front, revision.ops.len(), !apart, meter)?;
     Ok((front.segments, front.heap))
 }

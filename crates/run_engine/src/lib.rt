@@ -12,6 +12,7 @@ mod part;
 mod piece;
 mod rejoin;
 mod restart;
+mod revision;
 pub mod run;
 mod seek;
 mod segment;

@@ -9,6 +9,7 @@ ghost use Rattle.run_engine.specs.Steps.{AreSteppedFrom};
 use crate::converge::{Front, converge};
 use crate::head_and_tail::{head, tail};
 use crate::listing::Listing;
+use crate::revision::Revision;
 use crate::segment::{Segment, share_segments};
 use agreement::checkpoint::Checkpoint;
 use object_heap::heap::Heap;
@@ -99,6 +100,7 @@ pub fn resumed(
     let last = tail(ops, first);
     let front = front(alloc, segments, end, first)?;
     let (a, b) = (ops.base_len() - last, ops.len() - last);
-    let (segments, end) = converge(alloc, segments, end, front, ops, a, b, meter)?;
+    let revision = Revision::of(alloc, segments, end, ops)?;
+    let (segments, end) = converge(alloc, &revision, front, a, b, meter)?;
     Ok((segments, end))
 }

@@ -4,45 +4,41 @@ ghost use Rattle.std.specs.Option.{option_copied};
 ghost use Rattle.ownership_model.specs.State.{nothing_held};
 ghost use Rattle.ownership_model.specs.Step.{end_from};
 ghost use Rattle.run_engine.specs.Segments.{trace_of, marks_from, all_marks, BeginsMarked, IsRun, IsPiece};
+ghost use Rattle.run_engine.specs.Revision.{IsRevision};
 ghost use Rattle.run_engine.specs.NewMarks.{AreNeighbours};
 ghost use Rattle.run_engine.specs.Steps.{IsOldStretch};
 
 use crate::contents::len_in;
-use crate::listing::Listing;
 use crate::piece::Piece;
-use crate::seek::segment_at;
+use crate::revision::Revision;
 use crate::segment::{Segment, share_segments};
 use object_heap::heap::Heap;
 use std::alloc::{AllocError, Global};
-use trace_types::limits::MAX_OPS;
 
 /// The old stretch between neighbouring checkpoints that the operations from `at` on come from, if it begins with this heap,
 /// they are all of it, and it doesn't go past `to`.
 pub fn old_stretch(
     alloc: Global,
-    old: &[Segment],
-    end: &Heap,
+    revision: &Revision,
     heap: &Heap,
-    ops: &Listing,
     at: usize,
     to: usize,
 ) -> Result<Option<Piece>, AllocError>
+    requires revision { IsRevision revision.now }
     requires some { at < to }
-    requires within { to ≤ length ops.now.ops }
-    requires base { ops.now.base ≡ trace_of old.now }
-    requires few { length (trace_of old.now) ≤ MAX_OPS }
-    requires run { IsRun old.now end.now }
-    ensures gap { IfOk result (λ o. IfSome o (λ p. AreNeighbours (all_marks old.now) p.len)) }
-    ensures stretch { IfOk result (λ o. IfSome o (λ p. IsOldStretch (trace_of old.now) (all_marks old.now) heap.now (slice_range ops.now.ops at to) p.len)) }
-    ensures piece { IfOk result (λ o. IfSome o (λ p. IsPiece heap.now (slice_range ops.now.ops at to) p.segments.items p.end p.len)) }
+    requires within { to ≤ length revision.now.ops.now.ops }
+    ensures gap { IfOk result (λ o. IfSome o (λ p. AreNeighbours (all_marks revision.now.segments.now) p.len)) }
+    ensures stretch { IfOk result (λ o. IfSome o (λ p. IsOldStretch (trace_of revision.now.segments.now) (all_marks revision.now.segments.now) heap.now (slice_range revision.now.ops.now.ops at to) p.len)) }
+    ensures piece { IfOk result (λ o. IfSome o (λ p. IsPiece heap.now (slice_range revision.now.ops.now.ops at to) p.segments.items p.end p.len)) }
 {
-    let Some(alike) = ops.alike(at) else {
+    let Some(alike) = revision.ops.alike(at) else {
         return Ok(None);
     };
     let before = at - alike.at;
-    let Some(i) = segment_at(old, alike.from + before) else {
+    let Some(i) = revision.segment_at(alike.from + before) else {
         return Ok(None);
     };
+    let old = revision.segments;
     let Some(mark) = old[i].mark() else {
         return Ok(None);
     };
@@ -59,7 +55,7 @@ pub fn old_stretch(
     if !mark.heap(alloc)?.same(heap) {
         return Ok(None);
     }
-    let Some(after) = heap_at(alloc, old, end, j)? else {
+    let Some(after) = heap_at(alloc, old, revision.end, j)? else {
         return Ok(None);
     };
     let segments = share_segments(alloc, stretch)?;

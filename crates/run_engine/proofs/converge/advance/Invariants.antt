@@ -6,12 +6,12 @@ use Rattle.run_engine.proofs.converge.advance.Given as goal
 
 abbrev pub invariant-loop-front : goal.invariant-loop-front
 invariant-loop-front l = record {
-  front : IsReached l.ops.ops l.front.at l.front.segments.items l.front.heap;
+  front : IsReached l.revision.ops.now.ops l.front.at l.front.segments.items l.front.heap;
   order : l.front.at ≤ l.to;
-  stepped : (r before : ℕ) → HaveStepped (trace_of l.old) l.ops.ops (all_marks l.old) r l.initial.front.at before l.initial.meter → HaveStepped (trace_of l.old) l.ops.ops (all_marks l.old) r l.front.at before l.meter;
+  stepped : (r before : ℕ) → HaveStepped (trace_of l.revision.segments.now) l.revision.ops.now.ops (all_marks l.revision.segments.now) r l.initial.front.at before l.initial.meter → HaveStepped (trace_of l.revision.segments.now) l.revision.ops.now.ops (all_marks l.revision.segments.now) r l.front.at before l.meter;
   never_less : l.initial.meter ≤ l.meter;
   rise : l.meter + l.initial.front.at ≤ l.initial.meter + l.front.at;
-  laid : (kept : List ℕ) (r : ℕ) → AreLaid (all_marks l.old) kept r l.initial.front.at (marks_from 0 l.initial.front.segments.items) → AreLaid (all_marks l.old) kept r l.front.at (marks_from 0 l.front.segments.items);
+  laid : (kept : List ℕ) (r : ℕ) → AreLaid (all_marks l.revision.segments.now) kept r l.initial.front.at (marks_from 0 l.initial.front.segments.items) → AreLaid (all_marks l.revision.segments.now) kept r l.front.at (marks_from 0 l.front.segments.items);
 }
 
 abbrev pub decreases-loop-front : goal.decreases-loop-front

@@ -10,12 +10,13 @@ use Rattle.run_engine.proofs.restart.resumed.Goals as goal
 
 pub converge-requires-clause-front : goal.converge-requires-clause-front
 converge-requires-clause-front c =
-    IsReached-restart c.args.segments.now c.in_ok-front.front.segments.items c.args.end.now c.in_ok-front.front.heap c.args.ops.now.ops c.head-first.result _ c.in_ok-front.front.at
-    c.requires.run c.in_ok-front.ensures.kept c.in_ok-front.ensures.segments (subst (λ t. take c.head-first.result t ≡ take c.head-first.result c.args.ops.now.ops) c.requires.base c.head-first.ensures.same) c.head-first.ensures.within
+    rw c.in_ok-revision.ensures.ops
+    (IsReached-restart c.args.segments.now c.in_ok-front.front.segments.items c.args.end.now c.in_ok-front.front.heap c.args.ops.now.ops c.head-first.result _ c.in_ok-front.front.at
+    c.requires.run c.in_ok-front.ensures.kept c.in_ok-front.ensures.segments (subst (λ t. take c.head-first.result t ≡ take c.head-first.result c.args.ops.now.ops) c.requires.base c.head-first.ensures.same) c.head-first.ensures.within)
 
 pub converge-requires-clause-shared : goal.converge-requires-clause-shared
 converge-requires-clause-shared c =
-    rw (c.base_len.ensures, c.len.ensures, ← c.requires.base) (ShareEnd-tail c.args.ops.now.base c.args.ops.now.ops c.head-first.result c.tail-last.result c.tail-last.ensures)
+    rw (c.in_ok-revision.ensures.segments, c.in_ok-revision.ensures.ops, c.base_len.ensures, c.len.ensures, ← c.requires.base) (ShareEnd-tail c.args.ops.now.base c.args.ops.now.ops c.head-first.result c.tail-last.result c.tail-last.ensures)
 
 pub returns-in_err-front-clause-bound : goal.returns-in_err-front-clause-bound
 returns-in_err-front-clause-bound c = bounded-none c.args.ops.now.base c.args.ops.now.ops _ _
@@ -27,7 +28,7 @@ returns-in_err-segments-clause-bound c =
     (record { head_is = c.head-first.ensures; tail_is = c.tail-last.ensures })
     c.in_ok-front.ensures.kept.greatest
     (subst (λ t. StepsAtMost t c.args.ops.now.ops (length t - c.tail-last.result) (length c.args.ops.now.ops - c.tail-last.result) (all_marks c.args.segments.now) c.in_ok-front.front.at c.args.meter.now c.converge.new.meter) (sym c.requires.base)
-    (rw (c.base_len.ensures, c.len.ensures, c.requires.base) at c.converge.ensures.bound))
+    (rw (c.in_ok-revision.ensures.segments, c.in_ok-revision.ensures.ops, c.base_len.ensures, c.len.ensures, c.requires.base) at c.converge.ensures.bound))
 
 pub returns-clause-bound : goal.returns-clause-bound
 returns-clause-bound c =
@@ -36,7 +37,7 @@ returns-clause-bound c =
     (record { head_is = c.head-first.ensures; tail_is = c.tail-last.ensures })
     c.in_ok-front.ensures.kept.greatest
     (subst (λ t. StepsAtMost t c.args.ops.now.ops (length t - c.tail-last.result) (length c.args.ops.now.ops - c.tail-last.result) (all_marks c.args.segments.now) c.in_ok-front.front.at c.args.meter.now c.converge.new.meter) (sym c.requires.base)
-    (rw (c.base_len.ensures, c.len.ensures, c.requires.base) at c.converge.ensures.bound))
+    (rw (c.in_ok-revision.ensures.segments, c.in_ok-revision.ensures.ops, c.base_len.ensures, c.len.ensures, c.requires.base) at c.converge.ensures.bound))
 
 pub returns-clause-stepped : goal.returns-clause-stepped
 returns-clause-stepped c =
@@ -45,7 +46,7 @@ returns-clause-stepped c =
     (record { head_is = c.head-first.ensures; tail_is = c.tail-last.ensures })
     c.in_ok-front.ensures.kept.greatest
     (subst (λ t. AreStepped t c.args.ops.now.ops (length t - c.tail-last.result) (length c.args.ops.now.ops - c.tail-last.result) (all_marks c.args.segments.now) c.in_ok-front.front.at c.args.meter.now c.converge.new.meter) (sym c.requires.base)
-    (rw (c.base_len.ensures, c.len.ensures, c.requires.base) at c.in_ok-segments.ensures.stepped))
+    (rw (c.in_ok-revision.ensures.segments, c.in_ok-revision.ensures.ops, c.base_len.ensures, c.len.ensures, c.requires.base) at c.in_ok-segments.ensures.stepped))
 
 pub returns-clause-marks : goal.returns-clause-marks
 returns-clause-marks c =
@@ -53,4 +54,4 @@ returns-clause-marks c =
     (AreMarksAfter-restart c.args.segments.now c.in_ok-front.front.segments.items c.args.end.now c.in_ok-front.front.heap c.args.ops.now.ops (all_marks c.in_ok-segments.segments.items) c.head-first.result c.tail-last.result _ c.in_ok-front.front.at
     c.requires.run c.in_ok-front.ensures.kept c.in_ok-front.ensures.segments
     (subst (λ t. AreShared t c.args.ops.now.ops c.head-first.result c.tail-last.result) c.requires.base (record { head_is = c.head-first.ensures; tail_is = c.tail-last.ensures }))
-    (rw (c.base_len.ensures, c.len.ensures, c.requires.base) at c.in_ok-segments.ensures.marks))
+    (rw (c.in_ok-revision.ensures.segments, c.in_ok-revision.ensures.ops, c.base_len.ensures, c.len.ensures, c.requires.base) at c.in_ok-segments.ensures.marks))
