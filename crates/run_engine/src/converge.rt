@@ -10,7 +10,7 @@ ghost use Rattle.run_engine.specs.Bounds.{StepsAtMost};
 ghost use Rattle.run_engine.specs.NewMarks.{AreLaid, AreMarksOf, IsGap};
 ghost use Rattle.run_engine.specs.Steps.{AreTaken, HaveStepped, AreStepped};
 
-use crate::piece::{Piece, stepped_up_to};
+use crate::piece::{Piece, joined, stepped_up_to};
 use crate::rejoin::rejoined;
 use crate::revision::Revision;
 use crate::segment::{Segment, append};
@@ -19,83 +19,59 @@ use object_heap::heap::Heap;
 use op_step::meter::Meter;
 use std::alloc::{AllocError, Global};
 
-/// How far a replay has come: its segments, the heap after them, and how many operations they have.
-#[derive(Drop)]
-pub struct Front {
-    pub segments: Vec<Segment>,
-    pub heap: Heap,
-    pub at: usize,
-}
-
 // What a replay goes on with: an old stretch, if one may serve, or else operations that are stepped.
 fn next_piece(
     alloc: Global,
     revision: &Revision,
-    front: &Front,
+    front: &Piece,
     to: usize,
     may_serve: bool,
     meter: &mut Meter,
 ) -> Result<Piece, AllocError>
     requires revision { IsRevision revision.now }
-    requires some { front.now.at < to }
+    requires some { front.now.len < to }
     requires within { to ≤ length revision.now.ops.now.ops }
-    requires new { AreNew front.now.heap (slice_range revision.now.ops.now.ops front.now.at to) }
-    ensures piece { IfOk result (λ p. IsPiece front.now.heap (slice_range revision.now.ops.now.ops front.now.at to) p.segments.items p.end p.len) }
+    requires new { AreNew front.now.end (slice_range revision.now.ops.now.ops front.now.len to) }
+    ensures piece { IfOk result (λ p. IsPiece front.now.end (slice_range revision.now.ops.now.ops front.now.len to) p.segments.items p.end p.len) }
     ensures gap { IfOk result (λ p. IsGap (all_marks revision.now.segments.now) p.len) }
     ensures steps { IfOk result (λ p. meter.new ≤ meter.old + p.len) }
-    ensures taken { IfOk result (λ p. AreTaken (trace_of revision.now.segments.now) (all_marks revision.now.segments.now) front.now.heap (slice_range revision.now.ops.now.ops front.now.at to) p.len meter.old meter.new) }
+    ensures taken { IfOk result (λ p. AreTaken (trace_of revision.now.segments.now) (all_marks revision.now.segments.now) front.now.end (slice_range revision.now.ops.now.ops front.now.len to) p.len meter.old meter.new) }
     ensures never_less { meter.old ≤ meter.new }
-    ensures rise { meter.new + front.now.at ≤ meter.old + to }
+    ensures rise { meter.new + front.now.len ≤ meter.old + to }
 {
     if may_serve {
-        let found = old_stretch(alloc, revision, &front.heap, front.at, to)?;
+        let found = old_stretch(alloc, revision, &front.end, front.len, to)?;
         if let Some(piece) = found {
             return Ok(piece);
         }
     }
-    let piece = stepped_up_to(alloc, &front.heap, revision.ops, front.at, to, meter)?;
+    let piece = stepped_up_to(alloc, &front.end, revision.ops, front.len, to, meter)?;
     Ok(piece)
-}
-
-/// The front and a piece behind it.
-pub fn joined(front: Front, piece: Piece) -> Result<Front, AllocError>
-    requires { front.at + piece.len < 2 ^ 64 }
-    ensures segments { IfOk result (λ f. f.segments.items ≡ front.segments.items ++ piece.segments.items) }
-    ensures heap { IfOk result (λ f. f.heap ≡ piece.end) }
-    ensures at { IfOk result (λ f. f.at ≡ front.at + piece.len) }
-{
-    let mut segments = front.segments;
-    append(&mut segments, piece.segments)?;
-    Ok(Front {
-        segments,
-        heap: piece.end,
-        at: front.at + piece.len,
-    })
 }
 
 // Goes on with the replay up to the position `to`. Old stretches are looked for where they may serve.
 fn advance(
     alloc: Global,
     revision: &Revision,
-    front: Front,
+    front: Piece,
     to: usize,
     may_serve: bool,
     meter: &mut Meter,
-) -> Result<Front, AllocError>
+) -> Result<Piece, AllocError>
     requires revision { IsRevision revision.now }
-    requires front { IsReached revision.now.ops.now.ops front.at front.segments.items front.heap }
-    requires order { front.at ≤ to }
+    requires front { IsReached revision.now.ops.now.ops front.len front.segments.items front.end }
+    requires order { front.len ≤ to }
     requires within { to ≤ length revision.now.ops.now.ops }
     requires new { AreNew nothing_held revision.now.ops.now.ops }
-    ensures front { IfOk result (λ f. IsReached revision.now.ops.now.ops f.at f.segments.items f.heap) }
-    ensures there { IfOk result (λ f. f.at ≡ to) }
+    ensures front { IfOk result (λ f. IsReached revision.now.ops.now.ops f.len f.segments.items f.end) }
+    ensures there { IfOk result (λ f. f.len ≡ to) }
     ensures never_less { meter.old ≤ meter.new }
-    ensures rise { meter.new + front.at ≤ meter.old + to }
-    ensures stepped { (r before : ℕ) → HaveStepped (trace_of revision.now.segments.now) revision.now.ops.now.ops (all_marks revision.now.segments.now) r front.at before meter.old → IfOk result (λ f. HaveStepped (trace_of revision.now.segments.now) revision.now.ops.now.ops (all_marks revision.now.segments.now) r f.at before meter.new) }
-    ensures marks { (kept : List ℕ) (r : ℕ) → AreLaid (all_marks revision.now.segments.now) kept r front.at (marks_from 0 front.segments.items) → IfOk result (λ f. AreLaid (all_marks revision.now.segments.now) kept r f.at (marks_from 0 f.segments.items)) }
+    ensures rise { meter.new + front.len ≤ meter.old + to }
+    ensures stepped { (r before : ℕ) → HaveStepped (trace_of revision.now.segments.now) revision.now.ops.now.ops (all_marks revision.now.segments.now) r front.len before meter.old → IfOk result (λ f. HaveStepped (trace_of revision.now.segments.now) revision.now.ops.now.ops (all_marks revision.now.segments.now) r f.len before meter.new) }
+    ensures marks { (kept : List ℕ) (r : ℕ) → AreLaid (all_marks revision.now.segments.now) kept r front.len (marks_from 0 front.segments.items) → IfOk result (λ f. AreLaid (all_marks revision.now.segments.now) kept r f.len (marks_from 0 f.segments.items)) }
 {
     let mut front = front;
-    while front.at < to {
+    while front.len < to {
         let piece = next_piece(alloc, revision, &front, to, may_serve, meter)?;
         front = joined(front, piece)?;
     }
@@ -103,7 +79,7 @@ fn advance(
 }
 
 // The segments of the front, and then others.
-fn spliced(front: Front, rest: Vec<Segment>) -> Result<Vec<Segment>, AllocError>
+fn spliced(front: Piece, rest: Vec<Segment>) -> Result<Vec<Segment>, AllocError>
     ensures { IfOk result (λ v. v.items ≡ front.segments.items ++ rest.items) }
 {
     let mut segments = front.segments;
@@ -117,22 +93,22 @@ fn spliced(front: Front, rest: Vec<Segment>) -> Result<Vec<Segment>, AllocError>
 pub fn converge(
     alloc: Global,
     revision: &Revision,
-    front: Front,
+    front: Piece,
     a: usize,
     b: usize,
     meter: &mut Meter,
 ) -> Result<(Vec<Segment>, Heap), AllocError>
     requires revision { IsRevision revision.now }
     requires old_trace { IsTrace (trace_of revision.now.segments.now) }
-    requires front { IsReached revision.now.ops.now.ops front.at front.segments.items front.heap }
+    requires front { IsReached revision.now.ops.now.ops front.len front.segments.items front.end }
     requires shared { ShareEnd (trace_of revision.now.segments.now) revision.now.ops.now.ops a b }
-    requires order { front.at ≤ b }
+    requires order { front.len ≤ b }
     requires trace { IsTrace revision.now.ops.now.ops }
     ensures run { IfOk result (λ r. IsRun r.0.items r.1) }
     ensures trace { IfOk result (λ r. trace_of r.0.items ≡ revision.now.ops.now.ops) }
-    ensures marks { IfOk result (λ r. AreMarksOf (trace_of revision.now.segments.now) revision.now.ops.now.ops (marks_from 0 front.segments.items) (all_marks revision.now.segments.now) (all_marks r.0.items) front.at a b) }
-    ensures bound { StepsAtMost (trace_of revision.now.segments.now) revision.now.ops.now.ops a b (all_marks revision.now.segments.now) front.at meter.old meter.new }
-    ensures stepped { IfOk result (λ _. AreStepped (trace_of revision.now.segments.now) revision.now.ops.now.ops a b (all_marks revision.now.segments.now) front.at meter.old meter.new) }
+    ensures marks { IfOk result (λ r. AreMarksOf (trace_of revision.now.segments.now) revision.now.ops.now.ops (marks_from 0 front.segments.items) (all_marks revision.now.segments.now) (all_marks r.0.items) front.len a b) }
+    ensures bound { StepsAtMost (trace_of revision.now.segments.now) revision.now.ops.now.ops a b (all_marks revision.now.segments.now) front.len meter.old meter.new }
+    ensures stepped { IfOk result (λ _. AreStepped (trace_of revision.now.segments.now) revision.now.ops.now.ops a b (all_marks revision.now.segments.now) front.len meter.old meter.new) }
     ensures never_less { meter.old ≤ meter.new }
 {
     let old = revision.segments;
@@ -144,7 +120,7 @@ pub fn converge(
         if at >= a {
             if let Some(mark) = segment.mark() {
                 front = advance(alloc, revision, front, at - a + b, !apart, meter)?;
-                let found = rejoined(alloc, &front.heap, mark, &old[i..], revision.end, &mut seen)?;
+                let found = rejoined(alloc, &front.end, mark, &old[i..], revision.end, &mut seen)?;
                 if let Some((rest, end)) = found {
                     return Ok((spliced(front, rest)?, end));
                 }
@@ -154,5 +130,5 @@ pub fn converge(
         at += segment.ops().len();
     }
     front = advance(alloc, revision, front, revision.ops.len(), !apart, meter)?;
-    Ok((front.segments, front.heap))
+    Ok((front.segments, front.end))
 }

@@ -1,11 +1,11 @@
-//! What a replay goes on with.
-ghost use Rattle.std.specs.Prelude.{◌≡◌, ◌+◌, ◌-◌, ◌<◌, ◌≤◌, IfOk, length, slice_range};
+//! Pieces of a replay.
+ghost use Rattle.std.specs.Prelude.{◌≡◌, ◌++◌, ◌+◌, ◌-◌, ◌^◌, ◌<◌, ◌≤◌, IfOk, length, slice_range};
 ghost use Rattle.ownership_model.specs.Step.{AreNew};
 ghost use Rattle.op_step.specs.Meter.{raised};
 ghost use Rattle.run_engine.specs.Segments.{IsPiece};
 
 use crate::listing::Listing;
-use crate::segment::Segment;
+use crate::segment::{Segment, append};
 use agreement::checkpoint::Checkpoint;
 use object_heap::heap::Heap;
 use op_step::meter::Meter;
@@ -16,12 +16,28 @@ use trace_types::ops::Op;
 /// How many operations stand between neighbouring checkpoints where they are stepped.
 pub const STRIDE: usize = 64;
 
-/// Segments that a replay goes on with, the heap after them, and how many operations they have.
+/// A piece of a replay: its segments, the heap after them, and how many operations they have.
 #[derive(Drop)]
 pub struct Piece {
     pub segments: Vec<Segment>,
     pub end: Heap,
     pub len: usize,
+}
+
+/// A piece and the next behind it.
+pub fn joined(front: Piece, next: Piece) -> Result<Piece, AllocError>
+    requires { front.len + next.len < 2 ^ 64 }
+    ensures segments { IfOk result (λ p. p.segments.items ≡ front.segments.items ++ next.segments.items) }
+    ensures end { IfOk result (λ p. p.end ≡ next.end) }
+    ensures len { IfOk result (λ p. p.len ≡ front.len + next.len) }
+{
+    let mut segments = front.segments;
+    append(&mut segments, next.segments)?;
+    Ok(Piece {
+        segments,
+        end: next.end,
+        len: front.len + next.len,
+    })
 }
 
 /// Steps all the operations.

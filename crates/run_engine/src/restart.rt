@@ -6,9 +6,10 @@ ghost use Rattle.run_engine.specs.Bounds.{StepsAtMostFrom};
 ghost use Rattle.run_engine.specs.NewMarks.{AreMarksAfter};
 ghost use Rattle.run_engine.specs.Steps.{AreSteppedFrom};
 
-use crate::converge::{Front, converge};
+use crate::converge::converge;
 use crate::head_and_tail::{head, tail};
 use crate::listing::Listing;
+use crate::piece::Piece;
 use crate::revision::Revision;
 use crate::segment::{Segment, share_segments};
 use agreement::checkpoint::Checkpoint;
@@ -61,19 +62,19 @@ fn greatest_mark<'a>(segments: &'a [Segment], end: &'a Checkpoint, head: usize) 
 }
 
 // The front of the replay of an edited trace.
-fn front(alloc: Global, segments: &[Segment], end: &Heap, head: usize) -> Result<Front, AllocError>
+fn front(alloc: Global, segments: &[Segment], end: &Heap, head: usize) -> Result<Piece, AllocError>
     requires run { IsRun segments.now end.now }
     requires few { length (trace_of segments.now) < 2 ^ 32 }
-    ensures kept { IfOk result (λ f. IsRestart segments.now head (length f.segments.items) f.at f.heap) }
+    ensures kept { IfOk result (λ f. IsRestart segments.now head (length f.segments.items) f.len f.end) }
     ensures segments { IfOk result (λ f. f.segments.items ≡ take (length f.segments.items) segments.now) }
 {
     let last = Checkpoint::of(end.share()?);
     let best = greatest_mark(segments, &last, head);
     let kept = share_segments(alloc, &segments[..best.index])?;
-    Ok(Front {
+    Ok(Piece {
         segments: kept,
-        heap: best.heap.heap(alloc)?,
-        at: best.at,
+        end: best.heap.heap(alloc)?,
+        len: best.at,
     })
 }
 

@@ -16,11 +16,10 @@ ghost use Rattle.run_engine.specs.NewMarks.{AreMarksAfter};
 ghost use Rattle.run_engine.specs.Steps.{AreRising, AreSteppedFrom};
 
 use crate::contents::{len_in, marks_in, ops_in, outcomes_in, stretches_in};
-use crate::converge::{Front, joined};
 use crate::edits::{copied, edited, try_size};
 use crate::faults::RunFault;
 use crate::listing::Listing;
-use crate::piece::{STRIDE, stepped};
+use crate::piece::{Piece, STRIDE, joined, stepped};
 use crate::restart::resumed;
 use crate::seek::{clear_mark, op_at, outcome_at, segment_at};
 use crate::segment::Segment;
@@ -72,20 +71,20 @@ impl Run {
         ensures rise { meter.new ≤ meter.old + length trace.now }
     {
         let ops = trace.as_slice();
-        let mut front = Front {
+        let mut front = Piece {
             segments: Vec::new(alloc),
-            heap: Heap::empty(),
-            at: 0,
+            end: Heap::empty(),
+            len: 0,
         };
-        while front.at < ops.len() {
-            let to = front.at + (ops.len() - front.at).min(STRIDE);
-            let copies = copy_ops(alloc, &ops[front.at..to])?;
-            let piece = stepped(alloc, &front.heap, copies, meter)?;
+        while front.len < ops.len() {
+            let to = front.len + (ops.len() - front.len).min(STRIDE);
+            let copies = copy_ops(alloc, &ops[front.len..to])?;
+            let piece = stepped(alloc, &front.end, copies, meter)?;
             front = joined(front, piece)?;
         }
         Ok(Run {
             segments: front.segments,
-            end: front.heap,
+            end: front.end,
         })
     }
 

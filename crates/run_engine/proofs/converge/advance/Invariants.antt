@@ -6,13 +6,13 @@ use Rattle.run_engine.proofs.converge.advance.Given as goal
 
 abbrev pub invariant-loop-front : goal.invariant-loop-front
 invariant-loop-front l = record {
-  front : IsReached l.revision.ops.now.ops l.front.at l.front.segments.items l.front.heap;
-  order : l.front.at ≤ l.to;
-  stepped : (r before : ℕ) → HaveStepped (trace_of l.revision.segments.now) l.revision.ops.now.ops (all_marks l.revision.segments.now) r l.initial.front.at before l.initial.meter → HaveStepped (trace_of l.revision.segments.now) l.revision.ops.now.ops (all_marks l.revision.segments.now) r l.front.at before l.meter;
+  front : IsReached l.revision.ops.now.ops l.front.len l.front.segments.items l.front.end;
+  order : l.front.len ≤ l.to;
+  stepped : (r before : ℕ) → HaveStepped (trace_of l.revision.segments.now) l.revision.ops.now.ops (all_marks l.revision.segments.now) r l.initial.front.len before l.initial.meter → HaveStepped (trace_of l.revision.segments.now) l.revision.ops.now.ops (all_marks l.revision.segments.now) r l.front.len before l.meter;
   never_less : l.initial.meter ≤ l.meter;
-  rise : l.meter + l.initial.front.at ≤ l.initial.meter + l.front.at;
-  laid : (kept : List ℕ) (r : ℕ) → AreLaid (all_marks l.revision.segments.now) kept r l.initial.front.at (marks_from 0 l.initial.front.segments.items) → AreLaid (all_marks l.revision.segments.now) kept r l.front.at (marks_from 0 l.front.segments.items);
+  rise : l.meter + l.initial.front.len ≤ l.initial.meter + l.front.len;
+  laid : (kept : List ℕ) (r : ℕ) → AreLaid (all_marks l.revision.segments.now) kept r l.initial.front.len (marks_from 0 l.initial.front.segments.items) → AreLaid (all_marks l.revision.segments.now) kept r l.front.len (marks_from 0 l.front.segments.items);
 }
 
 abbrev pub decreases-loop-front : goal.decreases-loop-front
-decreases-loop-front l = l.to - l.front.at
+decreases-loop-front l = l.to - l.front.len

@@ -83,8 +83,8 @@ back old ops a b i at x shared place behind there = rest-shared old ops a b i at
 pub rejoined-requires-clause-unused : goal.rejoined-requires-clause-unused
 rejoined-requires-clause-unused c =
     rw (take-rest c.loop-i.i c.args.revision.now.segments.now)
-    (new-unused c.args.revision.now.ops.now.ops c.in_ok-front.front.at c.in_ok-front.front.segments.items (drop c.loop-i.i c.args.revision.now.segments.now) c.in_ok-front.front.heap c.in_ok-front.ensures.front c.requires.trace.distinct
-    (back c.args.revision.now.segments.now c.args.revision.now.ops.now.ops c.args.a c.args.b c.loop-i.i c.loop-i.at c.in_ok-front.front.at c.requires.shared c.loop-i.invariant.beside.place c.if-at-a.true c.in_ok-front.ensures.there))
+    (new-unused c.args.revision.now.ops.now.ops c.in_ok-front.front.len c.in_ok-front.front.segments.items (drop c.loop-i.i c.args.revision.now.segments.now) c.in_ok-front.front.end c.in_ok-front.ensures.front c.requires.trace.distinct
+    (back c.args.revision.now.segments.now c.args.revision.now.ops.now.ops c.args.a c.args.b c.loop-i.i c.loop-i.at c.in_ok-front.front.len c.requires.shared c.loop-i.invariant.beside.place c.if-at-a.true c.in_ok-front.ensures.there))
 
 -- where the old run goes on it has the operations that are left
 rest-is : (c : goal.Joined-seen-7) → trace_of c.in-Some-found.rest.items ≡ trace_of (drop c.loop-i.i c.args.revision.now.segments.now)
@@ -94,18 +94,18 @@ rest-is c =
 
 spliced : (c : goal.Joined-seen-7) → IsSpliced c.args.revision.now.ops.now.ops (c.in_ok-front.front.segments.items ++ c.in-Some-found.rest.items) c.in-Some-found.end
 spliced c =
-    let run : IsRunFrom c.in_ok-front.front.heap c.in-Some-found.rest.items c.in-Some-found.end = rw c.in-Some-found.is at c.in_ok-found.ensures.run in
-    IsSpliced-rest c.args.revision.now.ops.now.ops c.in_ok-front.front.at c.in_ok-front.front.segments.items c.in-Some-found.rest.items c.in_ok-front.front.heap c.in-Some-found.end c.in_ok-front.ensures.front
-    (rest-is c ∙ back c.args.revision.now.segments.now c.args.revision.now.ops.now.ops c.args.a c.args.b c.loop-i.i c.loop-i.at c.in_ok-front.front.at c.requires.shared c.loop-i.invariant.beside.place c.if-at-a.true c.in_ok-front.ensures.there)
+    let run : IsRunFrom c.in_ok-front.front.end c.in-Some-found.rest.items c.in-Some-found.end = rw c.in-Some-found.is at c.in_ok-found.ensures.run in
+    IsSpliced-rest c.args.revision.now.ops.now.ops c.in_ok-front.front.len c.in_ok-front.front.segments.items c.in-Some-found.rest.items c.in_ok-front.front.end c.in-Some-found.end c.in_ok-front.ensures.front
+    (rest-is c ∙ back c.args.revision.now.segments.now c.args.revision.now.ops.now.ops c.args.a c.args.b c.loop-i.i c.loop-i.at c.in_ok-front.front.len c.requires.shared c.loop-i.invariant.beside.place c.if-at-a.true c.in_ok-front.ensures.there)
     run
 
 -- the heaps agree where the replay stops
 agreed : (c : goal.Joined-seen-7) → AgreesAt (trace_of c.args.revision.now.segments.now) c.args.revision.now.ops.now.ops c.args.a c.args.b c.loop-i.at
 agreed c =
     let m : c.in-Some.mark.now ≡ end_from nothing_held (trace_of (take c.loop-i.i c.args.revision.now.segments.now)) = mark-is c.args.revision.now.segments.now c.loop-i.i c.index-old-i.result c.in-Some.mark.now c.requires.revision.run.replay c.loop-i-test.true c.index-old-i.is c.in-Some.ensures in
-    let there : c.in_ok-front.front.at ≡ c.loop-i.at - c.args.a + c.args.b = c.in_ok-front.ensures.there in
-    let agree : Agree c.in_ok-front.front.heap c.in-Some.mark.now = c.in_ok-found.ensures.answer.0 (ap is_some c.in-Some-found.is) in
-    AgreesAt-here (trace_of c.args.revision.now.segments.now) c.args.revision.now.ops.now.ops c.args.a c.args.b c.loop-i.at c.in_ok-front.front.heap c.in-Some.mark.now
+    let there : c.in_ok-front.front.len ≡ c.loop-i.at - c.args.a + c.args.b = c.in_ok-front.ensures.there in
+    let agree : Agree c.in_ok-front.front.end c.in-Some.mark.now = c.in_ok-found.ensures.answer.0 (ap is_some c.in-Some-found.is) in
+    AgreesAt-here (trace_of c.args.revision.now.segments.now) c.args.revision.now.ops.now.ops c.args.a c.args.b c.loop-i.at c.in_ok-front.front.end c.in-Some.mark.now
     (c.in_ok-front.ensures.front.state ∙ ap (λ x. end_from nothing_held (take x c.args.revision.now.ops.now.ops)) there) (m ∙ ap (end_from nothing_held) (trace_of-front c.args.revision.now.segments.now c.loop-i.i c.loop-i.at c.loop-i.invariant.beside.place)) agree
 
 pub returns-in-Some-found-clause-run : goal.returns-in-Some-found-clause-run
@@ -118,23 +118,23 @@ pub returns-in-Some-found-clause-marks : goal.returns-in-Some-found-clause-marks
 returns-in-Some-found-clause-marks c =
     let old : List SegmentView = c.args.revision.now.segments.now in
     let front : List SegmentView = c.in_ok-front.front.segments.items in
-    let there : c.in_ok-front.front.at ≡ c.loop-i.at - c.args.a + c.args.b = c.in_ok-front.ensures.there in
-    let laid : AreLaid (all_marks c.args.revision.now.segments.now) (marks_from 0 c.args.front.segments.items) c.args.front.at (c.loop-i.at - c.args.a + c.args.b) (marks_from 0 c.in_ok-front.front.segments.items) =
-    subst (λ x. AreLaid (all_marks c.args.revision.now.segments.now) (marks_from 0 c.args.front.segments.items) c.args.front.at x (marks_from 0 c.in_ok-front.front.segments.items)) there (c.in_ok-front.ensures.marks _ _ c.loop-i.invariant.laid) in
+    let there : c.in_ok-front.front.len ≡ c.loop-i.at - c.args.a + c.args.b = c.in_ok-front.ensures.there in
+    let laid : AreLaid (all_marks c.args.revision.now.segments.now) (marks_from 0 c.args.front.segments.items) c.args.front.len (c.loop-i.at - c.args.a + c.args.b) (marks_from 0 c.in_ok-front.front.segments.items) =
+    subst (λ x. AreLaid (all_marks c.args.revision.now.segments.now) (marks_from 0 c.args.front.segments.items) c.args.front.len x (marks_from 0 c.in_ok-front.front.segments.items)) there (c.in_ok-front.ensures.marks _ _ c.loop-i.invariant.laid) in
     let marks : (at : ℕ) → marks_from at c.in-Some-found.rest.items ≡ marks_from at (take (length c.args.revision.now.segments.now - c.loop-i.i) (drop c.loop-i.i c.args.revision.now.segments.now)) = rw c.in-Some-found.is at c.in_ok-found.ensures.marks in
     let alike : all_marks (front ++ c.in-Some-found.rest.items) ≡ all_marks (front ++ drop c.loop-i.i old) =
     all_marks-rest front c.in-Some-found.rest.items (drop c.loop-i.i old) (rest-is c) (λ at. marks at ∙ ap (marks_from at) (take-rest c.loop-i.i c.args.revision.now.segments.now)) in
     let trace : trace_of (front ++ drop c.loop-i.i old) ≡ c.args.revision.now.ops.now.ops =
     trace_of-append front (drop c.loop-i.i old) ∙ ap (λ t. trace_of front ++ t) (sym (rest-is c)) ∙ sym (trace_of-append front c.in-Some-found.rest.items) ∙ (spliced c).trace in
     rw (c.in_ok-spliced.ensures, alike)
-    (AreMarksOf-stop c.args.revision.now.segments.now c.in_ok-front.front.segments.items c.args.revision.now.ops.now.ops (marks_from 0 c.args.front.segments.items) c.args.a c.args.b c.loop-i.i c.loop-i.at c.args.front.at c.index-old-i.result
+    (AreMarksOf-stop c.args.revision.now.segments.now c.in_ok-front.front.segments.items c.args.revision.now.ops.now.ops (marks_from 0 c.args.front.segments.items) c.args.a c.args.b c.loop-i.i c.loop-i.at c.args.front.len c.index-old-i.result
     c.requires.revision.run.full c.requires.shared c.loop-i-test.true c.index-old-i.is c.in-Some.mark.now (sym c.in-Some.ensures) c.loop-i.invariant.beside.place c.if-at-a.true
     (agreed c) (least-agreeing _ _ _ _ _ _ _ _ _ _ _ _ c.loop-i.invariant.beside)
     (IsReached-length _ _ _ _ c.in_ok-front.ensures.front ∙ there) trace laid)
 
 pub returns-in-Some-found-clause-stepped : goal.returns-in-Some-found-clause-stepped
 returns-in-Some-found-clause-stepped c =
-    AreStepped-stop (trace_of c.args.revision.now.segments.now) c.args.revision.now.ops.now.ops (all_marks c.args.revision.now.segments.now) c.args.a c.args.b c.args.front.at c.in_ok-front.front.at c.loop-i.at c.args.meter.now _ c.in_ok-front.ensures.there
+    AreStepped-stop (trace_of c.args.revision.now.segments.now) c.args.revision.now.ops.now.ops (all_marks c.args.revision.now.segments.now) c.args.a c.args.b c.args.front.len c.in_ok-front.front.len c.loop-i.at c.args.meter.now _ c.in_ok-front.ensures.there
     (mark-there c.args.revision.now.segments.now c.loop-i.i c.loop-i.at c.index-old-i.result c.in-Some.mark.now c.loop-i-test.true c.index-old-i.is (sym c.in-Some.ensures) c.loop-i.invariant.beside.place)
     c.if-at-a.true (agreed c) (c.in_ok-front.ensures.stepped _ _ c.loop-i.invariant.stepped)
 
@@ -143,27 +143,27 @@ place-end old i at ge le e = let n : i ≡ length old = omega arith in sym e ∙
 
 pub returns-clause-marks : goal.returns-clause-marks
 returns-clause-marks c =
-    let there : c.in_ok-front-2.front.at ≡ length c.args.revision.now.ops.now.ops = c.in_ok-front-2.ensures.there ∙ c.len.ensures in
-    let laid : AreLaid (all_marks c.args.revision.now.segments.now) (marks_from 0 c.args.front.segments.items) c.args.front.at (length c.args.revision.now.ops.now.ops) (marks_from 0 c.in_ok-front-2.front.segments.items) =
-    subst (λ x. AreLaid (all_marks c.args.revision.now.segments.now) (marks_from 0 c.args.front.segments.items) c.args.front.at x (marks_from 0 c.in_ok-front-2.front.segments.items)) there (c.in_ok-front-2.ensures.marks _ _ c.loop-i.invariant.laid) in
-    AreMarksOf-end c.args.revision.now.segments.now c.in_ok-front-2.front.segments.items c.args.revision.now.ops.now.ops (marks_from 0 c.args.front.segments.items) c.args.a c.args.b c.args.front.at c.requires.shared
+    let there : c.in_ok-front-2.front.len ≡ length c.args.revision.now.ops.now.ops = c.in_ok-front-2.ensures.there ∙ c.len.ensures in
+    let laid : AreLaid (all_marks c.args.revision.now.segments.now) (marks_from 0 c.args.front.segments.items) c.args.front.len (length c.args.revision.now.ops.now.ops) (marks_from 0 c.in_ok-front-2.front.segments.items) =
+    subst (λ x. AreLaid (all_marks c.args.revision.now.segments.now) (marks_from 0 c.args.front.segments.items) c.args.front.len x (marks_from 0 c.in_ok-front-2.front.segments.items)) there (c.in_ok-front-2.ensures.marks _ _ c.loop-i.invariant.laid) in
+    AreMarksOf-end c.args.revision.now.segments.now c.in_ok-front-2.front.segments.items c.args.revision.now.ops.now.ops (marks_from 0 c.args.front.segments.items) c.args.a c.args.b c.args.front.len c.requires.shared
     (λ p mark behind agrees.
     let e = place-end c.args.revision.now.segments.now c.loop-i.i c.loop-i.at c.loop-i-test.false c.loop-i.auto.i-end c.loop-i.invariant.beside.place in
     let least : c.loop-i.at ≤ p = least-agreeing _ _ _ _ _ _ _ _ _ _ _ _ c.loop-i.invariant.beside p mark behind agrees in
     omega arith)
-    ((IsSpliced-end c.args.revision.now.ops.now.ops c.in_ok-front-2.front.at c.in_ok-front-2.front.segments.items c.in_ok-front-2.front.heap c.in_ok-front-2.ensures.front there).trace) laid
+    ((IsSpliced-end c.args.revision.now.ops.now.ops c.in_ok-front-2.front.len c.in_ok-front-2.front.segments.items c.in_ok-front-2.front.end c.in_ok-front-2.ensures.front there).trace) laid
 
 pub returns-clause-stepped : goal.returns-clause-stepped
 returns-clause-stepped c =
-    AreStepped-end (trace_of c.args.revision.now.segments.now) c.args.revision.now.ops.now.ops (all_marks c.args.revision.now.segments.now) c.args.a c.args.b c.args.front.at c.in_ok-front-2.front.at c.args.meter.now _ (c.in_ok-front-2.ensures.there ∙ c.len.ensures)
+    AreStepped-end (trace_of c.args.revision.now.segments.now) c.args.revision.now.ops.now.ops (all_marks c.args.revision.now.segments.now) c.args.a c.args.b c.args.front.len c.in_ok-front-2.front.len c.args.meter.now _ (c.in_ok-front-2.ensures.there ∙ c.len.ensures)
     (c.in_ok-front-2.ensures.stepped _ _ c.loop-i.invariant.stepped)
 
 pub loop-i-init : goal.loop-i-init
 loop-i-init c = record {
-  beside = IsBeside-none c.args.revision.now.segments.now c.args.revision.now.ops.now.ops c.args.a c.args.b c.args.front.at c.args.meter.now c.args.front.segments.items c.args.front.heap c.requires.front c.requires.order;
-  stepped = HaveStepped-none (trace_of c.args.revision.now.segments.now) c.args.revision.now.ops.now.ops (all_marks c.args.revision.now.segments.now) c.args.front.at c.args.meter.now;
+  beside = IsBeside-none c.args.revision.now.segments.now c.args.revision.now.ops.now.ops c.args.a c.args.b c.args.front.len c.args.meter.now c.args.front.segments.items c.args.front.end c.requires.front c.requires.order;
+  stepped = HaveStepped-none (trace_of c.args.revision.now.segments.now) c.args.revision.now.ops.now.ops (all_marks c.args.revision.now.segments.now) c.args.front.len c.args.meter.now;
   never_less = omega arith;
-  laid = AreLaid-none (all_marks c.args.revision.now.segments.now) (marks_from 0 c.args.front.segments.items) c.args.front.at;
+  laid = AreLaid-none (all_marks c.args.revision.now.segments.now) (marks_from 0 c.args.front.segments.items) c.args.front.len;
 }
 
 pub returns-in_err-front-2-clause-bound : goal.returns-in_err-front-2-clause-bound
@@ -186,15 +186,15 @@ loop-i-preserved c =
     elim c.if-at-a.branch [
       | then-at-a+in-Some+in_ok-front+in_ok-found+in_default-found w ↦
           let m : w.in-Some.mark.now ≡ end_from nothing_held (trace_of (take c.loop-i.i c.args.revision.now.segments.now)) = mark-is c.args.revision.now.segments.now c.loop-i.i c.index-old-i.result w.in-Some.mark.now c.requires.revision.run.replay c.loop-i-test.true c.index-old-i.is w.in-Some.ensures in
-          let there : w.in_ok-front.front.at ≡ c.loop-i.at - c.args.a + c.args.b = w.in_ok-front.ensures.there in
+          let there : w.in_ok-front.front.len ≡ c.loop-i.at - c.args.a + c.args.b = w.in_ok-front.ensures.there in
           let front = w.in_ok-front.ensures.front in
           let rise = w.advance.ensures.rise in
           rw (w.front-is, w.meter-is, c.ops.ensures)
           (record {
-            beside = IsBeside-next c.args.revision.now.segments.now c.args.revision.now.ops.now.ops c.args.a c.args.b c.args.front.at c.args.meter.now c.loop-i.i c.loop-i.at c.loop-i.front.at c.loop-i.front.segments.items c.loop-i.front.heap c.loop-i.meter
-                w.in_ok-front.front.at w.in_ok-front.front.segments.items w.in_ok-front.front.heap w.advance.new.meter c.index-old-i.result c.loop-i.invariant.beside c.loop-i-test.true c.index-old-i.is front (omega arith) (omega (arith, c.loop-i.invariant.beside.rise, rise))
+            beside = IsBeside-next c.args.revision.now.segments.now c.args.revision.now.ops.now.ops c.args.a c.args.b c.args.front.len c.args.meter.now c.loop-i.i c.loop-i.at c.loop-i.front.len c.loop-i.front.segments.items c.loop-i.front.end c.loop-i.meter
+                w.in_ok-front.front.len w.in_ok-front.front.segments.items w.in_ok-front.front.end w.advance.new.meter c.index-old-i.result c.loop-i.invariant.beside c.loop-i-test.true c.index-old-i.is front (omega arith) (omega (arith, c.loop-i.invariant.beside.rise, rise))
                 (λ marked behind agrees.
-                let agree : Agree w.in_ok-front.front.heap w.in-Some.mark.now = AgreesAt-there (trace_of c.args.revision.now.segments.now) c.args.revision.now.ops.now.ops c.args.a c.args.b c.loop-i.at w.in_ok-front.front.heap w.in-Some.mark.now (front.state ∙ ap (λ x. end_from nothing_held (take x c.args.revision.now.ops.now.ops)) there) (m ∙ ap (end_from nothing_held) (trace_of-front c.args.revision.now.segments.now c.loop-i.i c.loop-i.at c.loop-i.invariant.beside.place)) agrees in
+                let agree : Agree w.in_ok-front.front.end w.in-Some.mark.now = AgreesAt-there (trace_of c.args.revision.now.segments.now) c.args.revision.now.ops.now.ops c.args.a c.args.b c.loop-i.at w.in_ok-front.front.end w.in-Some.mark.now (front.state ∙ ap (λ x. end_from nothing_held (take x c.args.revision.now.ops.now.ops)) there) (m ∙ ap (end_from nothing_held) (trace_of-front c.args.revision.now.segments.now c.loop-i.i c.loop-i.at c.loop-i.invariant.beside.place)) agrees in
                 let t : is_some w.in_ok-found.found ≡ true = w.in_ok-found.ensures.answer.1 agree in
                 let f : is_some w.in_ok-found.found ≡ false = ap is_some w.in_default-found.is in
                 cc);
@@ -205,8 +205,8 @@ loop-i-preserved c =
       | then-at-a+in_default w ↦
           rw (w.front-is, w.meter-is, c.ops.ensures)
           (record {
-            beside = IsBeside-next c.args.revision.now.segments.now c.args.revision.now.ops.now.ops c.args.a c.args.b c.args.front.at c.args.meter.now c.loop-i.i c.loop-i.at c.loop-i.front.at c.loop-i.front.segments.items c.loop-i.front.heap c.loop-i.meter
-                c.loop-i.front.at c.loop-i.front.segments.items c.loop-i.front.heap c.loop-i.meter c.index-old-i.result c.loop-i.invariant.beside c.loop-i-test.true c.index-old-i.is c.loop-i.invariant.beside.front c.loop-i.invariant.beside.order c.loop-i.invariant.beside.rise
+            beside = IsBeside-next c.args.revision.now.segments.now c.args.revision.now.ops.now.ops c.args.a c.args.b c.args.front.len c.args.meter.now c.loop-i.i c.loop-i.at c.loop-i.front.len c.loop-i.front.segments.items c.loop-i.front.end c.loop-i.meter
+                c.loop-i.front.len c.loop-i.front.segments.items c.loop-i.front.end c.loop-i.meter c.index-old-i.result c.loop-i.invariant.beside c.loop-i-test.true c.index-old-i.is c.loop-i.invariant.beside.front c.loop-i.invariant.beside.order c.loop-i.invariant.beside.rise
                 (λ marked behind agrees. let f : is_some c.index-old-i.result.mark ≡ false = ap is_some (sym w.in_default.ensures) in cc);
             stepped = c.loop-i.invariant.stepped;
             never_less = c.loop-i.invariant.never_less;
@@ -215,8 +215,8 @@ loop-i-preserved c =
       | else-at-a w ↦
           rw (w.front-is, w.meter-is, c.ops.ensures)
           (record {
-            beside = IsBeside-next c.args.revision.now.segments.now c.args.revision.now.ops.now.ops c.args.a c.args.b c.args.front.at c.args.meter.now c.loop-i.i c.loop-i.at c.loop-i.front.at c.loop-i.front.segments.items c.loop-i.front.heap c.loop-i.meter
-                c.loop-i.front.at c.loop-i.front.segments.items c.loop-i.front.heap c.loop-i.meter c.index-old-i.result c.loop-i.invariant.beside c.loop-i-test.true c.index-old-i.is c.loop-i.invariant.beside.front c.loop-i.invariant.beside.order c.loop-i.invariant.beside.rise
+            beside = IsBeside-next c.args.revision.now.segments.now c.args.revision.now.ops.now.ops c.args.a c.args.b c.args.front.len c.args.meter.now c.loop-i.i c.loop-i.at c.loop-i.front.len c.loop-i.front.segments.items c.loop-i.front.end c.loop-i.meter
+                c.loop-i.front.len c.loop-i.front.segments.items c.loop-i.front.end c.loop-i.meter c.index-old-i.result c.loop-i.invariant.beside c.loop-i-test.true c.index-old-i.is c.loop-i.invariant.beside.front c.loop-i.invariant.beside.order c.loop-i.invariant.beside.rise
                 (λ marked behind agrees. let lt : c.loop-i.at < c.args.a = w.if-at-a.false in omega arith);
             stepped = c.loop-i.invariant.stepped;
             never_less = c.loop-i.invariant.never_less;

@@ -7,8 +7,8 @@ use Rattle.run_engine.proofs.converge.converge.Given as goal
 
 abbrev pub invariant-loop-i : goal.invariant-loop-i
 invariant-loop-i l = record {
-  beside : IsBeside l.revision.segments.now l.revision.ops.now.ops l.a l.b l.initial.front.at l.initial.meter l.i l.at l.front.at l.front.segments.items l.front.heap l.meter;
-  stepped : HaveStepped (trace_of l.revision.segments.now) l.revision.ops.now.ops (all_marks l.revision.segments.now) l.initial.front.at l.front.at l.initial.meter l.meter;
+  beside : IsBeside l.revision.segments.now l.revision.ops.now.ops l.a l.b l.initial.front.len l.initial.meter l.i l.at l.front.len l.front.segments.items l.front.end l.meter;
+  stepped : HaveStepped (trace_of l.revision.segments.now) l.revision.ops.now.ops (all_marks l.revision.segments.now) l.initial.front.len l.front.len l.initial.meter l.meter;
   never_less : l.initial.meter ≤ l.meter;
-  laid : AreLaid (all_marks l.revision.segments.now) (marks_from 0 l.initial.front.segments.items) l.initial.front.at l.front.at (marks_from 0 l.front.segments.items);
+  laid : AreLaid (all_marks l.revision.segments.now) (marks_from 0 l.initial.front.segments.items) l.initial.front.len l.front.len (marks_from 0 l.front.segments.items);
 }

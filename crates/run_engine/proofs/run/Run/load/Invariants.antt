@@ -3,7 +3,7 @@ use Rattle.run_engine.proofs.LoadLemmas.{IsLoaded}
 use Rattle.run_engine.proofs.run.Run.load.Given as goal
 
 abbrev pub invariant-loop-front : goal.invariant-loop-front
-invariant-loop-front l = IsLoaded l.ops l.initial.meter l.front.at l.front.segments.items l.front.heap l.meter
+invariant-loop-front l = IsLoaded l.ops l.initial.meter l.front.len l.front.segments.items l.front.end l.meter
 
 abbrev pub decreases-loop-front : goal.decreases-loop-front
-decreases-loop-front l = length l.initial.ops - l.front.at
+decreases-loop-front l = length l.initial.ops - l.front.len
