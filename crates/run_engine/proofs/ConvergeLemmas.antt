@@ -15,10 +15,10 @@ use Rattle.run_engine.specs.HeadAndTail.{ShareEnd}
 use Rattle.run_engine.specs.Bounds.{AgreesAt, StepsAtMost}
 use Rattle.ownership_model.proofs.LawsHold.{appends, soundness}
 use Rattle.agreement.specs.Agreement.{Agree}
-use Rattle.run_engine.proofs.SegmentLemmas.{trace_of-append, AreReplayFrom-append, AreReplayFrom-back, length-trace_of-next}
+use Rattle.run_engine.proofs.SegmentLemmas.{trace_of-append, marks_from-append, AreReplayFrom-append, AreReplayFrom-back, length-trace_of-next}
 use Rattle.run_engine.proofs.ListingLemmas.{around}
-use Rattle.run_engine.proofs.PieceLemmas.{AreFull-append, AreFull-back, BeginsMarked-append, mark-is}
-use Rattle.run_engine.proofs.PlaceLemmas.{Contains-one, mark_here-place, mark_here-some, marks_from-least, trace_of-parted, trace_of-back, place-within}
+use Rattle.run_engine.proofs.PieceLemmas.{AreFull-append, AreFull-front, AreFull-back, BeginsMarked-append, mark-is}
+use Rattle.run_engine.proofs.PlaceLemmas.{Contains-one, mark_here-place, mark_here-some, marks_from-least, trace_of-parted, trace_of-back, place-within, marks_from-below}
 
 pub ShareEnd-length : (old ops : List Operation) (a b : ℕ) → ShareEnd old ops a b → length old - a ≡ length ops - b
 ShareEnd-length old ops a b h = sym (length-drop a old) ∙ ap length h.same ∙ length-drop b ops
@@ -30,10 +30,6 @@ pub record IsBeside (old : List SegmentView) (ops : List Operation) (a b r befor
   pub order : x ≤ at - a + b
   pub rise : count + r ≤ before + x
   pub later : (p : ℕ) → Contains (all_marks old) p → a ≤ p → AgreesAt (trace_of old) ops a b p → Contains (marks_from at (drop i old) ++ length (trace_of old) ∷ []) p
-
-pub IsBeside-none : (old : List SegmentView) (ops : List Operation) (a b r before : ℕ) (segments : List SegmentView) (heap : State)
-    → IsReached ops r segments heap → r ≤ b → IsBeside old ops a b r before 0 0 r segments heap before
-IsBeside-none old ops a b r before segments heap h le = record { place = refl; front = h; order = omega arith; rise = omega arith; later = λ p h k l. h }
 
 pub IsBeside-next : (old : List SegmentView) (ops : List Operation) (a b r before i at x : ℕ) (segments : List SegmentView) (heap : State) (count y : ℕ) (next : List SegmentView) (then : State) (counted : ℕ) (s : SegmentView)
     → IsBeside old ops a b r before i at x segments heap count → i < length old → s ≡ get_or old i s
@@ -151,4 +147,28 @@ IsSpliced-end ops x segments heap h e =
     record {
       run = record { replay = h.replay; full = h.full; begins = h.begins; state = h.state ∙ ap (end_from nothing_held) (sym h.trace) };
       trace = t;
+    }
+
+-- the loop may begin at a segment that begins at or before a: the checkpoints in front of it don't count
+pub IsBeside-first : (old : List SegmentView) (ops : List Operation) (a b r before i at : ℕ) (segments : List SegmentView) (heap : State)
+    → AreFull old → i ≤ length old → length (trace_of (take i old)) ≡ at → at ≤ a → IsReached ops r segments heap → r ≤ b → IsBeside old ops a b r before i at r segments heap before
+IsBeside-first old ops a b r before i at segments heap full within place early h le =
+    let n : ℕ = length (trace_of old) in
+    let parts : take i old ++ drop i old ≡ old = take-append-drop i old in
+    let from : 0 + length (trace_of (take i old)) ≡ at = omega arith in
+    let list : all_marks old ≡ marks_from 0 (take i old) ++ (marks_from at (drop i old) ++ n ∷ []) =
+    ap (λ ss. marks_from 0 ss ++ n ∷ []) (sym parts) ∙ ap (λ ps. ps ++ n ∷ []) (marks_from-append 0 (take i old) (drop i old))
+    ∙ append_assoc (marks_from 0 (take i old)) (marks_from (0 + length (trace_of (take i old))) (drop i old)) (n ∷ [])
+    ∙ ap (λ p. marks_from 0 (take i old) ++ (marks_from p (drop i old) ++ n ∷ [])) from in
+    record {
+      place = place;
+      front = h;
+      order = omega arith;
+      rise = omega arith;
+      later = λ p mark behind agrees. ⊎_elim
+          (λ front.
+          let less : p < 0 + length (trace_of (take i old)) = marks_from-below 0 (take i old) p (AreFull-front (take i old) (drop i old) (subst AreFull (sym parts) full)) front in
+          absurd (omega arith))
+          (λ later. later)
+          (Contains-append_cases (marks_from 0 (take i old)) (marks_from at (drop i old) ++ n ∷ []) p (subst (λ ps. Contains ps p) list mark));
     }

@@ -20,7 +20,7 @@ use Rattle.std.proofs.Math.Seq.{take-append_seam, drop-append_seam}
 use Rattle.ownership_model.specs.State.{nothing_held}
 use Rattle.ownership_model.specs.Step.{end_from}
 use Rattle.run_engine.specs.Steps.{IsOldStretch, AreRising}
-use Rattle.run_engine.proofs.PlaceLemmas.{marks-at, mark-there, end-mark, all-within, place-within, Contains-none, Contains-one, mark_here-place, marks_from-least}
+use Rattle.run_engine.proofs.PlaceLemmas.{marks-at, mark-there, end-mark, all-within, place-within, Contains-none, Contains-one, mark_here-place, marks_from-least, marks_from-below}
 use Rattle.run_engine.proofs.ConvergeLemmas.{ShareEnd-length}
 
 -- a test that no position passes, and one that each passes
@@ -66,17 +66,6 @@ marks_from-moved a b at (s ∷ segments) le =
     here-moved : (a b at : ℕ) (o : Option State) (rest : List ℕ) → mark_here (at - a + b) o ++ map (λ p. p - a + b) rest ≡ map (λ p. p - a + b) (mark_here at o ++ rest)
     here-moved a b at None rest = refl
     here-moved a b at (Some m) rest = refl
-
--- the checkpoints of segments that are not empty are before their end
-marks_from-below : (at : ℕ) (segments : List SegmentView) (p : ℕ) → AreFull segments → Contains (marks_from at segments) p → p < at + length (trace_of segments)
-marks_from-below at [] p full h = absurd (Contains-none p h)
-marks_from-below at (s ∷ segments) p full h =
-    let long = length-append (ops_of s) (trace_of segments) in
-    let some = full.0 in
-    ⊎_elim
-    (λ here. let e : p ≡ at = mark_here-place at p s.mark here in omega arith)
-    (λ later. let lt : p < at + length (ops_of s) + length (trace_of segments) = marks_from-below (at + length (ops_of s)) segments p full.1 later in omega arith)
-    (Contains-append_cases (mark_here at s.mark) (marks_from (at + length (ops_of s)) segments) p h)
 
 -- the checkpoints from a position on
 after-least : (at n : ℕ) (segments : List SegmentView) (p : ℕ) → at ≤ n → Contains (marks_from at segments ++ n ∷ []) p → at ≤ p

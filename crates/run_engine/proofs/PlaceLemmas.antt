@@ -6,7 +6,7 @@ use Rattle.std.proofs.lemmas.List.Elements.{Contains-append_cases, Contains-appe
 use Rattle.std.proofs.Math.Seq.{drop-append_seam, take-append_seam}
 use Rattle.ownership_model.specs.State.{State}
 use Rattle.run_engine.specs.SegmentView.{SegmentView}
-use Rattle.run_engine.specs.Segments.{ops_of, trace_of, mark_here, marks_from, BeginsMarked, all_marks}
+use Rattle.run_engine.specs.Segments.{ops_of, trace_of, mark_here, marks_from, AreFull, BeginsMarked, all_marks}
 use Rattle.run_engine.proofs.SegmentLemmas.{trace_of-append, marks_from-append}
 use Rattle.run_engine.proofs.ListingLemmas.{around}
 
@@ -104,3 +104,14 @@ all-within segments p here h le = ⊎_elim
     (λ m. let most : p ≤ 0 + length (trace_of segments) = marks_from-most 0 segments p m in omega arith)
     (λ m. let e : length (trace_of segments) ≡ p = Contains-one _ p m in omega arith)
     (Contains-append_cases (marks_from 0 segments) (length (trace_of segments) ∷ []) p h)
+
+-- the checkpoints of segments that are not empty are before their end
+pub marks_from-below : (at : ℕ) (segments : List SegmentView) (p : ℕ) → AreFull segments → Contains (marks_from at segments) p → p < at + length (trace_of segments)
+marks_from-below at [] p full h = absurd (Contains-none p h)
+marks_from-below at (s ∷ segments) p full h =
+    let long = length-append (ops_of s) (trace_of segments) in
+    let some = full.0 in
+    ⊎_elim
+    (λ here. let e : p ≡ at = mark_here-place at p s.mark here in omega arith)
+    (λ later. let lt : p < at + length (ops_of s) + length (trace_of segments) = marks_from-below (at + length (ops_of s)) segments p full.1 later in omega arith)
+    (Contains-append_cases (mark_here at s.mark) (marks_from (at + length (ops_of s)) segments) p h)

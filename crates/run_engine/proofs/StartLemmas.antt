@@ -7,6 +7,7 @@ use Rattle.trace_types.specs.Operation.{Operation}
 use Rattle.run_engine.specs.Parts.{joined, starts_from, IsPartAt}
 use Rattle.run_engine.specs.SegmentView.{SegmentView}
 use Rattle.run_engine.specs.Segments.{ops_of, trace_of}
+use Rattle.run_engine.specs.Revision.{IsLastFrom}
 use Rattle.run_engine.proofs.ListingLemmas.{take-shorter}
 use Rattle.run_engine.proofs.PartLemmas.{joined-few}
 
@@ -99,13 +100,17 @@ segment-starts-next segments i at s lt is here =
     ∙ ap (starts_from 0) (map-append ops_of (take i segments) (s ∷ []))
     ∙ starts-more 0 (map ops_of (take i segments)) (ops_of s) ∙ ap (λ n. starts_from 0 (map ops_of (take i segments)) ++ n ∷ []) place
 
--- the segment that begins at a position
-pub segment-begins : (segments : List SegmentView) (starts : List ℕ) (i d position : ℕ) → starts ≡ starts_from 0 (map ops_of segments) → i < length segments → get_or starts i d ≡ position
-    → length (trace_of (take i segments)) ≡ position
-segment-begins segments starts i d position is lt there =
+-- the segment of a part that begins at or before a position
+pub last-from : (segments : List SegmentView) (starts : List ℕ) (position i d : ℕ) → starts ≡ starts_from 0 (map ops_of segments) → IsPartAt (map ops_of segments) position i → IsLastFrom segments position i (get_or starts i d)
+last-from segments starts position i d is h =
+    let within = h.within in
+    let lt : i < length segments = omega (arith, length-map segments ops_of) in
     let here : get_or starts i d ≡ 0 + length (joined (take i (map ops_of segments))) = ap (λ ss. get_or ss i d) is ∙ start-is 0 (map ops_of segments) i d (omega (arith, length-map segments ops_of)) in
-    let long : length (joined (take i (map ops_of segments))) ≡ length (trace_of (take i segments)) = ap (λ ps. length (joined ps)) (take-map ops_of i segments) ∙ ap length (joined-ops (take i segments)) in
-    omega arith
-
-pub segment-there : (segments : List SegmentView) (place i : ℕ) → IsPartAt (map ops_of segments) place i → i < length segments
-segment-there segments place i h = let lt = h.within in omega (arith, length-map segments ops_of)
+    let long : (n : ℕ) → length (joined (take n (map ops_of segments))) ≡ length (trace_of (take n segments)) = λ n. ap (λ ps. length (joined ps)) (take-map ops_of n segments) ∙ ap length (joined-ops (take n segments)) in
+    let before = h.before in
+    record {
+      within = omega arith;
+      place = sym (long i) ∙ omega arith;
+      before = omega arith;
+      inside = λ more. (lt, subst (λ n. position < n) (long (i + 1)) (h.inside (omega (arith, ap length (joined-ops segments)))));
+    }

@@ -113,10 +113,11 @@ pub fn converge(
 {
     let old = revision.segments;
     let mut front = front;
-    let mut at = 0;
+    let (first, mut at) = revision.last_from(a);
     let mut seen = None;
     let mut apart = false;
-    for (i, segment) in old.iter().enumerate() {
+    for i in first..old.len() {
+        let segment = &old[i];
         if at >= a {
             if let Some(mark) = segment.mark() {
                 front = advance(alloc, revision, front, at - a + b, !apart, meter)?;

@@ -1,7 +1,7 @@
 //! An old run beside an edited trace.
 ghost use Rattle.std.specs.Prelude.{◌≡◌, ◌<◌, ◌≤◌, length, take, IfOk, IfSome};
 ghost use Rattle.run_engine.specs.Segments.{trace_of, IsRun};
-ghost use Rattle.run_engine.specs.Revision.{IsRevision};
+ghost use Rattle.run_engine.specs.Revision.{IsRevision, IsLastFrom};
 
 use crate::listing::Listing;
 use crate::segment::Segment;
@@ -48,16 +48,25 @@ impl<'a> Revision<'a> {
         })
     }
 
+    /// The last segment that begins at or before a position, and where it begins: both 0 where there is none.
+    pub fn last_from(&self, position: usize) -> (usize, usize)
+        requires { IsRevision self.now }
+        ensures { IsLastFrom self.now.segments.now position result.0 result.1 }
+    {
+        match part_at(&self.starts, position) {
+            None => (0, 0),
+            Some(i) => (i, self.starts[i]),
+        }
+    }
+
     /// The index of the segment that begins at a position.
     pub fn segment_at(&self, position: usize) -> Option<usize>
         requires { IsRevision self.now }
         ensures within { IfSome result (λ i. i < length self.now.segments.now) }
         ensures place { IfSome result (λ i. length (trace_of (take i self.now.segments.now)) ≡ position) }
     {
-        let Some(i) = part_at(&self.starts, position) else {
-            return None;
-        };
-        if self.starts[i] != position {
+        let (i, at) = self.last_from(position);
+        if i == self.segments.len() || at != position {
             return None;
         }
         Some(i)

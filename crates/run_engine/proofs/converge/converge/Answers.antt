@@ -13,7 +13,7 @@ use Rattle.std.proofs.Math.Seq.{take-length}
 use Rattle.run_engine.proofs.SegmentLemmas.{length-trace_of-next, trace_of-append}
 use Rattle.run_engine.proofs.PieceLemmas.{mark-is, take-rest}
 use Rattle.run_engine.proofs.PlaceLemmas.{mark-there, place-within, trace_of-front}
-use Rattle.run_engine.proofs.ConvergeLemmas.{IsBeside-none, IsBeside-next, least-agreeing, bounded, ShareEnd-length, IsRunFrom-back, rest-shared, distinct-back, old-unused, new-unused, AgreesAt-here, AgreesAt-there, IsSpliced, IsSpliced-rest, IsSpliced-end}
+use Rattle.run_engine.proofs.ConvergeLemmas.{IsBeside-first, IsBeside-next, least-agreeing, bounded, ShareEnd-length, IsRunFrom-back, rest-shared, distinct-back, old-unused, new-unused, AgreesAt-here, AgreesAt-there, IsSpliced, IsSpliced-rest, IsSpliced-end}
 use Rattle.run_engine.proofs.converge.converge.Goals.{then-at-a+in-Some+in_ok-front+in_ok-found+in_default-found, then-at-a+in_default, else-at-a}
 use Rattle.run_engine.specs.NewMarks.{AreLaid}
 use Rattle.run_engine.proofs.MarksLemmas.{AreLaid-none, AreMarksOf-stop, AreMarksOf-end, all_marks-rest, IsReached-length}
@@ -148,7 +148,7 @@ returns-clause-marks c =
     subst (λ x. AreLaid (all_marks c.args.revision.now.segments.now) (marks_from 0 c.args.front.segments.items) c.args.front.len x (marks_from 0 c.in_ok-front-2.front.segments.items)) there (c.in_ok-front-2.ensures.marks _ _ c.loop-i.invariant.laid) in
     AreMarksOf-end c.args.revision.now.segments.now c.in_ok-front-2.front.segments.items c.args.revision.now.ops.now.ops (marks_from 0 c.args.front.segments.items) c.args.a c.args.b c.args.front.len c.requires.shared
     (λ p mark behind agrees.
-    let e = place-end c.args.revision.now.segments.now c.loop-i.i c.loop-i.at c.loop-i-test.false c.loop-i.auto.i-end c.loop-i.invariant.beside.place in
+    let e = place-end c.args.revision.now.segments.now c.loop-i.i c.loop-i.at c.loop-i-test.false (c.loop-i.auto.i-end c.last_from-first.ensures.within) c.loop-i.invariant.beside.place in
     let least : c.loop-i.at ≤ p = least-agreeing _ _ _ _ _ _ _ _ _ _ _ _ c.loop-i.invariant.beside p mark behind agrees in
     omega arith)
     ((IsSpliced-end c.args.revision.now.ops.now.ops c.in_ok-front-2.front.len c.in_ok-front-2.front.segments.items c.in_ok-front-2.front.end c.in_ok-front-2.ensures.front there).trace) laid
@@ -160,7 +160,8 @@ returns-clause-stepped c =
 
 pub loop-i-init : goal.loop-i-init
 loop-i-init c = record {
-  beside = IsBeside-none c.args.revision.now.segments.now c.args.revision.now.ops.now.ops c.args.a c.args.b c.args.front.len c.args.meter.now c.args.front.segments.items c.args.front.end c.requires.front c.requires.order;
+  beside = IsBeside-first c.args.revision.now.segments.now c.args.revision.now.ops.now.ops c.args.a c.args.b c.args.front.len c.args.meter.now c.last_from-first.result.0 c.last_from-first.result.1 c.args.front.segments.items c.args.front.end
+      c.requires.revision.run.full c.last_from-first.ensures.within c.last_from-first.ensures.place c.last_from-first.ensures.before c.requires.front c.requires.order;
   stepped = HaveStepped-none (trace_of c.args.revision.now.segments.now) c.args.revision.now.ops.now.ops (all_marks c.args.revision.now.segments.now) c.args.front.len c.args.meter.now;
   never_less = omega arith;
   laid = AreLaid-none (all_marks c.args.revision.now.segments.now) (marks_from 0 c.args.front.segments.items) c.args.front.len;
@@ -168,14 +169,14 @@ loop-i-init c = record {
 
 pub returns-in_err-front-2-clause-bound : goal.returns-in_err-front-2-clause-bound
 returns-in_err-front-2-clause-bound c =
-    let e = place-end c.args.revision.now.segments.now c.loop-i.i c.loop-i.at c.loop-i-test.false c.loop-i.auto.i-end c.loop-i.invariant.beside.place in
+    let e = place-end c.args.revision.now.segments.now c.loop-i.i c.loop-i.at c.loop-i-test.false (c.loop-i.auto.i-end c.last_from-first.ensures.within) c.loop-i.invariant.beside.place in
     let shared = c.requires.shared in
     let long = ShareEnd-length (trace_of c.args.revision.now.segments.now) c.args.revision.now.ops.now.ops c.args.a c.args.b shared in
     bounded _ _ _ _ _ _ _ _ _ _ _ _ _ c.loop-i.invariant.beside shared (omega (arith, shared.old_within)) (omega (arith, long, shared.old_within, shared.within, c.loop-i.invariant.beside.rise, c.advance-2.ensures.rise))
 
 pub returns-clause-bound : goal.returns-clause-bound
 returns-clause-bound c =
-    let e = place-end c.args.revision.now.segments.now c.loop-i.i c.loop-i.at c.loop-i-test.false c.loop-i.auto.i-end c.loop-i.invariant.beside.place in
+    let e = place-end c.args.revision.now.segments.now c.loop-i.i c.loop-i.at c.loop-i-test.false (c.loop-i.auto.i-end c.last_from-first.ensures.within) c.loop-i.invariant.beside.place in
     let shared = c.requires.shared in
     let long = ShareEnd-length (trace_of c.args.revision.now.segments.now) c.args.revision.now.ops.now.ops c.args.a c.args.b shared in
     bounded _ _ _ _ _ _ _ _ _ _ _ _ _ c.loop-i.invariant.beside shared (omega (arith, shared.old_within)) (omega (arith, long, shared.old_within, shared.within, c.loop-i.invariant.beside.rise, c.advance-2.ensures.rise))
