@@ -22,7 +22,11 @@ struct Search {
 }
 
 /// A trail to an object that differs, if one is found: any will do. Where the object is surely reached its number is enough.
-pub fn differing_object(alloc: Global, new: &Heap, old: &Heap) -> Result<Option<Trail>, AllocError> {
+pub fn differing_object(
+    alloc: Global,
+    new: &Heap,
+    old: &Heap,
+) -> Result<Option<Trail>, AllocError> {
     let mut search = from_roots(alloc, new)?;
     // each object is taken at most once
     for _ in 0..MAX_ID + 1 {

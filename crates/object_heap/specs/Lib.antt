@@ -5,3 +5,4 @@ pub mod Drops
 pub mod Links
 pub mod Exchange
 pub mod Descent
+pub mod NamesCounted

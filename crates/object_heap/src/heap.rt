@@ -118,7 +118,7 @@ impl Heap {
         ensures { result ≡ true → is_reached StrongOrWeak self.now object ≡ true }
     {
         match self.object(object) {
-            Some(_) => self.draft.objects.descend_from() <= object as u64,
+            Some(_) => self.draft.objects.descend_to(object),
             None => false,
         }
     }

@@ -9,6 +9,7 @@ mod exchange;
 pub mod heap;
 mod objects;
 pub mod place;
+mod ranks;
 pub mod reach;
 mod scopes;
 

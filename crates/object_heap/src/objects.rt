@@ -1,11 +1,10 @@
-//! The objects of a heap, and from which number on they are named by later ones alone.
-ghost use Rattle.std.specs.Prelude.{◌≡◌, ℕ, ◌<◌, ◌≤◌, ◌↔◌, true, Some, IfOk, OnOk, OnErr, IsTrue};
+//! The objects of a heap, and from which rank on they are named by those of higher ranks alone.
+ghost use Rattle.std.specs.Prelude.{◌≡◌, ◌↔◌, true, IfOk, OnOk, OnErr, IsTrue};
 ghost use Rattle.std.specs.Option.{option_copied};
 ghost use Rattle.std.specs.FinMap as map;
-ghost use Rattle.ownership_model.specs.declared.link.Link.TheVariants.{StrongOrWeak};
-ghost use Rattle.ownership_model.specs.Reach.{has, named, slots_names};
-ghost use Rattle.object_heap.specs.Descent.{NamesEarlier, Descend};
+ghost use Rattle.object_heap.specs.Descent.{DescendTo, IsUnnamed};
 
+use crate::ranks::{MAX_RANK, lower_from, rank_of, rank_over};
 use share_tree::ShareTree;
 use std::alloc::{AllocError, Global};
 use std::marker::Model;
@@ -13,9 +12,11 @@ use trace_types::slots::{Entry, Slot};
 
 /// The objects that stand. Contracts see them as a finite map.
 ///
-/// It also keeps a number from which on no field names its own object or a later one. The number never falls.
+/// It also keeps a rank from which on no field names an object of its own object's rank or a higher one. An object ranks by its
+/// number, or higher, where it was made with a name of a later one: that rank is kept. The bound never falls.
 pub struct Objects {
     entries: ShareTree<Entry>,
+    ranks: ShareTree<u64>,
     from: u64,
 }
 
@@ -25,7 +26,7 @@ impl Model for Objects {
     ghost use Rattle.trace_types.specs.declared.slots.Entry.{Entry};
     ghost use Rattle.trace_types.specs.contracts.slots.Entry as entry;
     ghost use Rattle.std.specs.Coded.{coded_ℕ};
-    ghost use Rattle.object_heap.specs.Descent.{Descend};
+    ghost use Rattle.object_heap.specs.Descent.{AreRanked};
 
     ghost Value = { map.FinMap nat_cmp Entry };
 
@@ -33,13 +34,14 @@ impl Model for Objects {
 
     ghost view = { λ o. o.entries };
 
-    ghost invariant = { λ o. Descend o.from o.entries };
+    ghost invariant = { λ o. AreRanked o.ranks o.from o.entries };
 }
 
 impl Drop for Objects {
     fn drop(self) {
         let Objects {
             entries: _,
+            ranks: _,
             from: _,
         } = self;
     }
@@ -52,6 +54,7 @@ impl Objects {
     {
         Objects {
             entries: ShareTree::empty(),
+            ranks: ShareTree::empty(),
             from: 0,
         }
     }
@@ -62,15 +65,16 @@ impl Objects {
     {
         Ok(Objects {
             entries: self.entries.share()?,
+            ranks: self.ranks.share()?,
             from: self.from,
         })
     }
 
-    /// A number from which on each object is named by the fields of later ones alone.
-    pub fn descend_from(&self) -> u64
-        ensures { Descend result self.now }
+    /// Whether the object is among those that are named by objects of higher ranks alone.
+    pub fn descend_to(&self, object: u32) -> bool
+        ensures { result ≡ true → DescendTo self.now object }
     {
-        self.from
+        self.from <= rank_of(&self.ranks, object)
     }
 
     /// What stands for an object.
@@ -99,53 +103,32 @@ impl Objects {
         ensures ok { OnOk result (self.new ≡ map.insert self.old object entry) }
         ensures err { OnErr result (self.new ≡ self.old) }
     {
-        self.from = earlier_from(self.from, object, &entry);
+        let rank = rank_of(&self.ranks, object);
+        self.from = lower_from(&self.ranks, self.from, rank, &entry);
         self.entries.insert(alloc, object, entry)
     }
 
-    /// Nothing stands for an object any more.
+    /// Nothing stands for an object any more. Its rank is left: no other object gets its number.
     pub fn remove(&mut self, alloc: Global, object: u32) -> Result<(), AllocError>
         ensures ok { OnOk result (self.new ≡ map.remove self.old object) }
         ensures err { OnErr result (self.new ≡ self.old) }
     {
         self.entries.remove(alloc, object)
     }
-}
 
-// A number that is no less, from which on the entry names what comes before the object alone.
-fn earlier_from(from: u64, object: u32, entry: &Entry) -> u64
-    ensures no_less { from ≤ result }
-    ensures earlier { NamesEarlier result object entry.now }
-{
-    match entry {
-        Entry::Alive(fields) => slots_earlier_from(from, object, fields.as_slice()),
-        Entry::Husk => from,
+    /// A rank over those of what the slots name.
+    pub fn rank_over(&self, slots: &[Slot]) -> u64 {
+        rank_over(&self.ranks, slots)
     }
-}
 
-fn slots_earlier_from(from: u64, object: u32, slots: &[Slot]) -> u64
-    ensures no_less { from ≤ result }
-    ensures earlier { (o : ℕ) → has o (slots_names StrongOrWeak slots.now) ≡ true → result ≤ o → o < object }
-{
-    let mut past = from;
-    for slot in slots {
-        past = slot_earlier_from(past, object, *slot);
-    }
-    past
-}
-
-fn slot_earlier_from(from: u64, object: u32, slot: Slot) -> u64
-    ensures no_less { from ≤ result }
-    ensures earlier { (o : ℕ) → has o (named StrongOrWeak slot) ≡ true → result ≤ o → o < object }
-{
-    match slot {
-        Slot::Strong(named) | Slot::Weak(named) => {
-            if named < object {
-                from
-            } else {
-                from.max(named as u64 + 1)
-            }
+    /// Where no field names the object its rank may rise. It does to this one, if that is within the limit.
+    pub fn raise(&mut self, alloc: Global, object: u32, rank: u64) -> Result<(), AllocError>
+        requires { IsUnnamed self.old object }
+        ensures { self.new ≡ self.old }
+    {
+        if rank > rank_of(&self.ranks, object) && rank <= MAX_RANK {
+            self.ranks.insert(alloc, object, rank)?;
         }
-        Slot::Nothing | Slot::Dangling => from,
+        Ok(())
     }
 }
