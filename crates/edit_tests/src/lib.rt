@@ -4,6 +4,8 @@
 #[cfg(test)]
 mod agreeing;
 #[cfg(test)]
+mod chains;
+#[cfg(test)]
 mod desk;
 #[cfg(test)]
 mod exchanges;
