@@ -1,5 +1,5 @@
 //! The heap of a traced program at one moment.
-ghost use Rattle.std.specs.Prelude.{◌≡◌, ◌↔◌, [], true, IfOk, IsTrue};
+ghost use Rattle.std.specs.Prelude.{◌≡◌, ◌↔◌, [], true, IfOk, OnOk, OnErr, IsTrue};
 ghost use Rattle.std.specs.Option.{option_copied};
 ghost use Rattle.std.specs.FinMap as map;
 ghost use Rattle.ownership_model.specs.State.{nothing_held, strong, weak, IsSound};
@@ -20,7 +20,6 @@ use crate::draft::Draft;
 use ownership_model::remaining::Remaining;
 use share_tree::ShareTree;
 use std::alloc::{AllocError, Global};
-use std::collections::VecDeque;
 use std::marker::Model;
 use trace_types::outcomes::Event;
 use trace_types::sequence::Sequence;
@@ -211,14 +210,35 @@ impl Heap {
         ensures events { IfOk result (λ r. r.1 ≡ (release (changed self changes.now) pending.now).events) }
         ensures cascade { IfOk result (λ r. CascadesTo (changed self changes.now) r.0 r.1) }
     {
-        let Heap { mut draft } = self;
-        draft.apply(alloc, changes)?;
-        let mut list = VecDeque::new(alloc);
-        draft.add_all(alloc, pending, &mut list)?;
-        let mut events = Vec::new(alloc);
-        draft.release(alloc, &mut list, &mut events)?;
-        Ok((Heap { draft }, Sequence::from_vec(events)))
+        let mut heap = self;
+        let events = heap.release_in_place(alloc, changes, pending)?;
+        Ok((heap, events))
     }
+
+    /// As `released`, in place. Where memory runs out nothing is held any more.
+    pub fn release_in_place(
+        &mut self,
+        alloc: Global,
+        changes: &[Change],
+        pending: &[Item],
+    ) -> Result<Sequence<Event>, AllocError>
+        requires can { CanChange self.old changes.now }
+        requires fits { ChangesFit changes.now }
+        requires sound { IsSound (changed self.old changes.now) pending.now }
+        ensures state { OnOk result (self.new ≡ (release (changed self.old changes.now) pending.now).state) }
+        ensures events { IfOk result (λ events. events ≡ (release (changed self.old changes.now) pending.now).events) }
+        ensures cascade { IfOk result (λ events. CascadesTo (changed self.old changes.now) self.new events) }
+        ensures err { OnErr result (self.new ≡ nothing_held) }
+    {
+        match self.draft.carry_out(alloc, changes, pending) {
+            Ok(events) => Ok(Sequence::from_vec(events)),
+            Err(error) => {
+                self.draft.let_go();
+                Err(error)
+            }
+        }
+    }
+
     /// The heap without some objects and with others. The result is to be sound.
     ///
     /// The work is that of the objects that go and come, and of their fields: the rest isn't looked at. What this heap alone holds is

@@ -48,11 +48,29 @@ pub fn stepped(
     ensures counted { OnOk result (meter.new ≡ raised meter.old 1) }
     ensures uncounted { OnErr result (meter.new ≡ meter.old) }
 {
-    let planned = plan(alloc, &heap, op)?;
-    see_kept(&heap);
-    let done = carry_out(alloc, heap, op.id(), planned)?;
+    let mut next = heap;
+    let outcome = step_in_place(alloc, &mut next, op, meter)?;
+    Ok((next, outcome))
+}
+
+/// As `stepped`, in place. Where memory runs out it isn't told what the heap holds.
+pub fn step_in_place(
+    alloc: Global,
+    heap: &mut Heap,
+    op: &Op,
+    meter: &mut Meter,
+) -> Result<Outcome, AllocError>
+    requires { get heap.old.objects op.now.id ≡ None }
+    ensures state { OnOk result (heap.new ≡ (step heap.old op.now).state) }
+    ensures outcome { IfOk result (λ r. r ≡ (step heap.old op.now).outcome) }
+    ensures counted { OnOk result (meter.new ≡ raised meter.old 1) }
+    ensures uncounted { OnErr result (meter.new ≡ meter.old) }
+{
+    let planned = plan(alloc, heap, op)?;
+    see_kept(heap);
+    let outcome = carry_out(alloc, heap, op.id(), planned)?;
     meter.raise();
-    Ok(done)
+    Ok(outcome)
 }
 
 // What every heap keeps, which a look at it tells.
@@ -63,14 +81,14 @@ pub fn see_kept(heap: &Heap)
     let _held = heap.holding(0);
 }
 
-fn carry_out(alloc: Global, heap: Heap, id: u32, plan: Plan) -> Result<(Heap, Outcome), AllocError>
-    requires carriable { IsCarriable heap plan }
+fn carry_out(alloc: Global, heap: &mut Heap, id: u32, plan: Plan) -> Result<Outcome, AllocError>
+    requires carriable { IsCarriable heap.old plan }
     requires fits { PlanFits plan }
-    ensures state { IfOk result (λ r. r.0 ≡ (carried_out heap id plan).state) }
-    ensures outcome { IfOk result (λ r. r.1 ≡ (carried_out heap id plan).outcome) }
+    ensures state { OnOk result (heap.new ≡ (carried_out heap.old id plan).state) }
+    ensures outcome { IfOk result (λ r. r ≡ (carried_out heap.old id plan).outcome) }
 {
     match plan {
-        Plan::Skip(reason) => Ok((heap, skipped(alloc, id, reason))),
+        Plan::Skip(reason) => Ok(skipped(alloc, id, reason)),
         Plan::Act {
             answer,
             changes,
@@ -78,16 +96,13 @@ fn carry_out(alloc: Global, heap: Heap, id: u32, plan: Plan) -> Result<(Heap, Ou
             pending,
             object,
         } => {
-            let (next, released) = heap.released(alloc, changes.as_slice(), pending.as_slice())?;
-            let events = with_named(alloc, event, released)?;
-            let counts = counts_of(&next, object);
-            let outcome = Outcome {
+            let released = heap.release_in_place(alloc, changes.as_slice(), pending.as_slice())?;
+            Ok(Outcome {
                 id,
                 verdict: Verdict::Did(answer),
-                events,
-                counts,
-            };
-            Ok((next, outcome))
+                events: with_named(alloc, event, released)?,
+                counts: counts_of(heap, object),
+            })
         }
     }
 }
