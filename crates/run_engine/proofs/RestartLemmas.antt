@@ -2,6 +2,7 @@
 use Rattle.std.proofs.Common.{suc, zero, ◌≡◌, ℕ, ◌+◌, ◌<◌, ◌≤◌, List, [], ◌∷◌, ◌++◌, length, take, drop, get_or, true, false, refl, ap, sym, subst, ◌∙◌, arith, append_assoc, take-append-drop}
 use Rattle.std.specs.Prelude.{Some, is_some, Contains}
 use mathlib.Core.Logic.{◌⊎◌, inl, inr, ⊎_elim}
+use Rattle.std.proofs.lemmas.List.{append-nil, take_more}
 use Rattle.std.proofs.lemmas.List.Elements.{Contains-append_cases}
 use Rattle.std.proofs.Math.Seq.{take-length}
 use Rattle.ownership_model.specs.State.{State, nothing_held}
@@ -9,105 +10,80 @@ use Rattle.trace_types.specs.Operation.{Operation}
 use Rattle.run_engine.specs.SegmentView.{SegmentView}
 use Rattle.ownership_model.specs.Step.{end_from}
 use Rattle.run_engine.specs.Segments.{trace_of, mark_here, marks_from, AreReplayFrom, AreFull, BeginsMarked, IsRun, IsReached, all_marks, IsRestart}
-use Rattle.run_engine.proofs.SegmentLemmas.{AreReplayFrom-front, length-trace_of-next}
-use Rattle.run_engine.proofs.ListingLemmas.{around, take-shorter}
+use Rattle.run_engine.specs.Revision.{IsLastFrom}
+use Rattle.run_engine.proofs.SegmentLemmas.{AreReplayFrom-front, marks_from-append}
+use Rattle.run_engine.proofs.ListingLemmas.{take-shorter}
 use Rattle.run_engine.proofs.PieceLemmas.{AreFull-front, BeginsMarked-front}
-use Rattle.run_engine.proofs.PlaceLemmas.{Contains-one, mark_here-place, mark_here-some, marks_from-least, trace_of-front, place-within, mark-there, end-mark, first-mark-there, all-within}
+use Rattle.run_engine.proofs.PlaceLemmas.{Contains-one, mark_here-place, mark_here-some, marks_from-least, marks_from-most, trace_of-front, place-within, mark-there, end-mark, all-within}
 
--- a loop that looks for the restart: it stands at segment j, which begins at `here`
-pub record IsSought (segments : List SegmentView) (head j here i at : ℕ) (heap : State) : Type 0 where
-  pub stands : length (trace_of (take j segments)) ≡ here
-  pub within : i ≤ length segments
-  pub place : length (trace_of (take i segments)) ≡ at
-  pub early : at ≤ head
-  pub mark : Contains (all_marks segments) at
-  pub heap_is : 0 < j → heap ≡ end_from nothing_held (trace_of (take i segments))
-  pub later : (p : ℕ) → Contains (all_marks segments) p → p ≤ head → (p ≤ at) ⊎ Contains (marks_from here (drop j segments) ++ length (trace_of segments) ∷ []) p
+-- a loop that looks for the restart from behind: all checkpoints at or before the head are those of the first i segments
+abbrev pub AreFirst : List SegmentView → ℕ → ℕ → Type 0
+AreFirst segments head i = (p : ℕ) → Contains (all_marks segments) p → p ≤ head → Contains (marks_from 0 (take i segments)) p
 
-pub IsSought-none : (segments : List SegmentView) (head : ℕ) (heap : State) → BeginsMarked segments → IsSought segments head 0 0 0 0 heap
-IsSought-none segments head heap begins = record { stands = refl; within = omega arith; place = refl; early = omega arith; mark = first-mark-there segments begins; heap_is = λ none. absurd (omega arith); later = λ p h k. inr h }
-
--- behind the start there is a segment in front
-some-before : (segments : List SegmentView) (j here : ℕ) → length (trace_of (take j segments)) ≡ here → 0 < here → 0 < j
-some-before segments zero here stands lt = absurd (omega (arith, stands, lt))
-some-before segments (suc j) here stands lt = omega arith
-
--- a segment without a checkpoint isn't the first
-other-before : (segments : List SegmentView) (j : ℕ) (s : SegmentView) → BeginsMarked segments → j < length segments → s ≡ get_or segments j s → is_some s.mark ≡ false → 0 < j
-other-before [] j s begins lt is bare = absurd (omega arith)
-other-before (t ∷ segments) zero s begins lt is bare = let first : is_some t.mark ≡ false = ap (λ x. is_some x.mark) (sym is) ∙ bare in cc
-other-before (t ∷ segments) (suc j) s begins lt is bare = omega arith
-
--- at a segment that begins after the head, the search is over
-pub IsRestart-early : (segments : List SegmentView) (head j here i at : ℕ) (heap : State) → IsSought segments head j here i at heap → head < here → IsRestart segments head i at heap
-IsRestart-early segments head j here i at heap h past =
-    let fits : here ≤ length (trace_of segments) = place-within segments j here h.stands in
-    record {
-      within = h.within;
-      place = h.place;
-      greatest = record {
-        mark = h.mark;
-        early = h.early;
-        most = λ p mark le. ⊎_elim (λ k. k)
-            (λ k. ⊎_elim (λ m. let least : here ≤ p = marks_from-least here (drop j segments) p m in absurd (omega arith)) (λ m. let e : length (trace_of segments) ≡ p = Contains-one _ p m in absurd (omega arith))
-            (Contains-append_cases (marks_from here (drop j segments)) (length (trace_of segments) ∷ []) p k))
-            (h.later p mark le);
-      };
-      heap_is = h.heap_is (some-before segments j here h.stands (omega arith));
-    }
-
-later-passed : (segments : List SegmentView) (head j here i at at_next : ℕ) (heap : State) (s : SegmentView) → IsSought segments head j here i at heap → j < length segments → s ≡ get_or segments j s
-    → at ≤ at_next → (is_some s.mark ≡ true → here ≤ at_next)
-    → (p : ℕ) → Contains (all_marks segments) p → p ≤ head → (p ≤ at_next) ⊎ Contains (marks_from (here + length s.ops) (drop (j + 1) segments) ++ length (trace_of segments) ∷ []) p
-later-passed segments head j here i at at_next heap s h lt is grows marked p mark le =
+-- behind the last segment that begins at or before the head there are none
+pub AreFirst-last : (segments : List SegmentView) (head i at : ℕ) → IsLastFrom segments head i at → head < length (trace_of segments) → AreFirst segments head (i + 1)
+AreFirst-last segments head i at h more p mark le =
     let n : ℕ = length (trace_of segments) in
-    let rest : List ℕ = marks_from (here + length s.ops) (drop (j + 1) segments) ++ n ∷ [] in
-    let list : marks_from here (drop j segments) ++ n ∷ [] ≡ mark_here here s.mark ++ rest =
-    ap (λ ss. marks_from here ss ++ n ∷ []) (around segments j s lt is) ∙ append_assoc (mark_here here s.mark) (marks_from (here + length s.ops) (drop (j + 1) segments)) (n ∷ []) in
-    ⊎_elim (λ k. inl (omega arith))
+    let front : List SegmentView = take (i + 1) segments in
+    let rest : List SegmentView = drop (i + 1) segments in
+    let next : head < length (trace_of (take (i + 1) segments)) = (h.inside more).1 in
+    let list : all_marks segments ≡ marks_from 0 front ++ (marks_from (0 + length (trace_of front)) rest ++ n ∷ []) =
+    ap (λ ss. marks_from 0 ss ++ n ∷ []) (sym (take-append-drop (i + 1) segments)) ∙ ap (λ ps. ps ++ n ∷ []) (marks_from-append 0 front rest)
+    ∙ append_assoc (marks_from 0 front) (marks_from (0 + length (trace_of front)) rest) (n ∷ []) in
+    ⊎_elim (λ k. k)
     (λ k. ⊎_elim
-    (λ m. let e : p ≡ here = mark_here-place here p s.mark m in let b : here ≤ at_next = marked (mark_here-some here p s.mark m) in inl (omega arith))
-    (λ m. inr m)
-    (Contains-append_cases (mark_here here s.mark) rest p (subst (λ ps. Contains ps p) list k)))
-    (h.later p mark le)
+    (λ m. let least : 0 + length (trace_of (take (i + 1) segments)) ≤ p = marks_from-least (0 + length (trace_of front)) rest p m in absurd (omega arith))
+    (λ m. let e : length (trace_of segments) ≡ p = Contains-one _ p m in absurd (omega arith))
+    (Contains-append_cases (marks_from (0 + length (trace_of front)) rest) (n ∷ []) p k))
+    (Contains-append_cases (marks_from 0 front) (marks_from (0 + length (trace_of front)) rest ++ n ∷ []) p (subst (λ ps. Contains ps p) list mark))
+
+marks-up-to : (segments : List SegmentView) (j : ℕ) (s : SegmentView) → j < length segments → s ≡ get_or segments j s
+    → marks_from 0 (take (j + 1) segments) ≡ marks_from 0 (take j segments) ++ (mark_here (0 + length (trace_of (take j segments))) s.mark ++ [])
+marks-up-to segments j s lt is = ap (marks_from 0) (take_more segments j s lt ∙ ap (λ t. take j segments ++ t ∷ []) (sym is)) ∙ marks_from-append 0 (take j segments) (s ∷ [])
+
+-- a checkpoint of the first j + 1 segments is that of the last of them, or one before it
+mark-up-to : (segments : List SegmentView) (j p : ℕ) (s : SegmentView) → j < length segments → s ≡ get_or segments j s → Contains (marks_from 0 (take (j + 1) segments)) p
+    → Contains (marks_from 0 (take j segments)) p ⊎ Contains (mark_here (0 + length (trace_of (take j segments))) s.mark) p
+mark-up-to segments j p s lt is h =
+    ⊎_elim (λ k. inl k) (λ k. inr (subst (λ ps. Contains ps p) (append-nil (mark_here (0 + length (trace_of (take j segments))) s.mark)) k))
+    (Contains-append_cases (marks_from 0 (take j segments)) (mark_here (0 + length (trace_of (take j segments))) s.mark ++ []) p (subst (λ ps. Contains ps p) (marks-up-to segments j s lt is) h))
 
 -- a segment without a checkpoint
-pub IsSought-bare : (segments : List SegmentView) (head j here i at : ℕ) (heap : State) (s : SegmentView) → BeginsMarked segments → IsSought segments head j here i at heap → j < length segments → s ≡ get_or segments j s → is_some s.mark ≡ false
-    → IsSought segments head (j + 1) (here + length s.ops) i at heap
-IsSought-bare segments head j here i at heap s begins h lt is bare = record {
-  stands = length-trace_of-next segments j s lt is ∙ ap (λ m. m + length s.ops) h.stands;
-  within = h.within;
-  place = h.place;
-  early = h.early;
-  mark = h.mark;
-  heap_is = λ more. h.heap_is (other-before segments j s begins lt is bare);
-  later = later-passed segments head j here i at at heap s h lt is (omega arith) (λ t. cc);
-}
+pub AreFirst-bare : (segments : List SegmentView) (head i j : ℕ) (s : SegmentView) → AreFirst segments head i → j + 1 ≡ i → j < length segments → s ≡ get_or segments j s → is_some s.mark ≡ false → AreFirst segments head j
+AreFirst-bare segments head i j s h next lt is bare p mark le =
+    ⊎_elim (λ k. k) (λ k. let t : is_some s.mark ≡ true = mark_here-some (0 + length (trace_of (take j segments))) p s.mark k in cc)
+    (mark-up-to segments j p s lt is (subst (λ n. Contains (marks_from 0 (take n segments)) p) (sym next) (h p mark le)))
 
--- a segment with a checkpoint at or before the head
-pub IsSought-marked : (segments : List SegmentView) (head j here i at : ℕ) (heap next m : State) (s : SegmentView) → IsSought segments head j here i at heap → j < length segments → s ≡ get_or segments j s → s.mark ≡ Some m
-    → at ≤ here → here ≤ head → next ≡ end_from nothing_held (trace_of (take j segments))
-    → IsSought segments head (j + 1) (here + length s.ops) j here next
-IsSought-marked segments head j here i at heap next m s h lt is marked grows le same = record {
-  stands = length-trace_of-next segments j s lt is ∙ ap (λ m. m + length s.ops) h.stands;
-  within = omega arith;
-  place = h.stands;
-  early = le;
-  mark = mark-there segments j here s m lt is marked h.stands;
-  heap_is = λ more. same;
-  later = later-passed segments head j here i at here heap s h lt is grows (λ t. omega arith);
-}
-
--- the whole trace is the head
-pub IsRestart-end : (segments : List SegmentView) (end : State) (head here i at : ℕ) (heap : State) → IsRun segments end → IsSought segments head (length segments) here i at heap → here ≤ head
-    → IsRestart segments head (length segments) here end
-IsRestart-end segments end head here i at heap run h le =
-    let whole : take (length segments) segments ≡ segments = take-length segments in
-    let all : here ≡ length (trace_of segments) = sym h.stands ∙ ap (λ ss. length (trace_of ss)) whole in
+-- the last checkpoint among those
+pub IsRestart-there : (segments : List SegmentView) (head i j at last from : ℕ) (heap m : State) (s : SegmentView) → AreReplayFrom nothing_held segments → AreFirst segments head i → j + 1 ≡ i → j < length segments → s ≡ get_or segments j s → s.mark ≡ Some m
+    → length (trace_of (take j segments)) ≡ at → IsLastFrom segments head last from → j ≤ last → heap ≡ end_from nothing_held (trace_of (take j segments)) → IsRestart segments head j at heap
+IsRestart-there segments head i j at last from heap m s replay h next lt is marked place bound le same =
+    let cut : take j (take last segments) ≡ take j segments = take-shorter j last segments le in
+    let before : at ≤ length (trace_of (take last segments)) = place-within (take last segments) j at (ap (λ ss. length (trace_of ss)) cut ∙ place) in
+    let early = bound.before in
+    let stands = bound.place in
     record {
       within = omega arith;
-      place = h.stands;
-      greatest = record { mark = subst (Contains (all_marks segments)) (sym all) (end-mark segments); early = le; most = λ p mark k. all-within segments p here mark (omega arith) };
+      place = place;
+      greatest = record {
+        mark = mark-there segments j at s m lt is marked place;
+        early = omega arith;
+        most = λ p mark few. ⊎_elim
+            (λ k. let most : p ≤ 0 + length (trace_of (take j segments)) = marks_from-most 0 (take j segments) p k in omega arith)
+            (λ k. let e : p ≡ 0 + length (trace_of (take j segments)) = mark_here-place (0 + length (trace_of (take j segments))) p s.mark k in omega arith)
+            (mark-up-to segments j p s lt is (subst (λ n. Contains (marks_from 0 (take n segments)) p) (sym next) (h p mark few)));
+      };
+      heap_is = same;
+    }
+
+-- the whole trace is the head
+pub IsRestart-end : (segments : List SegmentView) (end : State) (head n : ℕ) → IsRun segments end → length (trace_of segments) ≡ n → n ≤ head → IsRestart segments head (length segments) n end
+IsRestart-end segments end head n run all le =
+    let whole : take (length segments) segments ≡ segments = take-length segments in
+    record {
+      within = omega arith;
+      place = ap (λ ss. length (trace_of ss)) whole ∙ all;
+      greatest = record { mark = subst (Contains (all_marks segments)) all (end-mark segments); early = le; most = λ p mark k. all-within segments p n mark (omega arith) };
       heap_is = run.state ∙ ap (λ ss. end_from nothing_held (trace_of ss)) (sym whole);
     }
 

@@ -114,3 +114,13 @@ last-from segments starts position i d is h =
       before = omega arith;
       inside = λ more. (lt, subst (λ n. position < n) (long (i + 1)) (h.inside (omega (arith, ap length (joined-ops segments)))));
     }
+
+pub starts-as-many : (segments : List SegmentView) (starts : List ℕ) → starts ≡ starts_from 0 (map ops_of segments) → length starts ≡ length segments
+starts-as-many segments starts is = ap length is ∙ starts-long 0 (map ops_of segments) ∙ length-map segments ops_of
+
+-- where a segment begins
+pub segment-start : (segments : List SegmentView) (starts : List ℕ) (i d : ℕ) → starts ≡ starts_from 0 (map ops_of segments) → i < length segments → length (trace_of (take i segments)) ≡ get_or starts i d
+segment-start segments starts i d is lt =
+    let here : get_or starts i d ≡ 0 + length (joined (take i (map ops_of segments))) = ap (λ ss. get_or ss i d) is ∙ start-is 0 (map ops_of segments) i d (omega (arith, length-map segments ops_of)) in
+    let long : length (joined (take i (map ops_of segments))) ≡ length (trace_of (take i segments)) = ap (λ ps. length (joined ps)) (take-map ops_of i segments) ∙ ap length (joined-ops (take i segments)) in
+    omega arith

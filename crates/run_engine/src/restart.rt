@@ -1,7 +1,8 @@
 //! Where the replay of an edited trace begins again.
-ghost use Rattle.std.specs.Prelude.{◌≡◌, ◌^◌, ◌<◌, ◌≤◌, IfOk, length, take};
+ghost use Rattle.std.specs.Prelude.{◌≡◌, ◌≤◌, IfOk, length, take};
 ghost use Rattle.trace_types.specs.Trace.{IsTrace};
 ghost use Rattle.run_engine.specs.Segments.{trace_of, all_marks, IsRun, IsRestart};
+ghost use Rattle.run_engine.specs.Revision.{IsRevision};
 ghost use Rattle.run_engine.specs.Bounds.{StepsAtMostFrom};
 ghost use Rattle.run_engine.specs.NewMarks.{AreMarksAfter};
 ghost use Rattle.run_engine.specs.Steps.{AreSteppedFrom};
@@ -25,52 +26,51 @@ struct Restart<'a> {
     heap: &'a Checkpoint,
 }
 
-// The greatest kept checkpoint at or before the head.
-fn greatest_mark<'a>(segments: &'a [Segment], end: &'a Checkpoint, head: usize) -> Restart<'a>
-    requires run { IsRun segments.now end.now }
-    requires few { length (trace_of segments.now) < 2 ^ 32 }
-    ensures { IsRestart segments.now head result.index result.at result.heap.now }
+// The greatest kept checkpoint at or before the head. `end` is that of the old run's end.
+fn greatest_mark<'a>(revision: &Revision<'a>, end: &'a Checkpoint, head: usize) -> Restart<'a>
+    requires revision { IsRevision revision.now }
+    requires end { end.now ≡ revision.now.end.now }
+    ensures { IsRestart revision.now.segments.now head result.index result.at result.heap.now }
 {
-    // without a segment this is the restart, and else the first one has a checkpoint
-    let mut best = Restart {
-        index: 0,
-        at: 0,
-        heap: end,
-    };
-    let mut here = 0;
-    for (i, segment) in segments.iter().enumerate() {
-        if here > head {
-            return best;
-        }
+    let old = revision.segments;
+    let len = revision.ops.base_len();
+    if len <= head {
+        return Restart {
+            index: old.len(),
+            at: len,
+            heap: end,
+        };
+    }
+    let (last, _) = revision.last_from(head);
+    let mut i = last + 1;
+    while i > 0 {
+        i -= 1;
+        let segment = &old[i];
         if let Some(mark) = segment.mark() {
-            best = Restart {
+            return Restart {
                 index: i,
-                at: here,
+                at: revision.starts[i],
                 heap: mark,
             };
         }
-        here += segment.ops().len();
     }
-    if here > head {
-        return best;
-    }
+    // the first segment has a checkpoint, so that none comes here
     Restart {
-        index: segments.len(),
-        at: here,
+        index: 0,
+        at: 0,
         heap: end,
     }
 }
 
 // The front of the replay of an edited trace.
-fn front(alloc: Global, segments: &[Segment], end: &Heap, head: usize) -> Result<Piece, AllocError>
-    requires run { IsRun segments.now end.now }
-    requires few { length (trace_of segments.now) < 2 ^ 32 }
-    ensures kept { IfOk result (λ f. IsRestart segments.now head (length f.segments.items) f.len f.end) }
-    ensures segments { IfOk result (λ f. f.segments.items ≡ take (length f.segments.items) segments.now) }
+fn front(alloc: Global, revision: &Revision, head: usize) -> Result<Piece, AllocError>
+    requires { IsRevision revision.now }
+    ensures kept { IfOk result (λ f. IsRestart revision.now.segments.now head (length f.segments.items) f.len f.end) }
+    ensures segments { IfOk result (λ f. f.segments.items ≡ take (length f.segments.items) revision.now.segments.now) }
 {
-    let last = Checkpoint::of(end.share()?);
-    let best = greatest_mark(segments, &last, head);
-    let kept = share_segments(alloc, &segments[..best.index])?;
+    let end = Checkpoint::of(revision.end.share()?);
+    let best = greatest_mark(revision, &end, head);
+    let kept = share_segments(alloc, &revision.segments[..best.index])?;
     Ok(Piece {
         segments: kept,
         end: best.heap.heap(alloc)?,
@@ -99,9 +99,9 @@ pub fn resumed(
 {
     let first = head(ops);
     let last = tail(ops, first);
-    let front = front(alloc, segments, end, first)?;
-    let (a, b) = (ops.base_len() - last, ops.len() - last);
     let revision = Revision::of(alloc, segments, end, ops)?;
+    let front = front(alloc, &revision, first)?;
+    let (a, b) = (ops.base_len() - last, ops.len() - last);
     let (segments, end) = converge(alloc, &revision, front, a, b, meter)?;
     Ok((segments, end))
 }

@@ -12,7 +12,7 @@ pub converge-requires-clause-front : goal.converge-requires-clause-front
 converge-requires-clause-front c =
     rw c.in_ok-revision.ensures.ops
     (IsReached-restart c.args.segments.now c.in_ok-front.front.segments.items c.args.end.now c.in_ok-front.front.end c.args.ops.now.ops c.head-first.result _ c.in_ok-front.front.len
-    c.requires.run c.in_ok-front.ensures.kept c.in_ok-front.ensures.segments (subst (λ t. take c.head-first.result t ≡ take c.head-first.result c.args.ops.now.ops) c.requires.base c.head-first.ensures.same) c.head-first.ensures.within)
+    c.requires.run (rw c.in_ok-revision.ensures.segments at c.in_ok-front.ensures.kept) (rw c.in_ok-revision.ensures.segments at c.in_ok-front.ensures.segments) (subst (λ t. take c.head-first.result t ≡ take c.head-first.result c.args.ops.now.ops) c.requires.base c.head-first.ensures.same) c.head-first.ensures.within)
 
 pub converge-requires-clause-shared : goal.converge-requires-clause-shared
 converge-requires-clause-shared c =
@@ -26,7 +26,7 @@ returns-in_err-segments-clause-bound c =
     from-greatest (λ t r. StepsAtMost c.args.ops.now.base c.args.ops.now.ops (length c.args.ops.now.base - t) (length c.args.ops.now.ops - t) (all_marks c.args.segments.now) r c.args.meter.now c.converge.new.meter)
     c.args.ops.now.base c.args.ops.now.ops (all_marks c.args.segments.now) c.head-first.result c.tail-last.result c.in_ok-front.front.len
     (record { head_is = c.head-first.ensures; tail_is = c.tail-last.ensures })
-    c.in_ok-front.ensures.kept.greatest
+    (rw c.in_ok-revision.ensures.segments at c.in_ok-front.ensures.kept).greatest
     (subst (λ t. StepsAtMost t c.args.ops.now.ops (length t - c.tail-last.result) (length c.args.ops.now.ops - c.tail-last.result) (all_marks c.args.segments.now) c.in_ok-front.front.len c.args.meter.now c.converge.new.meter) (sym c.requires.base)
     (rw (c.in_ok-revision.ensures.segments, c.in_ok-revision.ensures.ops, c.base_len.ensures, c.len.ensures, c.requires.base) at c.converge.ensures.bound))
 
@@ -35,7 +35,7 @@ returns-clause-bound c =
     from-greatest (λ t r. StepsAtMost c.args.ops.now.base c.args.ops.now.ops (length c.args.ops.now.base - t) (length c.args.ops.now.ops - t) (all_marks c.args.segments.now) r c.args.meter.now c.converge.new.meter)
     c.args.ops.now.base c.args.ops.now.ops (all_marks c.args.segments.now) c.head-first.result c.tail-last.result c.in_ok-front.front.len
     (record { head_is = c.head-first.ensures; tail_is = c.tail-last.ensures })
-    c.in_ok-front.ensures.kept.greatest
+    (rw c.in_ok-revision.ensures.segments at c.in_ok-front.ensures.kept).greatest
     (subst (λ t. StepsAtMost t c.args.ops.now.ops (length t - c.tail-last.result) (length c.args.ops.now.ops - c.tail-last.result) (all_marks c.args.segments.now) c.in_ok-front.front.len c.args.meter.now c.converge.new.meter) (sym c.requires.base)
     (rw (c.in_ok-revision.ensures.segments, c.in_ok-revision.ensures.ops, c.base_len.ensures, c.len.ensures, c.requires.base) at c.converge.ensures.bound))
 
@@ -44,7 +44,7 @@ returns-clause-stepped c =
     from-greatest (λ t r. AreStepped c.args.ops.now.base c.args.ops.now.ops (length c.args.ops.now.base - t) (length c.args.ops.now.ops - t) (all_marks c.args.segments.now) r c.args.meter.now c.converge.new.meter)
     c.args.ops.now.base c.args.ops.now.ops (all_marks c.args.segments.now) c.head-first.result c.tail-last.result c.in_ok-front.front.len
     (record { head_is = c.head-first.ensures; tail_is = c.tail-last.ensures })
-    c.in_ok-front.ensures.kept.greatest
+    (rw c.in_ok-revision.ensures.segments at c.in_ok-front.ensures.kept).greatest
     (subst (λ t. AreStepped t c.args.ops.now.ops (length t - c.tail-last.result) (length c.args.ops.now.ops - c.tail-last.result) (all_marks c.args.segments.now) c.in_ok-front.front.len c.args.meter.now c.converge.new.meter) (sym c.requires.base)
     (rw (c.in_ok-revision.ensures.segments, c.in_ok-revision.ensures.ops, c.base_len.ensures, c.len.ensures, c.requires.base) at c.in_ok-segments.ensures.stepped))
 
@@ -52,6 +52,6 @@ pub returns-clause-marks : goal.returns-clause-marks
 returns-clause-marks c =
     rw c.requires.base
     (AreMarksAfter-restart c.args.segments.now c.in_ok-front.front.segments.items c.args.end.now c.in_ok-front.front.end c.args.ops.now.ops (all_marks c.in_ok-segments.segments.items) c.head-first.result c.tail-last.result _ c.in_ok-front.front.len
-    c.requires.run c.in_ok-front.ensures.kept c.in_ok-front.ensures.segments
+    c.requires.run (rw c.in_ok-revision.ensures.segments at c.in_ok-front.ensures.kept) (rw c.in_ok-revision.ensures.segments at c.in_ok-front.ensures.segments)
     (subst (λ t. AreShared t c.args.ops.now.ops c.head-first.result c.tail-last.result) c.requires.base (record { head_is = c.head-first.ensures; tail_is = c.tail-last.ensures }))
     (rw (c.in_ok-revision.ensures.segments, c.in_ok-revision.ensures.ops, c.base_len.ensures, c.len.ensures, c.requires.base) at c.in_ok-segments.ensures.marks))
