@@ -111,8 +111,8 @@ impl Heap {
 
     /// Whether it is known without a search that handles and cells lead to the object, by strong or weak slots. Takes no memory.
     ///
-    /// It is known where the object stands, and no field has ever named its own object or a later one, of those from this one on: as
-    /// where objects are made one after another, each with the one before it in a field. Where it isn't known the answer is false.
+    /// It is known of an object that stands, where neither it nor what was made after it was ever named by a field of its own or of
+    /// something made before: as where each object is made with the one before it in a field. Where it isn't known the answer is false.
     pub fn is_surely_reached(&self, object: u32) -> bool
         ensures { result ≡ true → is_reached StrongOrWeak self.now object ≡ true }
     {
