@@ -12,7 +12,7 @@ pub record AgreeAt (new old : State) (o : ℕ) : Type 0 where
   pub strong : strong new [] o ≡ strong old [] o
   pub weak : weak new [] o ≡ weak old [] o
 
--- so is each member
+-- so is each object of the set
 abbrev pub AgreeOn : (ℕ → Bool) → State → State → Type 0
 AgreeOn k new old = (o : ℕ) → k o ≡ true → AgreeAt new old o
 

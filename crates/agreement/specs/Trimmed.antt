@@ -29,7 +29,7 @@ pub record IsTrimmed (x z : Remains) : Type 0 where
   pub less : AreLess (is_left_out x z) x z
   pub all : (q : ℕ) → IsSameAt x q → get z.removed q ≡ None
 
--- what remains keep of all, and of what differs
+-- what is true of all remains and of those that differ, which are kept beside each other
 pub record IsKept (all differing : Remains) : Type 0 where
   pub within : AreWithinLimits all.added
   pub trimmed : IsTrimmed all differing

@@ -1,4 +1,4 @@
-//! A path to an object that can be reached and at which two heaps differ.
+//! A trail to an object that can be reached and at which two heaps differ.
 use crate::agree::agree_at;
 use crate::trail::{Path, Root, Trail};
 use object_heap::heap::Heap;
@@ -21,8 +21,12 @@ struct Search {
     todo: Vec<u32>,
 }
 
-/// A path to a difference, if one is found: any will do.
-pub fn differing_path(alloc: Global, new: &Heap, old: &Heap) -> Result<Option<Trail>, AllocError> {
+/// A trail to an object that differs, if one is found: any will do. Where the object is surely reached its number is enough.
+pub fn differing_object(
+    alloc: Global,
+    new: &Heap,
+    old: &Heap,
+) -> Result<Option<Trail>, AllocError> {
     let mut search = from_roots(alloc, new)?;
     // each object is taken at most once
     for _ in 0..MAX_ID + 1 {
@@ -30,6 +34,9 @@ pub fn differing_path(alloc: Global, new: &Heap, old: &Heap) -> Result<Option<Tr
             return Ok(None);
         };
         if !agree_at(new, old, object) {
+            if new.is_surely_reached(object) {
+                return Ok(Some(Trail::Object(object)));
+            }
             return path_to(alloc, &search.from, object);
         }
         if let Some(Entry::Alive(fields)) = new.object(object) {

@@ -4,7 +4,7 @@ ghost use Rattle.agreement.specs.Agreement.{Agree};
 ghost use Rattle.agreement.specs.Meeting.{Meets};
 
 use crate::agree::agree;
-use crate::differing::differing_path;
+use crate::differing::differing_object;
 use crate::remains::Remains;
 use crate::trail::{Trail, refutes};
 use object_heap::heap::Heap;
@@ -22,7 +22,8 @@ pub enum Meeting {
 }
 
 /// Compares a new heap with an old one. Where the trail still leads to a difference nothing else is looked at. Heaps that are the
-/// same are told as such. Where they don't agree the trail is replaced by one to a difference, if there is any.
+/// same are told as such. Else the trail is replaced by one to a difference, if any is found: then they don't agree. Only where none
+/// is found all that can be reached is compared.
 pub fn meet(
     alloc: Global,
     new: &Heap,
@@ -37,11 +38,14 @@ pub fn meet(
     if new.same(old) {
         return Ok(Meeting::Same);
     }
-    if let Some(remains) = agree(alloc, new, old)? {
-        return Ok(Meeting::Alike(remains));
-    }
     *seen = trail_between(alloc, new, old)?;
-    Ok(Meeting::Apart)
+    if is_refuted(seen, new, old) {
+        return Ok(Meeting::Apart);
+    }
+    match agree(alloc, new, old)? {
+        Some(remains) => Ok(Meeting::Alike(remains)),
+        None => Ok(Meeting::Apart),
+    }
 }
 
 fn is_refuted(seen: &Option<Trail>, new: &Heap, old: &Heap) -> bool
@@ -56,7 +60,7 @@ fn is_refuted(seen: &Option<Trail>, new: &Heap, old: &Heap) -> bool
 // A trail to a difference, if one is found: any will do.
 fn trail_between(alloc: Global, new: &Heap, old: &Heap) -> Result<Option<Trail>, AllocError> {
     if new.same_roots(old) {
-        return differing_path(alloc, new, old);
+        return differing_object(alloc, new, old);
     }
     if let Some(trail) = differing_root(alloc, new, new, old)? {
         return Ok(Some(trail));

@@ -19,6 +19,8 @@ pub enum Trail {
     Last(u32),
     /// The handle made before this one, of those in its scope.
     Earlier(u32),
+    /// An object that is surely reached.
+    Object(u32),
     Path(Path),
 }
 
@@ -50,6 +52,7 @@ pub fn refutes(trail: &Trail, new: &Heap, old: &Heap) -> bool
         Trail::Cell(cell) => !same_cell(new, old, *cell),
         Trail::Last(label) => !same_last(new, old, *label),
         Trail::Earlier(handle) => !same_earlier(new, old, *handle),
+        Trail::Object(object) => is_reached_difference(*object, new, old),
         Trail::Path(path) => leads_to_difference(path, new, old),
     }
 }
@@ -80,6 +83,13 @@ fn same_earlier(new: &Heap, old: &Heap, handle: u32) -> bool
     ensures { new.now.scopes ≡ old.now.scopes → IsTrue result }
 {
     new.earlier(handle) == old.earlier(handle)
+}
+
+// Whether the object is surely reached in the new heap, and is not the same in the old one.
+fn is_reached_difference(object: u32, new: &Heap, old: &Heap) -> bool
+    ensures { IsTrue result → ¬ (Agree new.now old.now) }
+{
+    new.is_surely_reached(object) && !agree_at(new, old, object)
 }
 
 // Whether the path stands in the new heap, and its last object is not the same in the old one.

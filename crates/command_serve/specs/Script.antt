@@ -12,6 +12,7 @@ use Rattle.command_serve.specs.declared.due.Due.{Due}
 use Rattle.command_serve.specs.Serve.{fault_due}
 use Rattle.command_serve.specs.Replay.{report_of_replay}
 
+-- what a line asks of the desk: its edits and the version that they are for, without the session
 abbrev pub request_of : RequestLine → Request
 request_of line = record { base = line.base; batch = line.batch }
 
@@ -25,6 +26,7 @@ abbrev pub standing_from : Standing → List RequestLine → Standing
 standing_from s [] = s
 standing_from s (line ∷ lines) = standing_from (after s line.session (request_of line)) lines
 
+-- a line for each reply, in order: `accepted 1`
 abbrev pub replies_text : List Reply → List ℕ
 replies_text replies = flat_map (λ reply. reply_text reply ++ 10 ∷ []) replies
 
@@ -32,6 +34,7 @@ replies_text replies = flat_map (λ reply. reply_text reply ++ 10 ∷ []) replie
 abbrev pub script_text : Script → List ℕ
 script_text script = replies_text (replies_from (opened script.trace) script.requests) ++ report_of_replay (standing_from (opened script.trace) script.requests).trace
 
+-- the text for the script that was read, or the line of the first fault
 abbrev pub script_answer : Result Script LineFault → Due
 script_answer (Ok script) = record { text = script_text script; is_fault = false }
 script_answer (Err fault) = fault_due fault

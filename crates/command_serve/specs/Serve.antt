@@ -9,6 +9,7 @@ use Rattle.command_serve.specs.declared.due.Due.{Due}
 use Rattle.command_serve.specs.declared.exits.Exit.{Exit}
 use Rattle.command_serve.specs.declared.exits.Exit.TheVariants.{Fine, Trace, Usage, Device, Memory}
 
+-- whether an input has more than `MAX_INPUT` bytes
 abbrev pub is_too_long : List ℕ → Bool
 is_too_long input = nat_lt MAX_INPUT (length input)
 
@@ -16,6 +17,7 @@ is_too_long input = nat_lt MAX_INPUT (length input)
 abbrev pub exit_of : Due → Exit
 exit_of due = if due.is_fault then Trace else Fine
 
+-- what is due for an input that is too long: the one line that says so
 abbrev pub too_long : Due
 too_long = record { text = codes "fault input TooLong\n"; is_fault = true }
 

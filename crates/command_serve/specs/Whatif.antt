@@ -25,6 +25,7 @@ abbrev pub edited_due : Result (List Operation) Refusal → Due
 edited_due (Ok ops) = record { text = lines_text ops ++ codes "--\n" ++ report_of_replay ops; is_fault = false }
 edited_due (Err why) = record { text = reply_text (Refused why) ++ 10 ∷ []; is_fault = true }
 
+-- what is due for the edits that were read, or the line of the first fault
 abbrev pub whatif_answer : Result Script LineFault → Due
 whatif_answer (Ok script) = edited_due (edited_by script.trace (only_batch script.requests))
 whatif_answer (Err fault) = fault_due fault

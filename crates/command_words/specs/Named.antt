@@ -53,6 +53,7 @@ HasWorkers Script = Unit {0}
 HasWorkers Whatif = Unit {0}
 HasWorkers (Race n) = (1 ≤ n) × (n ≤ MAX_WORKERS)
 
+-- the subcommand that clap found, if it found one, names no command
 abbrev pub NamesNone : Option (Text × List Row) → Type 0
 NamesNone found = (command : Command) → Names found command → ⊥
 
@@ -60,7 +61,7 @@ NamesNone found = (command : Command) → Names found command → ⊥
 unfoldable pub are_taken : List Text → Bool
 are_taken words = takes scope_app words
 
--- words are refused only where clap doesn't take them, or where they name no command
+-- words are refused only where clap doesn't take them, or where they name no command; of want of memory nothing is said
 abbrev pub IsRefused : List Text → WordsFault → Type 0
 IsRefused words (Usage error) = are_taken words ≡ true → NamesNone (subcommand_of scope_app words)
 IsRefused words Memory = Unit {0}

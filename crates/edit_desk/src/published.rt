@@ -20,7 +20,7 @@ use std::sync::Arc;
 use trace_reader::write_trace;
 use trace_types::edits::Batch;
 
-/// A version of the trace, with its run, which shares of it share.
+/// A version of the trace, with its run. A share of it has the same run, which is not copied.
 #[derive(Drop)]
 pub struct Published {
     version: u32,

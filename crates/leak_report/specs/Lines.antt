@@ -12,10 +12,11 @@ pub record Line : Type 0 where
   pub name : OpName
   pub outcome : Outcome
 
+-- the outcome of an operation, under the operation's name
 abbrev pub line_of : Operation → Outcome → Line
 line_of op outcome = record { name = name_of_kind op.kind; outcome = outcome }
 
--- in the order of the trace
+-- the lines of all operations, in the order of the trace
 abbrev pub lines_of : List Operation → List Outcome → List Line
 lines_of [] outcomes = []
 lines_of (op ∷ ops) [] = []
@@ -26,5 +27,6 @@ abbrev pub is_skipped : Verdict → Bool
 is_skipped (Did answer) = false
 is_skipped (Skipped reason) = true
 
+-- whether the operation of this line was skipped: the total counts such lines
 abbrev pub is_skipped_line : Line → Bool
 is_skipped_line l = is_skipped l.outcome.verdict

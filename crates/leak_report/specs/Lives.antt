@@ -43,9 +43,11 @@ numbered id es = map (λ e. (id, e)) es
 abbrev pub events_of : List Outcome → List (ℕ × Event)
 events_of outs = flat_map (λ out. numbered out.id out.events) outs
 
+-- how the value of o ended, by the first of these events that ends it; None where none does
 abbrev pub first_ending : ℕ → List (ℕ × Event) → Option Ending
 first_ending o es = first_some (ending_at o) es
 
+-- the first operation whose event gives up the allocation of o; None where none does
 abbrev pub first_freed : ℕ → List (ℕ × Event) → Option ℕ
 first_freed o es = first_some (freed_at o) es
 

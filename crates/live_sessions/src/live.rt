@@ -83,7 +83,7 @@ pub fn writer_of<J: Naming, R: Wait + Drop>(
     Ok(writer)
 }
 
-/// Lets sessions in to what was started. `J` is picked at the call, as the book and the opening of what was started.
+/// Lets sessions in to what was started. `J` is picked at the call: it names the book and the opening of what was started.
 ///
 /// The number of workers has no effect yet.
 pub fn open<J: Naming, R: Wait + Drop>(

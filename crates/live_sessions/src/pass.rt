@@ -15,7 +15,8 @@ use edit_desk::published::Published;
 use left_right::ReadHandle;
 use std::marker::Model;
 
-/// A place of a `Live`. Contracts see its session, its front and its number of answered submits.
+/// A session's place of a `Live`, by which it submits and reads. Contracts see the session, its front and its number of answered
+/// submits.
 #[derive(Drop)]
 pub struct Pass<J: Naming> {
     session: u32,

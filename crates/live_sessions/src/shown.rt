@@ -56,7 +56,7 @@ impl<J: Naming> Shown<J> {
         &self.front
     }
 
-    /// A copy of the run.
+    /// The same version again. Copies nothing of the run.
     pub fn share(&self) -> Result<Published, AllocError>
         ensures run { IfOk result (λ p. IsAfter J.opening p self.now.entries) }
         ensures legal { IsFront J.opening self.now.entries }

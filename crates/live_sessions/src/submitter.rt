@@ -29,7 +29,7 @@ impl<J: Naming> Model for Submitter<J> {
     ghost view = { λ r. record { pass = r.pass; requests = r.requests } };
 }
 
-// Whether a session goes on.
+// How a submit ended: with a stored entry, after which the session goes on, at a full history, or without an answer.
 enum End {
     Stored,
     Full,

@@ -1,4 +1,5 @@
 pub mod NothingLemmas
+pub mod DescentLemmas
 pub mod ChangeWeights
 pub mod GainLemmas
 pub mod PendingLemmas

@@ -8,10 +8,11 @@ use Rattle.ownership_model.specs.Bounds.{IsBounded}
 use Rattle.object_heap.specs.declared.counters.Counters.{Counters}
 use Rattle.object_heap.specs.declared.draft.Draft.{Draft}
 
--- zeros, where nothing is kept
+-- the counters of an object; zeros, where none are kept
 abbrev pub counters_at : Option Counters → Counters
 counters_at kept = unwrap_or kept (record { strong = 0; weak = 0; ends = 0 })
 
+-- the state that a draft holds: all of it but the counters
 abbrev pub state_of : Draft → State
 state_of d = record { handles = d.handles; cells = d.cells; objects = d.objects; scopes = d.scopes }
 

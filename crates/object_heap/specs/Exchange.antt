@@ -14,9 +14,11 @@ use Rattle.object_heap.specs.Counted.{state_of, IsCounted}
 abbrev pub AreWithinLimits : FinMap nat_cmp Remaining → Type 0
 AreWithinLimits xs = (q : ℕ) → ObjectFits q (entry_of (get xs q))
 
+-- an object goes: nothing stands at the number q any more
 abbrev pub without_object : State → ℕ → State
 without_object m q = record m { objects = remove m.objects q }
 
+-- an object comes: this stands at the number q, whatever stood there
 abbrev pub with_object : State → ℕ → Entry → State
 with_object m q e = record m { objects = insert m.objects q e }
 

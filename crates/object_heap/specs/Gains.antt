@@ -1,4 +1,5 @@
--- Slots that are counted more, or no more (for private functions alone). `w` is what a slot weighs; `g w` is what all slots in question weigh.
+-- Slots that are counted besides others, or no more (for private functions alone). `w` is what a slot weighs; `g w` is what
+-- all the slots in question weigh.
 use Rattle.std.specs.Prelude.{ℕ, ◌+◌, ◌^◌, ◌<◌, ◌≤◌, ◌≡◌, ◌==◌, [], ◌∷◌, if◌then◌else◌}
 use Rattle.std.specs.Ordering.{nat_cmp}
 use Rattle.std.specs.FinMap.{FinMap, get}

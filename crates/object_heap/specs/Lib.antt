@@ -4,3 +4,5 @@ pub mod Gains
 pub mod Drops
 pub mod Links
 pub mod Exchange
+pub mod Descent
+pub mod NamesCounted

@@ -17,6 +17,7 @@ abbrev pub earlier_in : ℕ → List Scoped → Option ℕ
 earlier_in h [] = None
 earlier_in h (s ∷ ss) = if s.handle == h then first_of (scope_of s.label ss) else earlier_in h ss
 
+-- the handle made just before the one that has this place, of those still in the scope
 abbrev pub earlier_at : Option Place → Option ℕ
 earlier_at None = None
 earlier_at (Some p) = p.earlier
@@ -36,6 +37,7 @@ abbrev pub scopes_in : FinMap nat_cmp Place → List (ℕ × ℕ) → List Scope
 scopes_in places [] = []
 scopes_in places (e ∷ es) = with_label e.0 (walked (len places) places (Some e.1)) ++ scopes_in places es
 
+-- all scopes that the two trees hold: by label, and of one label the handle made last first
 abbrev pub scopes_at : FinMap nat_cmp Place → FinMap nat_cmp ℕ → List Scoped
 scopes_at places last = scopes_in places (entries last)
 
@@ -52,31 +54,36 @@ pub record AreLinked (places : FinMap nat_cmp Place) (last : FinMap nat_cmp ℕ)
   pub once : (h : ℕ) → times_in h ss ≤ 1
   pub in_order : AreFrom 0 ss
 
--- For private functions alone: a handle that has a place has another neighbour there
+-- For private functions alone: another handle, or none, is now the one made just after h, where h has this place
 abbrev pub set_later_at : FinMap nat_cmp Place → ℕ → Option Place → Option ℕ → FinMap nat_cmp Place
 set_later_at places h None later = places
 set_later_at places h (Some p) later = insert places h (record { label = p.label; earlier = p.earlier; later = later })
 
+-- the same, by the place that h has in the tree
 abbrev pub with_later : FinMap nat_cmp Place → ℕ → Option ℕ → FinMap nat_cmp Place
 with_later places h later = set_later_at places h (get places h) later
 
+-- another handle, or none, is now the one made just before h, where h has this place
 abbrev pub set_earlier_at : FinMap nat_cmp Place → ℕ → Option Place → Option ℕ → FinMap nat_cmp Place
 set_earlier_at places h None earlier = places
 set_earlier_at places h (Some p) earlier = insert places h (record { label = p.label; earlier = earlier; later = p.later })
 
+-- the same, by the place that h has in the tree
 abbrev pub with_earlier : FinMap nat_cmp Place → ℕ → Option ℕ → FinMap nat_cmp Place
 with_earlier places h earlier = set_earlier_at places h (get places h) earlier
 
--- the same, where there is a handle
+-- with_later of a handle, if there is one
 abbrev pub relinked_later : FinMap nat_cmp Place → Option ℕ → Option ℕ → FinMap nat_cmp Place
 relinked_later places None later = places
 relinked_later places (Some h) later = with_later places h later
 
+-- with_earlier of a handle, if there is one
 abbrev pub relinked_earlier : FinMap nat_cmp Place → Option ℕ → Option ℕ → FinMap nat_cmp Place
 relinked_earlier places None earlier = places
 relinked_earlier places (Some h) earlier = with_earlier places h earlier
 
--- the last of the label's scope is gone where none stands after it; then it is the one before
+-- the handle made last of each label, once a handle of the label t with these two neighbours has ended: where none was made
+-- after it, the one made before it is the last, if there is one
 abbrev pub last_without : FinMap nat_cmp ℕ → ℕ → Option ℕ → Option ℕ → FinMap nat_cmp ℕ
 last_without last t earlier (Some h) = last
 last_without last t (Some h) None = insert last t h

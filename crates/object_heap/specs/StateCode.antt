@@ -15,6 +15,7 @@ use Rattle.trace_types.specs.contracts.slots.Holding as holding
 use Rattle.trace_types.specs.contracts.slots.Entry as entry
 use Rattle.ownership_model.specs.State.{State}
 
+-- a state as the tuple of its four parts, by which a proof tells states apart
 abbrev pub state_code : Coded State
 state_code =
     code_by (FinMap nat_cmp Holding × (FinMap nat_cmp Slot × (FinMap nat_cmp Entry × List Scoped)))

@@ -8,10 +8,14 @@ ghost use Rattle.ownership_model.specs.Scopes.{kept_or_entered};
 ghost use Rattle.ownership_model.specs.Changes.{HasField, CanBeDone, CanChange, changed};
 ghost use Rattle.ownership_model.specs.Bounds.{IsBounded, HoldingFits, AreFew, ChangeFits, ChangesFit};
 ghost use Rattle.object_heap.specs.Counted.{state_of, IsCounted};
+ghost use Rattle.object_heap.specs.NamesCounted.{AreNamesCounted};
 ghost use Rattle.object_heap.specs.Gains.{Changes, CountsMore, HasRoom, HasSlots};
 
-use crate::counters::{Counters, hold, hold_all, hold_holding, let_go, let_go_all, let_go_holding};
+use crate::counters::{
+    Counters, counters_of, hold, hold_all, hold_holding, let_go, let_go_all, let_go_holding,
+};
 use crate::draft::Draft;
+use crate::objects::Objects;
 use crate::scopes::Scopes;
 use share_tree::ShareTree;
 use std::alloc::{AllocError, Global};
@@ -157,6 +161,7 @@ impl Draft {
         requires fits { AreFew fields.now }
         ensures { OnOk result (Changes self.old self.new (change.Make object fields.now)) }
     {
+        rank_new(alloc, &self.counts, &mut self.objects, object, fields)?;
         hold_all(alloc, &mut self.counts, fields.as_slice())?;
         let copy = fields.clone()?;
         self.objects.insert(alloc, object, Entry::Alive(copy))
@@ -173,6 +178,28 @@ impl Draft {
         let_go_all(alloc, &mut self.counts, fields.as_slice())?;
         self.objects.insert(alloc, object, Entry::Husk)
     }
+}
+
+// Ranks an object that is to be made over what its fields name, where no field names it yet. Else its rank is left.
+fn rank_new(
+    alloc: Global,
+    counts: &ShareTree<Counters>,
+    objects: &mut Objects,
+    object: u32,
+    fields: &Sequence<Slot>,
+) -> Result<(), AllocError>
+    requires { AreNamesCounted counts.now objects.old }
+    ensures { objects.new ≡ objects.old }
+{
+    let rank = objects.rank_over(fields.as_slice());
+    if rank <= object as u64 {
+        return Ok(());
+    }
+    let counters = counters_of(counts, object);
+    if counters.strong == 0 && counters.weak == 0 {
+        objects.raise(alloc, object, rank)?;
+    }
+    Ok(())
 }
 
 // What the handle holds, if it holds anything, is counted no more.

@@ -1,21 +1,27 @@
 //! A state that is being changed, with the counts of its slots and of what is pending.
-ghost use Rattle.std.specs.Prelude.{◌≡◌, ◌↔◌, IfOk, IsTrue};
+ghost use Rattle.std.specs.Prelude.{◌≡◌, ◌↔◌, OnOk, IfOk, IsTrue};
 ghost use Rattle.std.specs.FinMap as map;
-ghost use Rattle.ownership_model.specs.State.{nothing_held};
-ghost use Rattle.object_heap.specs.Counted.{state_of};
+ghost use Rattle.ownership_model.specs.State.{nothing_held, IsSound};
+ghost use Rattle.ownership_model.specs.Bounds.{ChangesFit};
+ghost use Rattle.ownership_model.specs.Changes.{changed, CanChange};
+ghost use Rattle.ownership_model.specs.Release.{release};
+ghost use Rattle.object_heap.specs.Counted.{state_of, IsKept};
 
 use crate::counters::Counters;
+use crate::objects::Objects;
 use crate::scopes::Scopes;
 use share_tree::ShareTree;
-use std::alloc::AllocError;
-use trace_types::slots::{Entry, Holding, Slot};
+use std::alloc::{AllocError, Global};
+use std::collections::VecDeque;
+use trace_types::outcomes::Event;
+use trace_types::slots::{Change, Holding, Item, Slot};
 
 /// What handles and cells hold, which objects stand, how often each is named, and in which scopes the handles stand.
 #[derive(Drop)]
 pub struct Draft {
     pub handles: ShareTree<Holding>,
     pub cells: ShareTree<Slot>,
-    pub objects: ShareTree<Entry>,
+    pub objects: Objects,
     pub counts: ShareTree<Counters>,
     pub scopes: Scopes,
 }
@@ -29,10 +35,43 @@ impl Draft {
         Draft {
             handles: ShareTree::empty(),
             cells: ShareTree::empty(),
-            objects: ShareTree::empty(),
+            objects: Objects::empty(),
             counts: ShareTree::empty(),
             scopes: Scopes::empty(),
         }
+    }
+
+    /// Nothing is held any more.
+    #[inline(never)]
+    pub fn let_go(&mut self)
+        ensures state { state_of self.new ≡ nothing_held }
+        ensures counts { self.new.counts ≡ map.empty }
+    {
+        *self = Draft::empty();
+    }
+
+    /// Makes the changes, drops all that is then pending, and tells what became of objects, in order. Where memory runs out the
+    /// draft is only good to be let go.
+    pub fn carry_out(
+        &mut self,
+        alloc: Global,
+        changes: &[Change],
+        pending: &[Item],
+    ) -> Result<Vec<Event>, AllocError>
+        requires kept { IsKept self.old }
+        requires can { CanChange (state_of self.old) changes.now }
+        requires fits { ChangesFit changes.now }
+        requires sound { IsSound (changed (state_of self.old) changes.now) pending.now }
+        ensures kept { OnOk result (IsKept self.new) }
+        ensures state { OnOk result (state_of self.new ≡ (release (changed (state_of self.old) changes.now) pending.now).state) }
+        ensures events { IfOk result (λ v. v.items ≡ (release (changed (state_of self.old) changes.now) pending.now).events) }
+    {
+        self.apply(alloc, changes)?;
+        let mut list = VecDeque::new(alloc);
+        self.add_all(alloc, pending, &mut list)?;
+        let mut events = Vec::new(alloc);
+        self.release(alloc, &mut list, &mut events)?;
+        Ok(events)
     }
 
     /// The same again, whose nodes both have.

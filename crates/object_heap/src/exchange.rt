@@ -12,6 +12,7 @@ ghost use Rattle.object_heap.specs.Gains.{CountsMore, HasRoom, HasSlots};
 
 use crate::counters::{Counters, hold_all, let_go_all};
 use crate::draft::Draft;
+use crate::objects::Objects;
 use ownership_model::remaining::Remaining;
 use share_tree::ShareTree;
 use std::alloc::{AllocError, Global};
@@ -115,7 +116,7 @@ fn hold_entry(
 fn let_go_object(
     alloc: Global,
     counts: &mut ShareTree<Counters>,
-    objects: &ShareTree<Entry>,
+    objects: &Objects,
     object: u32,
 ) -> Result<(), AllocError>
     requires { HasSlots counts.old (λ w. option_map_or (entry_weight w) (map.get objects.now object) 0) }

@@ -1,5 +1,5 @@
 //! The heap of a traced program at one moment.
-ghost use Rattle.std.specs.Prelude.{◌≡◌, ◌↔◌, [], IfOk, IsTrue};
+ghost use Rattle.std.specs.Prelude.{◌≡◌, ◌↔◌, [], true, IfOk, OnOk, OnErr, IsTrue};
 ghost use Rattle.std.specs.Option.{option_copied};
 ghost use Rattle.std.specs.FinMap as map;
 ghost use Rattle.ownership_model.specs.State.{nothing_held, strong, weak, IsSound};
@@ -9,6 +9,8 @@ ghost use Rattle.ownership_model.specs.Release.{release};
 ghost use Rattle.ownership_model.specs.Falling.{CascadesTo};
 ghost use Rattle.ownership_model.specs.Scopes.{scope_of};
 ghost use Rattle.ownership_model.specs.Agrees.{HaveSameRoots};
+ghost use Rattle.ownership_model.specs.declared.link.Link.TheVariants.{StrongOrWeak};
+ghost use Rattle.ownership_model.specs.Reach.{is_reached};
 ghost use Rattle.ownership_model.specs.Patch.{patched};
 ghost use Rattle.object_heap.specs.Exchange.{AreWithinLimits};
 ghost use Rattle.object_heap.specs.Links.{first_of, earlier_in};
@@ -18,7 +20,6 @@ use crate::draft::Draft;
 use ownership_model::remaining::Remaining;
 use share_tree::ShareTree;
 use std::alloc::{AllocError, Global};
-use std::collections::VecDeque;
 use std::marker::Model;
 use trace_types::outcomes::Event;
 use trace_types::sequence::Sequence;
@@ -106,6 +107,19 @@ impl Heap {
         ensures { option_copied result ≡ map.get self.now.objects object }
     {
         self.draft.objects.get(object)
+    }
+
+    /// Whether it is known without a search that handles and cells lead to the object, by strong or weak slots. Takes no memory.
+    ///
+    /// It is known of an object that stands, where neither it nor what was made after it was ever named by a field of its own or of
+    /// something made before: as where each object is made with the one before it in a field. Where it isn't known the answer is false.
+    pub fn is_surely_reached(&self, object: u32) -> bool
+        ensures { result ≡ true → is_reached StrongOrWeak self.now object ≡ true }
+    {
+        match self.object(object) {
+            Some(_) => self.draft.objects.descend_to(object),
+            None => false,
+        }
     }
 
     /// How many slots name the object strongly.
@@ -196,14 +210,35 @@ impl Heap {
         ensures events { IfOk result (λ r. r.1 ≡ (release (changed self changes.now) pending.now).events) }
         ensures cascade { IfOk result (λ r. CascadesTo (changed self changes.now) r.0 r.1) }
     {
-        let Heap { mut draft } = self;
-        draft.apply(alloc, changes)?;
-        let mut list = VecDeque::new(alloc);
-        draft.add_all(alloc, pending, &mut list)?;
-        let mut events = Vec::new(alloc);
-        draft.release(alloc, &mut list, &mut events)?;
-        Ok((Heap { draft }, Sequence::from_vec(events)))
+        let mut heap = self;
+        let events = heap.release_in_place(alloc, changes, pending)?;
+        Ok((heap, events))
     }
+
+    /// As `released`, in place. Where memory runs out nothing is held any more.
+    pub fn release_in_place(
+        &mut self,
+        alloc: Global,
+        changes: &[Change],
+        pending: &[Item],
+    ) -> Result<Sequence<Event>, AllocError>
+        requires can { CanChange self.old changes.now }
+        requires fits { ChangesFit changes.now }
+        requires sound { IsSound (changed self.old changes.now) pending.now }
+        ensures state { OnOk result (self.new ≡ (release (changed self.old changes.now) pending.now).state) }
+        ensures events { IfOk result (λ events. events ≡ (release (changed self.old changes.now) pending.now).events) }
+        ensures cascade { IfOk result (λ events. CascadesTo (changed self.old changes.now) self.new events) }
+        ensures err { OnErr result (self.new ≡ nothing_held) }
+    {
+        match self.draft.carry_out(alloc, changes, pending) {
+            Ok(events) => Ok(Sequence::from_vec(events)),
+            Err(error) => {
+                self.draft.let_go();
+                Err(error)
+            }
+        }
+    }
+
     /// The heap without some objects and with others. The result is to be sound.
     ///
     /// The work is that of the objects that go and come, and of their fields: the rest isn't looked at. What this heap alone holds is

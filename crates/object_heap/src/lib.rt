@@ -7,7 +7,9 @@ mod counters;
 mod draft;
 mod exchange;
 pub mod heap;
+mod objects;
 pub mod place;
+mod ranks;
 pub mod reach;
 mod scopes;
 

@@ -1,7 +1,7 @@
 //! One operation carried out on a heap.
 ghost use Rattle.std.specs.Prelude.{◌≡◌, ◌++◌, [], None, IfOk, OnOk, OnErr, option_to_list};
 ghost use Rattle.std.specs.FinMap.{get};
-ghost use Rattle.ownership_model.specs.State.{IsSound};
+ghost use Rattle.ownership_model.specs.State.{IsSound, nothing_held};
 ghost use Rattle.ownership_model.specs.Bounds.{IsBounded, PlanFits};
 ghost use Rattle.ownership_model.specs.Carry.{IsCarriable};
 ghost use Rattle.ownership_model.specs.Step.{step, carried_out};
@@ -48,11 +48,54 @@ pub fn stepped(
     ensures counted { OnOk result (meter.new ≡ raised meter.old 1) }
     ensures uncounted { OnErr result (meter.new ≡ meter.old) }
 {
-    let planned = plan(alloc, &heap, op)?;
-    see_kept(&heap);
-    let done = carry_out(alloc, heap, op.id(), planned)?;
-    meter.raise();
-    Ok(done)
+    let mut next = heap;
+    let outcome = step_in_place(alloc, &mut next, op, meter)?;
+    Ok((next, outcome))
+}
+
+/// As `stepped`, in place. Where memory runs out nothing is held any more.
+pub fn step_in_place(
+    alloc: Global,
+    heap: &mut Heap,
+    op: &Op,
+    meter: &mut Meter,
+) -> Result<Outcome, AllocError>
+    requires { get heap.old.objects op.now.id ≡ None }
+    ensures state { OnOk result (heap.new ≡ (step heap.old op.now).state) }
+    ensures outcome { IfOk result (λ r. r ≡ (step heap.old op.now).outcome) }
+    ensures err { OnErr result (heap.new ≡ nothing_held) }
+    ensures counted { OnOk result (meter.new ≡ raised meter.old 1) }
+    ensures uncounted { OnErr result (meter.new ≡ meter.old) }
+{
+    match carried(alloc, heap, op) {
+        Ok(outcome) => {
+            meter.raise();
+            Ok(outcome)
+        }
+        Err(error) => {
+            let_go(heap);
+            Err(error)
+        }
+    }
+}
+
+// Plans an operation and carries it out. Where memory runs out it isn't told what the heap holds.
+fn carried(alloc: Global, heap: &mut Heap, op: &Op) -> Result<Outcome, AllocError>
+    requires { get heap.old.objects op.now.id ≡ None }
+    ensures state { OnOk result (heap.new ≡ (step heap.old op.now).state) }
+    ensures outcome { IfOk result (λ r. r ≡ (step heap.old op.now).outcome) }
+{
+    let planned = plan(alloc, heap, op)?;
+    see_kept(heap);
+    carry_out(alloc, heap, op.id(), planned)
+}
+
+// Not inlined, so that a step has no room for a second heap.
+#[inline(never)]
+fn let_go(heap: &mut Heap)
+    ensures { heap.new ≡ nothing_held }
+{
+    *heap = Heap::empty();
 }
 
 // What every heap keeps, which a look at it tells.
@@ -63,14 +106,14 @@ pub fn see_kept(heap: &Heap)
     let _held = heap.holding(0);
 }
 
-fn carry_out(alloc: Global, heap: Heap, id: u32, plan: Plan) -> Result<(Heap, Outcome), AllocError>
-    requires carriable { IsCarriable heap plan }
+fn carry_out(alloc: Global, heap: &mut Heap, id: u32, plan: Plan) -> Result<Outcome, AllocError>
+    requires carriable { IsCarriable heap.old plan }
     requires fits { PlanFits plan }
-    ensures state { IfOk result (λ r. r.0 ≡ (carried_out heap id plan).state) }
-    ensures outcome { IfOk result (λ r. r.1 ≡ (carried_out heap id plan).outcome) }
+    ensures state { OnOk result (heap.new ≡ (carried_out heap.old id plan).state) }
+    ensures outcome { IfOk result (λ r. r ≡ (carried_out heap.old id plan).outcome) }
 {
     match plan {
-        Plan::Skip(reason) => Ok((heap, skipped(alloc, id, reason))),
+        Plan::Skip(reason) => Ok(skipped(alloc, id, reason)),
         Plan::Act {
             answer,
             changes,
@@ -78,16 +121,13 @@ fn carry_out(alloc: Global, heap: Heap, id: u32, plan: Plan) -> Result<(Heap, Ou
             pending,
             object,
         } => {
-            let (next, released) = heap.released(alloc, changes.as_slice(), pending.as_slice())?;
-            let events = with_named(alloc, event, released)?;
-            let counts = counts_of(&next, object);
-            let outcome = Outcome {
+            let released = heap.release_in_place(alloc, changes.as_slice(), pending.as_slice())?;
+            Ok(Outcome {
                 id,
                 verdict: Verdict::Did(answer),
-                events,
-                counts,
-            };
-            Ok((next, outcome))
+                events: with_named(alloc, event, released)?,
+                counts: counts_of(heap, object),
+            })
         }
     }
 }

@@ -4,7 +4,7 @@ ghost use Rattle.ownership_model.specs.State.{nothing_held};
 ghost use Rattle.ownership_model.specs.Step.{AreNew, outcomes_from, end_from};
 ghost use Rattle.op_step.specs.Meter.{raised};
 
-use crate::carry::stepped;
+use crate::carry::step_in_place;
 use crate::meter::Meter;
 use object_heap::Heap;
 use std::alloc::{AllocError, Global};
@@ -48,9 +48,7 @@ pub fn replay_from(
     let mut outcomes = Vec::with_capacity(alloc, ops.len())?;
     let mut heap = start;
     for op in ops {
-        let (next, outcome) = stepped(alloc, heap, op, meter)?;
-        outcomes.push(outcome)?;
-        heap = next;
+        outcomes.push(step_in_place(alloc, &mut heap, op, meter)?)?;
     }
     Ok((Sequence::from_vec(outcomes), heap))
 }

@@ -17,11 +17,12 @@ abbrev pub is_scope_end : Kind → Bool
 is_scope_end kind.ScopeEnd = true
 is_scope_end _ = false
 
--- a replay that keeps no scopes: after each operation they are left out
+-- the outcomes of a replay that keeps no scopes: after each operation they are left out
 abbrev pub outcomes_before : State → List Operation → List Outcome
 outcomes_before m [] = []
 outcomes_before m (op ∷ ops) = (step m op).outcome ∷ outcomes_before (without_scopes (step m op).state) ops
 
+-- the end of such a replay
 abbrev pub end_before : State → List Operation → State
 end_before m [] = m
 end_before m (op ∷ ops) = end_before (without_scopes (step m op).state) ops
@@ -31,5 +32,6 @@ pub record ScopesCanBeLeftOut (m : State) (ops : List Operation) : Type 0 where
   pub outcomes : outcomes_from m ops ≡ outcomes_before (without_scopes m) ops
   pub end : without_scopes (end_from m ops) ≡ end_before (without_scopes m) ops
 
+-- so it is from any state, for any operations of which none is scope_end
 abbrev pub OldTracesReplayAsBefore : Type 0
 OldTracesReplayAsBefore = (m : State) (ops : List Operation) → All (λ op. is_scope_end op.kind ≡ false) ops → ScopesCanBeLeftOut m ops

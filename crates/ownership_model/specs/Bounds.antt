@@ -34,20 +34,22 @@ abbrev pub EntryFits : Entry → Type 0
 EntryFits (Alive fields) = AreFew fields
 EntryFits Husk = Unit {0}
 
--- what stands at a handle, at a cell, for an object, if anything does
+-- what stands at a handle, if anything does: its number and its fields are within the limits
 abbrev pub HandleFits : ℕ → Option Holding → Type 0
 HandleFits h None = Unit {0}
 HandleFits h (Some x) = (h ≤ MAX_NAME) × HoldingFits x
 
+-- what stands at a cell, if anything does: its number is within the limit
 abbrev pub CellFits : ℕ → Option Slot → Type 0
 CellFits c None = Unit {0}
 CellFits c (Some s) = c ≤ MAX_NAME
 
+-- what stands for an object, if anything does: its number and its fields are within the limits
 abbrev pub ObjectFits : ℕ → Option Entry → Type 0
 ObjectFits o None = Unit {0}
 ObjectFits o (Some e) = (o ≤ MAX_ID) × EntryFits e
 
--- the labels of scopes
+-- the labels of scopes are within the limit
 abbrev pub LabelsFit : List Scoped → Type 0
 LabelsFit scopes = AllByRecursion (λ s. s.label ≤ MAX_THREAD) scopes
 
@@ -68,6 +70,7 @@ ChangeFits (SetField o i s) = Unit {0}
 ChangeFits (Make o fields) = (o ≤ MAX_ID) × AreFew fields
 ChangeFits (TurnHusk o) = Unit {0}
 
+-- so do all of these changes
 abbrev pub ChangesFit : List Change → Type 0
 ChangesFit cs = AllByRecursion ChangeFits cs
 

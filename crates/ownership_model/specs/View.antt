@@ -33,6 +33,7 @@ handle_or (table.Index i) rest = rest
 handle_or (table.Fields fs) rest = rest
 handle_or (table.CyclicFields fs) rest = rest
 
+-- the first handle among the members, if there is one; a `to` that is left out is none
 abbrev pub first_handle : List Member → Option ℕ
 first_handle [] = None
 first_handle (m ∷ ms) = handle_or m.value (first_handle ms)
@@ -51,10 +52,12 @@ abbrev pub behind_handle : List Member → List Member
 behind_handle [] = []
 behind_handle (m ∷ ms) = behind_or m.value ms (behind_handle ms)
 
+-- the number of a cell, where this member is one
 abbrev pub cell_in : Option Value → Option ℕ
 cell_in (Some (table.Cell c)) = Some c
 cell_in v = None
 
+-- the elements of `fields`, where this member is that; else none
 abbrev pub fields_in : Option Value → List Field
 fields_in (Some (table.Fields fs)) = fs
 fields_in (Some (table.CyclicFields fs)) = fs
@@ -107,6 +110,7 @@ element_of m (field.Held h) = Read h (get m.handles h)
 element_of m field.Null = Null
 element_of m field.Me = Me
 
+-- all elements of `fields`, looked up, in order
 abbrev pub elements_of : State → List Field → List Element
 elements_of m fs = map (element_of m) fs
 
@@ -153,5 +157,6 @@ abbrev pub repeated_in : List ℕ → List ℕ → Option ℕ
 repeated_in before [] = None
 repeated_in before (h ∷ hs) = if list_any (λ b. b == h) before then Some h else repeated_in (h ∷ before) hs
 
+-- the first handle that an operation names twice, if there is one
 abbrev pub repeated : Kind → Option ℕ
 repeated k = repeated_in [] (apart_handles k)

@@ -1,35 +1,23 @@
-//! Tests of the plain program, heaps, agreement, steps, leaks, reports, shelves, runs and the desk, through what those crates promise.
+//! Tests of the plain program, heaps, steps, leaks and reports, through what those crates promise.
 #![tactic(auto)]
 
 #[cfg(test)]
-mod agreeing;
-#[cfg(test)]
-mod desk;
-#[cfg(test)]
-mod exchanges;
+mod cells;
 #[cfg(test)]
 mod heap;
 #[cfg(test)]
-mod kept;
-#[cfg(test)]
 mod leaks;
 #[cfg(test)]
-mod limits;
-#[cfg(test)]
-mod meetings;
+mod lines;
 #[cfg(test)]
 mod plain;
 #[cfg(test)]
-mod random_edits;
+mod replayed;
 #[cfg(test)]
 mod reports;
 #[cfg(test)]
-mod runs;
-#[cfg(test)]
 mod scopes;
 #[cfg(test)]
-mod shelves;
-#[cfg(test)]
-mod small_traces;
-#[cfg(test)]
 mod steps;
+#[cfg(test)]
+mod told;

@@ -1,84 +1,15 @@
 //! Small programs, and what each of their operations does.
+use crate::told::{assert_told, did, did_to_none, skipped, trace_of};
 use object_heap::Heap;
 use op_step::chunk_run::run;
 use op_step::meter::Meter;
 use op_step::replay::replay;
 use op_step::step;
-use std::alloc::Global;
-use std::process::Abort;
 use std::test::Fail;
 use trace_types::kinds::{Field, Kind};
 use trace_types::ops::Op;
 use trace_types::outcomes::{Answer, Counts, Event, Reason, Verdict};
 use trace_types::sequence::Sequence;
-use trace_types::trace::Trace;
-
-// What is wanted of one operation.
-#[derive(Clone, Copy)]
-struct Told<'a> {
-    verdict: Verdict,
-    counts: Option<Counts>,
-    events: &'a [Event],
-}
-
-fn did<'a>(answer: Answer, object: u32, strong: u64, weak: u64, events: &'a [Event]) -> Told<'a> {
-    Told {
-        verdict: Verdict::Did(answer),
-        counts: Some(Counts {
-            object,
-            strong,
-            weak,
-        }),
-        events,
-    }
-}
-
-fn did_to_none<'a>(answer: Answer, events: &'a [Event]) -> Told<'a> {
-    Told {
-        verdict: Verdict::Did(answer),
-        counts: None,
-        events,
-    }
-}
-
-fn skipped(reason: Reason) -> Told<'static> {
-    Told {
-        verdict: Verdict::Skipped(reason),
-        counts: None,
-        events: &[],
-    }
-}
-
-// The operations, numbered from 1.
-fn trace_of(alloc: Global, kinds: Vec<Kind>) -> Result<Trace, Fail> {
-    let mut trace = Trace::new(alloc);
-    let mut id = 0u32;
-    for kind in kinds {
-        id = id.saturating_add(1);
-        let op = Op::make(id, 0, kind)?;
-        trace.push(op)?;
-    }
-    Ok(trace)
-}
-
-fn assert_told(
-    rt: &impl Abort,
-    alloc: Global,
-    kinds: Vec<Kind>,
-    told: &[Told],
-) -> Result<(), Fail> {
-    let trace = trace_of(alloc, kinds)?;
-    let mut meter = Meter::new();
-    let (outcomes, _end) = replay(alloc, &trace, &mut meter)?;
-    assert_eq!(rt; outcomes.len(), told.len());
-    assert_eq!(rt; outcomes.len(), trace.len());
-    for (outcome, wanted) in outcomes.as_slice().iter().zip(told) {
-        assert_eq!(rt; outcome.verdict, wanted.verdict);
-        assert_eq!(rt; outcome.counts, wanted.counts);
-        assert_eq!(rt; outcome.events.as_slice(), wanted.events);
-    }
-    Ok(())
-}
 
 #[test]
 fn empty_trace(rt: HostRuntime) -> Result<(), Fail> {
@@ -229,118 +160,6 @@ fn unwrap(rt: HostRuntime) -> Result<(), Fail> {
         did(Answer::Yes, 2, 0, 1, &[Event::Unwrapped(2)]),
         did(Answer::Done, 2, 0, 0, &[Event::Freed(2)]),
         did_to_none(Answer::Done, &[Event::Destroyed(1), Event::Freed(1)]),
-    ];
-    assert_told(&rt, alloc, kinds, told.as_slice())
-}
-
-#[test]
-fn atomic_cells(rt: HostRuntime) -> Result<(), Fail> {
-    let alloc = rt.alloc();
-    let kinds = vec![in alloc;
-        Kind::New {
-            to: 0,
-            fields: Sequence::empty(alloc)
-        },
-        Kind::Clone { from: 0, to: 1 },
-        Kind::CellNew { c: 0, from: 1 },
-        Kind::New {
-            to: 2,
-            fields: Sequence::empty(alloc)
-        },
-        Kind::CellCas {
-            c: 0,
-            expected: 0,
-            desired: 2
-        },
-        Kind::New {
-            to: 3,
-            fields: Sequence::empty(alloc)
-        },
-        Kind::CellCas {
-            c: 0,
-            expected: 0,
-            desired: 3
-        },
-        Kind::Null { to: 4 },
-        Kind::Null { to: 5 },
-        Kind::CellCas {
-            c: 0,
-            expected: 4,
-            desired: 5
-        },
-        Kind::CellDrop { c: 0 },
-    ]?;
-    let told = [
-        did(Answer::Made, 1, 1, 0, &[]),
-        did(Answer::Done, 1, 2, 0, &[]),
-        did(Answer::Done, 1, 2, 0, &[]),
-        did(Answer::Made, 4, 1, 0, &[]),
-        did(Answer::Yes, 4, 1, 0, &[]),
-        did(Answer::Made, 6, 1, 0, &[]),
-        did(
-            Answer::No,
-            4,
-            2,
-            0,
-            &[
-                Event::Destroyed(1),
-                Event::Freed(1),
-                Event::Destroyed(6),
-                Event::Freed(6),
-            ],
-        ),
-        did_to_none(Answer::Done, &[]),
-        did_to_none(Answer::Done, &[]),
-        did(Answer::No, 4, 3, 0, &[]),
-        did(Answer::Done, 4, 2, 0, &[]),
-    ];
-    assert_told(&rt, alloc, kinds, told.as_slice())
-}
-
-#[test]
-fn cell_swaps(rt: HostRuntime) -> Result<(), Fail> {
-    let alloc = rt.alloc();
-    let kinds = vec![in alloc;
-        Kind::New {
-            to: 0,
-            fields: Sequence::empty(alloc)
-        },
-        Kind::CellNew { c: 0, from: 0 },
-        Kind::CellLoad { c: 0, to: 1 },
-        Kind::New {
-            to: 2,
-            fields: Sequence::empty(alloc)
-        },
-        Kind::CellSwap {
-            c: 0,
-            from: 2,
-            to: Some(3)
-        },
-        Kind::Null { to: 4 },
-        Kind::CellSwap {
-            c: 0,
-            from: 4,
-            to: None
-        },
-        Kind::Drop { h: 1 },
-        Kind::Drop { h: 3 },
-    ]?;
-    let told = [
-        did(Answer::Made, 1, 1, 0, &[]),
-        did(Answer::Done, 1, 1, 0, &[]),
-        did(Answer::Done, 1, 2, 0, &[]),
-        did(Answer::Made, 4, 1, 0, &[]),
-        did(Answer::Done, 4, 1, 0, &[]),
-        did_to_none(Answer::Done, &[]),
-        did_to_none(Answer::Done, &[Event::Destroyed(4), Event::Freed(4)]),
-        did(Answer::Done, 1, 1, 0, &[]),
-        did(
-            Answer::Done,
-            1,
-            0,
-            0,
-            &[Event::Destroyed(1), Event::Freed(1)],
-        ),
     ];
     assert_told(&rt, alloc, kinds, told.as_slice())
 }

@@ -1,7 +1,7 @@
 //! A child of a node: a level of the tree, or none.
 ghost use Rattle.std.specs.Prelude.{◌≡◌, ℕ, ◌<◌, ◌≤◌, ◌^◌, ◌↔◌, ◌+◌, ◌++◌, OnOk, OnErr, Some, None, IfSome, IfOk, IsTrue, is_some};
 ghost use Rattle.std.specs.Bool.{IsFalse};
-ghost use Rattle.std.specs.Option.{option_copied, IfNone};
+ghost use Rattle.std.specs.Option.{option_copied, option_map, IfNone};
 ghost use Rattle.std.specs.Arc.{arc_value};
 ghost use Rattle.share_tree.specs.Entries.{keys_from, moved};
 ghost use Rattle.share_tree.specs.Walk.{IsNowhereFrom, IsFirstFrom};
@@ -45,6 +45,13 @@ impl<C> Child<C> {
         ensures { result ≡ Some (arc_value level) }
     {
         Child { level: Some(level) }
+    }
+
+    /// The level, if there is one.
+    pub fn level(self) -> Option<Arc<C>>
+        ensures { option_map arc_value result ≡ self }
+    {
+        self.level
     }
 
     /// Whether there is none.
@@ -130,6 +137,7 @@ impl<C: Drop> Child<C> {
     }
 
     /// One more entry, in place where nobody else holds the level. It says whether the key was there.
+    #[inline(always)]
     pub fn insert<V>(&mut self, alloc: Global, key: u32, value: V) -> Result<bool, AllocError>
     where
         C: Level<V>,
@@ -141,14 +149,29 @@ impl<C: Drop> Child<C> {
     {
         match &mut self.level {
             None => {
-                self.level = Some(C::only(alloc, key, value)?);
+                self.begin(alloc, key, value)?;
                 Ok(false)
             }
             Some(level) => insert_in(alloc, level, key, value),
         }
     }
 
+    // A level with one entry alone, where there is none.
+    #[inline(never)]
+    fn begin<V>(&mut self, alloc: Global, key: u32, value: V) -> Result<(), AllocError>
+    where
+        C: Level<V>,
+        requires fits { C.SPAN ≤ 2 ^ 32 }
+        requires within { key < C.SPAN }
+        ensures ok { OnOk result ((q : ℕ) → child_at C.at self.new q ≡ updated nowhere key (Some value) q) }
+        ensures err { OnErr result (self.new ≡ self.old) }
+    {
+        self.level = Some(C::only(alloc, key, value)?);
+        Ok(())
+    }
+
     /// Takes out an entry, in place where nobody else holds the level. None is left where nothing is left of it.
+    #[inline(always)]
     pub fn remove<V>(&mut self, alloc: Global, key: u32) -> Result<(), AllocError>
     where
         C: Level<V>,
@@ -161,11 +184,19 @@ impl<C: Drop> Child<C> {
             None => Ok(()),
             Some(level) => {
                 if remove_from::<V, C>(alloc, level, key)? {
-                    self.level = None;
+                    self.end();
                 }
                 Ok(())
             }
         }
+    }
+
+    // No level any more. What is let go is held by value, so it stands apart.
+    #[inline(never)]
+    fn end(&mut self)
+        ensures { self.new ≡ None }
+    {
+        self.level = None;
     }
 
     /// Adds the keys that are there, each plus `base`, in rising order.
@@ -208,8 +239,9 @@ impl<C: Drop> Child<C> {
     }
 }
 
-// One more entry in a level, changed where nobody else holds it. It says whether the key was there.
-fn insert_in<V, C: Level<V>>(
+/// One more entry in a level, changed where nobody else holds it. It says whether the key was there.
+#[inline(always)]
+pub fn insert_in<V, C: Level<V>>(
     alloc: Global,
     level: &mut Arc<C>,
     key: u32,
@@ -224,12 +256,30 @@ fn insert_in<V, C: Level<V>>(
     if let Some(own) = Arc::get_mut(level) {
         return own.insert(alloc, key, value);
     }
+    insert_in_copy(alloc, level, key, value)
+}
+
+// As `insert_in`, in a copy of the level. A copy is held by value while it is made, so it stands apart.
+#[inline(never)]
+fn insert_in_copy<V, C: Level<V>>(
+    alloc: Global,
+    level: &mut Arc<C>,
+    key: u32,
+    value: V,
+) -> Result<bool, AllocError>
+    requires fits { C.SPAN ≤ 2 ^ 32 }
+    requires within { key < C.SPAN }
+    ensures was { IfOk result (λ was. was ≡ is_some (C.at (arc_value level.old) key)) }
+    ensures ok { OnOk result ((q : ℕ) → C.at (arc_value level.new) q ≡ updated (C.at (arc_value level.old)) key (Some value) q) }
+    ensures err { OnErr result ((q : ℕ) → C.at (arc_value level.new) q ≡ C.at (arc_value level.old) q) }
+{
     let was = level.get(key).is_some();
     *level = level.with(alloc, key, value)?;
     Ok(was)
 }
 
 // A level without an entry, changed where nobody else holds it. It says whether nothing is left.
+#[inline(always)]
 fn remove_from<V, C: Level<V>>(
     alloc: Global,
     level: &mut Arc<C>,
@@ -244,6 +294,22 @@ fn remove_from<V, C: Level<V>>(
     if let Some(own) = Arc::get_mut(level) {
         return own.remove(alloc, key);
     }
+    remove_from_copy::<V, C>(alloc, level, key)
+}
+
+// As `remove_from`, in a copy of the level.
+#[inline(never)]
+fn remove_from_copy<V, C: Level<V>>(
+    alloc: Global,
+    level: &mut Arc<C>,
+    key: u32,
+) -> Result<bool, AllocError>
+    requires fits { C.SPAN ≤ 2 ^ 32 }
+    requires within { key < C.SPAN }
+    ensures rest { IfOk result (λ last. IsFalse last → (q : ℕ) → C.at (arc_value level.new) q ≡ updated (C.at (arc_value level.old)) key None q) }
+    ensures last { IfOk result (λ last. IsTrue last → (q : ℕ) → updated (C.at (arc_value level.old)) key None q ≡ None) }
+    ensures err { OnErr result ((q : ℕ) → C.at (arc_value level.new) q ≡ C.at (arc_value level.old) q) }
+{
     match level.without(alloc, key)? {
         None => Ok(true),
         Some(rest) => {

@@ -4,6 +4,7 @@ use Rattle.trace_reader.specs.declared.fault.LineCause.{LineCause}
 use Rattle.trace_reader.specs.declared.fault.LineCause.TheVariants.{LineTooLong, NotJson, NotObject, Missing, WrongType, UnknownOp, OutOfRange, IdTaken, TooMany, Memory}
 use Rattle.trace_reader.specs.declared.fault.LineFault.{LineFault}
 
+-- the name of a cause, as the line of a fault has it: `OutOfRange`
 abbrev pub cause_text : LineCause → List ℕ
 cause_text LineTooLong = codes "LineTooLong"
 cause_text NotJson = codes "NotJson"

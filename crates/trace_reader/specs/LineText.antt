@@ -12,6 +12,7 @@ use Rattle.trace_types.specs.declared.kinds.Kind.TheVariants as kind
 unfoldable pub number_text : List ℕ → ℕ → List ℕ
 number_text name n = codes "\"" ++ name ++ codes "\":" ++ decimal n ++ codes ","
 
+-- an element of `fields`: `3`, `null` or `"me"`
 abbrev pub field_text : Field → List ℕ
 field_text (Held h) = decimal h
 field_text Null = codes "null"
@@ -22,12 +23,15 @@ abbrev pub elements_text : Bool → List Field → List ℕ
 elements_text later [] = codes "]"
 elements_text later (field ∷ fields) = comma_if later ++ (field_text field ++ elements_text true fields)
 
+-- the member `fields`, with the comma after it: `"fields":[3,null],`
 abbrev pub fields_text : List Field → List ℕ
 fields_text fields = codes "\"fields\":[" ++ elements_text false fields ++ codes ","
 
+-- the member `to`, with the comma before it: `,"to":3`
 abbrev pub to_text : ℕ → List ℕ
 to_text to = codes ",\"to\":" ++ decimal to
 
+-- the same, and nothing where `to` is left out
 abbrev pub perhaps_to_text : Option ℕ → List ℕ
 perhaps_to_text None = []
 perhaps_to_text (Some to) = to_text to
@@ -90,5 +94,6 @@ text_after kind.ScopeEnd = []
 abbrev pub text_between : Operation → List ℕ
 text_between op = codes "\"id\":" ++ decimal op.id ++ codes ",\"op\":\"" ++ name_text (name_of_kind op.kind) ++ codes "\",\"t\":" ++ decimal op.thread
 
+-- the whole line, without its newline: `{"h":0,"id":3,"op":"drop","t":0}`
 unfoldable pub line_text : Operation → List ℕ
 line_text op = codes "{" ++ text_before op.kind ++ text_between op ++ text_after op.kind ++ codes "}"

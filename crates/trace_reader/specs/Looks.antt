@@ -32,11 +32,13 @@ abbrev pub elements_of : Items → List (Result Field LineCause)
 elements_of no_items = []
 elements_of (item d ds) = field_of true d ∷ elements_of ds
 
+-- how a number looks: natural, where it is written as an integer from 0 to 2^64 - 1, and else `other`
 abbrev pub number_look : Num → Look
 number_look (unsigned n) = natural n
 number_look (negative z) = other
 number_look (float x) = other
 
+-- how a value looks: an object, a truth value and a number that isn't natural are `other`
 abbrev pub look_of : Data → Look
 look_of null = nothing
 look_of (boolean b) = other
@@ -55,6 +57,7 @@ told seen.Other = other
 
 -- ---- the members of an object
 
+-- of two members of one name the later one counts, where there is one (as with serde_json)
 abbrev pub later : Option Look → Option Look → Option Look
 later None earlier = earlier
 later (Some look) earlier = Some look
@@ -70,6 +73,7 @@ Tells list ms = (name : List ℕ) → find name list ≡ option_map look_of (get
 
 -- ---- numbers and texts
 
+-- the natural number that a look tells, if it tells one
 abbrev pub natural_told : Look → Option ℕ
 natural_told nothing = None
 natural_told (natural n) = Some n
@@ -77,10 +81,12 @@ natural_told (text s) = None
 natural_told (elements rs) = None
 natural_told other = None
 
+-- the number from low to high that a member's look tells, or its fault; None is a missing member
 abbrev pub number_told : ℕ → ℕ → Option Look → Result ℕ LineCause
 number_told low high None = Err Missing
 number_told low high (Some look) = within low high (natural_told look)
 
+-- whether the value is null
 abbrev pub is_nothing : Look → Bool
 is_nothing nothing = true
 is_nothing (natural n) = false
@@ -88,10 +94,12 @@ is_nothing (text s) = false
 is_nothing (elements rs) = false
 is_nothing other = false
 
+-- the handle's number that a member's look tells; there is none where the member is missing or null
 abbrev pub perhaps_told : Option Look → Result (Option ℕ) LineCause
 perhaps_told None = Ok None
 perhaps_told (Some look) = if is_nothing look then Ok None else (within 0 MAX_NAME (natural_told look) >>= λ h. Ok (Some h))
 
+-- the text that a look tells, if it tells one
 abbrev pub text_of : Look → Option (List ℕ)
 text_of nothing = None
 text_of (natural n) = None
@@ -99,6 +107,7 @@ text_of (text s) = Some s
 text_of (elements rs) = None
 text_of other = None
 
+-- the text that a member's look tells, or its fault
 abbrev pub text_told : Option Look → Result (List ℕ) LineCause
 text_told None = Err Missing
 text_told (Some look) = ok_or (text_of look) WrongType
@@ -113,7 +122,7 @@ field_told (text s) = field_named true s
 field_told (elements rs) = Err WrongType
 field_told other = Err WrongType
 
--- what an element that `new_cyclic` reads so is in `new`, or in `new_cyclic`
+-- an element, which was read as one of `new_cyclic`, as the operation takes it: `new` takes no `me`
 abbrev pub plain : Bool → Result Field LineCause → Result Field LineCause
 plain cyclic (Ok (Held h)) = if nat_le h MAX_NAME then Ok (Held h) else Err OutOfRange
 plain cyclic (Ok Null) = Ok Null
@@ -126,9 +135,11 @@ abbrev pub fields_of : Bool → List Field → List (Result Field LineCause) →
 fields_of cyclic done [] = Ok done
 fields_of cyclic done (r ∷ rs) = plain cyclic r >>= λ f. fields_of cyclic (done ++ f ∷ []) rs
 
+-- the fields, where there are not too many; that is tried before the elements
 abbrev pub few_told : Bool → List (Result Field LineCause) → Result (List Field) LineCause
 few_told cyclic rs = if nat_le (length rs) MAX_FIELDS then fields_of cyclic [] rs else Err OutOfRange
 
+-- the fields that a look tells: what is no array is of the wrong type
 abbrev pub elements_told : Bool → Look → Result (List Field) LineCause
 elements_told cyclic nothing = Err WrongType
 elements_told cyclic (natural n) = Err WrongType
@@ -136,12 +147,14 @@ elements_told cyclic (text s) = Err WrongType
 elements_told cyclic (elements rs) = few_told cyclic rs
 elements_told cyclic other = Err WrongType
 
+-- the fields that the look of the member `fields` tells, or the first fault
 abbrev pub fields_told : Bool → Option Look → Result (List Field) LineCause
 fields_told cyclic None = Err Missing
 fields_told cyclic (Some look) = elements_told cyclic look
 
 -- ---- tokens
 
+-- whether an array begins with this token
 abbrev pub opens_array : Token → Bool
 opens_array Token.begin_object = false
 opens_array Token.end_object = false
@@ -154,6 +167,7 @@ opens_array (Token.boolean b) = false
 opens_array Token.null = false
 opens_array Token.bad = false
 
+-- whether an object begins with this token
 abbrev pub opens_object : Token → Bool
 opens_object Token.begin_object = true
 opens_object Token.end_object = false
@@ -166,6 +180,7 @@ opens_object (Token.boolean b) = false
 opens_object Token.null = false
 opens_object Token.bad = false
 
+-- whether the value is an object, as that of each line has to be
 abbrev pub is_object : Data → Bool
 is_object null = false
 is_object (boolean b) = false

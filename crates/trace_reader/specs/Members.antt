@@ -30,6 +30,7 @@ Gives (Err cause) reading = FailsAs cause reading
 
 -- ---- numbers and texts
 
+-- the number that a value is, where it is written as an integer from 0 to 2^64 - 1 (serde_json::Value::as_u64)
 abbrev pub number_of : Data → Option ℕ
 number_of d = option_and_then as_u64 (as_number d)
 
@@ -38,6 +39,7 @@ abbrev pub within : ℕ → ℕ → Option ℕ → Result ℕ LineCause
 within low high None = Err WrongType
 within low high (Some n) = if nat_le low n && nat_le n high then Ok n else Err OutOfRange
 
+-- the number from low to high that a member is, or its fault; None is a missing member
 abbrev pub number_in : ℕ → ℕ → Option Data → Result ℕ LineCause
 number_in low high None = Err Missing
 number_in low high (Some d) = within low high (number_of d)
@@ -50,13 +52,16 @@ number_at name low high d = number_in low high (get name d)
 abbrev pub handle_of : Data → Result ℕ LineCause
 handle_of d = within 0 MAX_NAME (number_of d)
 
+-- the member of that name, the number of a handle or a cell
 abbrev pub handle_at : List ℕ → Data → Result ℕ LineCause
 handle_at name d = number_at name 0 MAX_NAME d
 
+-- the number of a handle; null stands for none
 abbrev pub handle_or_null : Data → Result (Option ℕ) LineCause
 handle_or_null null = Ok None
 handle_or_null d = handle_of d >>= λ h. Ok (Some h)
 
+-- the same, where the member may be missing: that stands for none too
 abbrev pub perhaps_handle_in : Option Data → Result (Option ℕ) LineCause
 perhaps_handle_in None = Ok None
 perhaps_handle_in (Some d) = handle_or_null d
@@ -65,6 +70,7 @@ perhaps_handle_in (Some d) = handle_or_null d
 unfoldable pub perhaps_handle_at : List ℕ → Data → Result (Option ℕ) LineCause
 perhaps_handle_at name d = perhaps_handle_in (get name d)
 
+-- the text that a member is, or its fault; None is a missing member
 abbrev pub text_in : Option Data → Result (List ℕ) LineCause
 text_in None = Err Missing
 text_in (Some d) = ok_or (as_str d) WrongType
@@ -85,7 +91,7 @@ field_of cyclic null = Ok Null
 field_of cyclic (string text) = field_named cyclic text
 field_of cyclic d = handle_of d >>= λ h. Ok (Held h)
 
--- the test that such an element passes
+-- whether an element is within the limits, in `new_cyclic` or in `new`
 abbrev pub field_test : Bool → Field → Bool
 field_test true = is_cyclic_field
 field_test false = is_field
@@ -100,6 +106,7 @@ abbrev pub few_fields : Bool → Option Items → Result (List Field) LineCause
 few_fields cyclic None = Err WrongType
 few_fields cyclic (Some ds) = if nat_le (items_len ds) MAX_FIELDS then fields_from cyclic [] ds else Err OutOfRange
 
+-- the fields that a member is, or their first fault; None is a missing member
 abbrev pub fields_in : Bool → Option Data → Result (List Field) LineCause
 fields_in cyclic None = Err Missing
 fields_in cyclic (Some d) = few_fields cyclic (as_array d)

@@ -22,10 +22,12 @@ use Rattle.trace_reader.specs.Kinds.{kind_of}
 
 -- ---- an operation
 
+-- what the operation of that name does; a text that names none is `UnknownOp`
 abbrev pub kind_if_named : Option OpName → Data → Result Kind LineCause
 kind_if_named None d = Err UnknownOp
 kind_if_named (Some name) d = kind_of name d
 
+-- the member `op`, and then the members of the operation that it names
 unfoldable pub kind_at : Data → Result Kind LineCause
 kind_at d = do
   name ← text_at (codes "op") d
@@ -39,6 +41,7 @@ members_of_op d = do
   kind ← kind_at d
   Ok (record { id = id; thread = thread; kind = kind })
 
+-- the reading of a value that is an object; another value has this cause as its fault
 abbrev pub on_object : {A : Type 0} → LineCause → Option Members → Result A LineCause → Result A LineCause
 on_object cause None reading = Err cause
 on_object cause (Some ms) reading = reading
@@ -57,12 +60,14 @@ json_of line = if is_utf8 line then ok_or (read line) NotJson else Err NotJson
 abbrev pub is_blank : List ℕ → Bool
 is_blank line = list_all (λ b. b == 32 || b == 9 || b == 13) line
 
+-- the cause of a line whose operation the trace refuses
 abbrev pub push_cause_of : TraceFault → LineCause
 push_cause_of faults.IdTaken = IdTaken
 push_cause_of faults.TooMany = TooMany
 push_cause_of faults.BadOp = OutOfRange
 push_cause_of faults.Memory = Memory
 
+-- what a push gives, as the reading of a line: a refusal becomes its cause
 abbrev pub push_cause : {A : Type 0} → Result A TraceFault → Result A LineCause
 push_cause (Ok x) = Ok x
 push_cause (Err fault) = Err (push_cause_of fault)
@@ -77,6 +82,7 @@ after_line ops line = if nat_lt MAX_LINE (length line) then Err LineTooLong else
 abbrev pub lines_of : List ℕ → List (List ℕ)
 lines_of bytes = slice_split (λ b. b == 10) bytes
 
+-- the reading of line n: its cause becomes a fault with the line's number
 abbrev pub at_line : {A : Type 0} → ℕ → Result A LineCause → Result A LineFault
 at_line n (Ok x) = Ok x
 at_line n (Err cause) = Err (record { line = n; cause = cause })

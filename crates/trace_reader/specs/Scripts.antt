@@ -29,6 +29,7 @@ after_requests lone requests n (line ∷ lines) = at_line n (after_request lone 
 abbrev pub is_divider : List ℕ → Bool
 is_divider line = bytes_eq line (codes "--")
 
+-- the trace with the requests that follow it, or the first fault of these
 abbrev pub with_requests : List Operation → Result (List RequestLine) LineFault → Result Script LineFault
 with_requests ops reading = reading >>= λ requests. Ok (record { trace = ops; requests = requests })
 

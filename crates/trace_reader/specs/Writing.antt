@@ -17,17 +17,21 @@ use Rattle.trace_reader.specs.declared.fault.LineCause.{LineCause}
 use Rattle.trace_reader.specs.Members.{◌>>=◌}
 use Rattle.trace_reader.specs.Reading.{json_of, read_op}
 
+-- a number as JSON, written in decimal digits: `3`
 abbrev pub natural : ℕ → Data
 natural n = number (unsigned n)
 
+-- a member that is a number, in front of others: `"id":3`
 abbrev pub number_member : List ℕ → ℕ → Members → Members
 number_member name n ms = member name (natural n) ms
 
+-- an element of `fields` as JSON: a handle's number, null for an empty pointer, or the text `me`
 abbrev pub field_data : Field → Data
 field_data (Held h) = natural h
 field_data Null = null
 field_data Me = string (codes "me")
 
+-- the elements of the array `fields`, in order
 abbrev pub fields_data : List Field → Items
 fields_data fields = items_of (map field_data fields)
 
@@ -55,6 +59,7 @@ members_before k ms = with_members (codes "a" ∷ codes "b" ∷ codes "c" ∷ co
 abbrev pub members_after : Kind → Members
 members_after k = with_members (codes "to" ∷ []) k no_members
 
+-- all members of an operation, in the order of the bytes of their names
 unfoldable pub members_of : Operation → Members
 members_of op = members_before op.kind (number_member (codes "id") op.id (member (codes "op") (string (name_text (name_of_kind op.kind))) (number_member (codes "t") op.thread (members_after op.kind))))
 

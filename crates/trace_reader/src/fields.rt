@@ -75,7 +75,7 @@ fn all_elements(
     Ok(fields)
 }
 
-// The field that an element of `new_cyclic` is in `new`, or in `new_cyclic`.
+// An element, which was read as one of `new_cyclic`, as the operation takes it: `new` takes no `me`.
 fn element_of(element: Result<Field, LineCause>, cyclic: bool) -> Result<Field, LineCause>
     ensures value { result ≡ plain cyclic element }
     ensures within { IfOk result (λ field. IsTrue (field_test cyclic field)) }

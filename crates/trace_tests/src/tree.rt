@@ -43,6 +43,22 @@ fn persistent_map(rt: HostRuntime) -> Result<(), Fail> {
     Ok(())
 }
 
+// A map that had a higher key is searched through more levels, and is the same map still.
+#[test]
+fn maps_of_other_heights_are_the_same(rt: HostRuntime) -> Result<(), Fail> {
+    let alloc = rt.alloc();
+    let five = tree_of(alloc, &[5])?;
+    let six = tree_of(alloc, &[6])?;
+    for high in [7, 300, 1_048_576] {
+        let grown = tree_of(alloc, &[5, high])?.without(alloc, high)?;
+        assert!(rt; five.same(&grown));
+        assert!(rt; grown.same(&five));
+        assert!(rt; !six.same(&grown));
+        assert!(rt; !grown.same(&six));
+    }
+    Ok(())
+}
+
 #[test]
 fn share_stands_while_the_other_changes(rt: HostRuntime) -> Result<(), Fail> {
     let alloc = rt.alloc();

@@ -21,21 +21,27 @@ pub record Member : Type 0 where
   pub name : List ℕ
   pub value : Value
 
+-- a handle's number, with the name of the member: `"from":3`
 abbrev pub handle : List ℕ → ℕ → Member
 handle name h = record { name = name; value = Handle h }
 
+-- the same, where there may be none: the `to` of `cell_swap` alone
 abbrev pub perhaps_handle : List ℕ → Option ℕ → Member
 perhaps_handle name h = record { name = name; value = PerhapsHandle h }
 
+-- a cell's number, which is always called `c`: `"c":0`
 abbrev pub cell : ℕ → Member
 cell c = record { name = codes "c"; value = Cell c }
 
+-- a field's number, from 0, which is always called `i`: `"i":0`
 abbrev pub index : ℕ → Member
 index i = record { name = codes "i"; value = Index i }
 
+-- the fields of an object that `new` makes: `"fields":[3,null]`
 abbrev pub elements : List Field → Member
 elements fields = record { name = codes "fields"; value = Fields fields }
 
+-- the fields of an object that `new_cyclic` makes: `"fields":[3,"me"]`
 abbrev pub cyclic_elements : List Field → Member
 cyclic_elements fields = record { name = codes "fields"; value = CyclicFields fields }
 
@@ -66,7 +72,7 @@ members (kind.CellCas c expected desired) = cell c ∷ handle (codes "expected")
 members (kind.CellDrop c) = cell c ∷ []
 members kind.ScopeEnd = []
 
--- the member of that name
+-- the value of the member of that name, if there is one
 abbrev pub value_of : List ℕ → List Member → Option Value
 value_of name [] = None
 value_of name (m ∷ ms) = if bytes_eq m.name name then Some m.value else value_of name ms

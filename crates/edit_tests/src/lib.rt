@@ -1,0 +1,27 @@
+//! Tests of agreement, shelves, runs, edits and the desk, through what those crates promise.
+#![tactic(auto)]
+
+#[cfg(test)]
+mod agreeing;
+#[cfg(test)]
+mod chains;
+#[cfg(test)]
+mod desk;
+#[cfg(test)]
+mod exchanges;
+#[cfg(test)]
+mod kept;
+#[cfg(test)]
+mod limits;
+#[cfg(test)]
+mod meetings;
+#[cfg(test)]
+mod random_edits;
+#[cfg(test)]
+mod relabelled;
+#[cfg(test)]
+mod runs;
+#[cfg(test)]
+mod shelves;
+#[cfg(test)]
+mod small_traces;

@@ -1,0 +1,107 @@
+//! An operation of another label: where the replay stops, and what the report says.
+use crate::small_traces::{add, add_pairs, batch, edited_alone, new, op_of};
+use leak_report::report::{report, report_of_stretches};
+use leak_report::text::text_of;
+use op_step::meter::Meter;
+use op_step::replay::replay;
+use run_engine::run::Run;
+use std::alloc::Global;
+use std::test::Fail;
+use trace_reader::read_trace;
+use trace_types::edits::Edit;
+use trace_types::kinds::{Field, Kind};
+use trace_types::ops::Op;
+use trace_types::trace::Trace;
+
+// The report of the run of a trace, where one operation has become another. The meter counts what this edit steps.
+fn reported_with(
+    alloc: Global,
+    trace: &Trace,
+    changed: Op,
+    meter: &mut Meter,
+) -> Result<String, Fail> {
+    let run = Run::load(alloc, trace, &mut Meter::new())?;
+    let edit = Edit::Change {
+        id: changed.id(),
+        op: changed,
+    };
+    let edited = edited_alone(&run, alloc, &batch(alloc, edit)?, meter)
+        .map_err(|_| Fail::from("a refusal"))?;
+    let shown = report_of_stretches(alloc, edited.stretches(alloc)?, edited.end())?;
+    Ok(text_of(alloc, &shown)?)
+}
+
+const TWO_LABELS: &str = "\
+{\"fields\":[],\"id\":1,\"op\":\"new\",\"t\":0,\"to\":0}
+{\"fields\":[],\"id\":2,\"op\":\"new\",\"t\":1,\"to\":1}
+{\"from\":1,\"id\":3,\"op\":\"clone\",\"t\":0,\"to\":2}
+{\"from\":0,\"id\":4,\"op\":\"downgrade\",\"t\":0,\"to\":3}
+{\"fields\":[2],\"id\":5,\"op\":\"new\",\"t\":0,\"to\":4}
+{\"id\":6,\"op\":\"scope_end\",\"t\":0}
+{\"id\":7,\"op\":\"scope_end\",\"t\":1}
+{\"id\":8,\"op\":\"scope_end\",\"t\":1}
+";
+
+#[test]
+fn scope_end_relabelled(rt: HostRuntime) -> Result<(), Fail> {
+    let alloc = rt.alloc();
+    let trace = read_trace(alloc, TWO_LABELS.as_bytes()).map_err(|_| Fail::from("a fault"))?;
+    let other = op_of(5, 1, new(alloc, 4, &[Field::Held(2)])?)?;
+    let text = reported_with(alloc, &trace, other, &mut Meter::new())?;
+    assert_eq!(rt;
+        text.as_str(),
+        "\
+1 new made #1 1/0
+2 new made #2 1/0
+3 clone done #2 2/0
+4 downgrade done #1 1/1
+5 new made #5 1/0
+6 scope_end done destroyed #1 freed #1
+7 scope_end done destroyed #5 freed #5 destroyed #2 freed #2
+8 scope_end done
+object 1 destroyed 6 freed 6
+object 2 destroyed 7 freed 7
+object 5 destroyed 7 freed 7
+total 8 ops 0 skipped 3 objects 0 alive 0 leaks 0 husks
+"
+    );
+    Ok(())
+}
+
+fn push(trace: &mut Trace, op: Op) -> Result<(), Fail> {
+    trace.push(op).map_err(|_| Fail::from("refused"))?;
+    Ok(())
+}
+
+// A handle of label 0 or 1, objects that come and go, and the end of the scope of label 1 far behind.
+fn far_scope_end(alloc: Global, label: u32) -> Result<Trace, Fail> {
+    let mut trace = Trace::new(alloc);
+    push(&mut trace, op_of(1, label, Kind::Null { to: 0 })?)?;
+    add_pairs(alloc, &mut trace, 2, 129)?;
+    push(&mut trace, op_of(130, 1, Kind::ScopeEnd)?)?;
+    add(&mut trace, 131, Kind::Drop { h: 0 })?;
+    Ok(trace)
+}
+
+// Two states that differ in the label of a handle alone do not agree, so that the old checkpoints are not taken.
+#[test]
+fn scopes_differ(rt: HostRuntime) -> Result<(), Fail> {
+    let alloc = rt.alloc();
+    let trace = far_scope_end(alloc, 0)?;
+    let other = op_of(1, 1, Kind::Null { to: 0 })?;
+    let mut meter = Meter::new();
+    let text = reported_with(alloc, &trace, other, &mut meter)?;
+    assert_eq!(rt; meter.count(), 131);
+    let edited = far_scope_end(alloc, 1)?;
+    let (outcomes, end) = replay(alloc, &edited, &mut Meter::new())?;
+    if outcomes.len() != edited.len() {
+        return Err(Fail::from("as many outcomes as operations"));
+    }
+    let shown = report(alloc, &edited, outcomes.as_slice(), &end)?;
+    assert!(rt; text.as_str() == text_of(alloc, &shown)?.as_str());
+    assert!(rt;
+        text.as_str()
+            .contains("\n130 scope_end done\n131 drop skipped NotHeld 0\n")
+    );
+    Ok(())
+}
