@@ -1,5 +1,6 @@
 //! A stretch of operations that was replayed from a heap.
 ghost use Rattle.std.specs.Prelude.{◌≡◌, ◌≤◌, ◌+◌, IfOk, OnOk, IsTrue, length};
+ghost use Rattle.std.specs.Arc.{arc_value};
 ghost use Rattle.trace_types.specs.Trace.{has_distinct_numbers};
 ghost use Rattle.ownership_model.specs.Step.{outcomes_from, end_from, AreUnused};
 ghost use Rattle.op_step.specs.Meter.{raised};
@@ -15,10 +16,11 @@ use trace_types::ops::Op;
 use trace_types::outcomes::Outcome;
 use trace_types::sequence::Sequence;
 
+/// Operations that were replayed, with their outcomes.
 #[derive(Drop)]
-struct Replayed {
-    ops: Vec<Op>,
-    outcomes: Sequence<Outcome>,
+pub struct Replayed {
+    pub ops: Vec<Op>,
+    pub outcomes: Sequence<Outcome>,
 }
 
 /// Operations with distinct numbers, of which no object of the start has one, with what their replay from the start
@@ -59,14 +61,27 @@ pub fn run(
     ensures never_less { meter.old ≤ meter.new }
     ensures never_more { meter.new ≤ meter.old + length ops.now }
 {
-    see_kept(start);
     let copies = copy_ops(alloc, ops)?;
-    let from = start.share()?;
-    let (outcomes, end) = replay_from(alloc, from, ops, meter)?;
-    let replayed = Replayed {
-        ops: copies,
-        outcomes,
-    };
+    run_of(alloc, start, copies, meter)
+}
+
+/// As `run`, of operations that it takes.
+pub fn run_of(
+    alloc: Global,
+    start: &Heap,
+    ops: Vec<Op>,
+    meter: &mut Meter,
+) -> Result<ChunkRun, AllocError>
+    requires distinct { IsTrue (has_distinct_numbers ops.items) }
+    requires unused { AreUnused start.now ops.items }
+    ensures chunk { IfOk result (λ c. c ≡ record { start = start.now; ops = ops.items }) }
+    ensures counted { OnOk result (meter.new ≡ raised meter.old (length ops.items)) }
+    ensures never_less { meter.old ≤ meter.new }
+    ensures never_more { meter.new ≤ meter.old + length ops.items }
+{
+    see_kept(start);
+    let (outcomes, end) = replay_from(alloc, start.share()?, &ops, meter)?;
+    let replayed = Replayed { ops, outcomes };
     Ok(ChunkRun {
         start: start.share()?,
         replayed: Arc::new(alloc, replayed)?,
@@ -108,6 +123,14 @@ impl ChunkRun {
         ensures { result.now ≡ outcomes_from self.now.start self.now.ops }
     {
         self.replayed.outcomes.as_slice()
+    }
+
+    /// The operations and their outcomes, which a share has without a copy.
+    pub fn replayed(&self) -> &Arc<Replayed>
+        ensures ops { (arc_value result.now).ops.items ≡ self.now.ops }
+        ensures outcomes { (arc_value result.now).outcomes ≡ outcomes_from self.now.start self.now.ops }
+    {
+        &self.replayed
     }
 
     /// The heap after the last operation.
