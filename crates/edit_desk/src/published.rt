@@ -1,5 +1,5 @@
 //! A version of the trace, with its run.
-ghost use Rattle.std.specs.Prelude.{◌≡◌, ◌<◌, ◌≤◌, length, IfOk, IfErr, OnErr, IsErr, Ok, Err};
+ghost use Rattle.std.specs.Prelude.{◌≡◌, ◌<◌, ◌≤◌, [], length, IfOk, IfErr, IsErr, Ok, Err};
 ghost use Rattle.run_engine.specs.Edited.{edited_by, IsFaultOf};
 ghost use Rattle.mark_shelf.specs.Shelf.{Shelf, empty_shelf};
 ghost use Rattle.run_engine.specs.GivenUp.{AreMarksKept};
@@ -85,9 +85,9 @@ pub(crate) fn revised(
     ensures empty { length batch.now ≡ 0 → result ≡ Err EmptyBatch }
     ensures too_many { 64 < length batch.now → result ≡ Err TooManyEdits }
     ensures bound { ReplaysWithin published.now.run.trace published.now.run.marks batch.now meter.old meter.new }
-    ensures stepped { IfOk result (λ r. AreSteppedFrom published.now.run.trace r.trace published.now.run.marks meter.old meter.new) }
+    ensures stepped { IfOk result (λ r. AreSteppedFrom published.now.run.trace r.trace published.now.run.marks shelf.old.chunks meter.old meter.new) }
     ensures refused { IsErr (edited_by published.now.run.trace batch.now) → meter.new ≡ meter.old }
-    ensures same_shelf { OnErr result (shelf.new ≡ shelf.old) }
+    ensures refused_shelf { IsErr (edited_by published.now.run.trace batch.now) → shelf.new ≡ shelf.old }
     ensures never_less { meter.old ≤ meter.new }
 {
     published.run.edited(alloc, batch, shelf, meter)
@@ -107,7 +107,7 @@ pub fn what_if(
     ensures empty { length batch.now ≡ 0 → result ≡ Err EmptyBatch }
     ensures too_many { 64 < length batch.now → result ≡ Err TooManyEdits }
     ensures bound { ReplaysWithin published.now.run.trace published.now.run.marks batch.now meter.old meter.new }
-    ensures stepped { IfOk result (λ r. AreSteppedFrom published.now.run.trace r.trace published.now.run.marks meter.old meter.new) }
+    ensures stepped { IfOk result (λ r. AreSteppedFrom published.now.run.trace r.trace published.now.run.marks [] meter.old meter.new) }
     ensures refused { IsErr (edited_by published.now.run.trace batch.now) → meter.new ≡ meter.old }
     ensures never_less { meter.old ≤ meter.new }
 {

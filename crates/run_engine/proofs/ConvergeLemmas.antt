@@ -17,7 +17,7 @@ use Rattle.ownership_model.proofs.LawsHold.{appends, soundness}
 use Rattle.agreement.specs.Agreement.{Agree}
 use Rattle.run_engine.proofs.SegmentLemmas.{trace_of-append, marks_from-append, AreReplayFrom-append, AreReplayFrom-back, length-trace_of-next}
 use Rattle.run_engine.proofs.ListingLemmas.{around}
-use Rattle.run_engine.proofs.PieceLemmas.{AreFull-append, AreFull-front, AreFull-back, BeginsMarked-append, mark-is}
+use Rattle.run_engine.proofs.PieceLemmas.{AreFull-append, AreFull-front, AreFull-back, BeginsMarked-append, mark-is, unused-behind}
 use Rattle.run_engine.proofs.PlaceLemmas.{Contains-one, mark_here-place, mark_here-some, marks_from-least, trace_of-parted, trace_of-back, place-within, marks_from-below}
 
 pub ShareEnd-length : (old ops : List Operation) (a b : ℕ) → ShareEnd old ops a b → length old - a ≡ length ops - b
@@ -93,10 +93,6 @@ rest-shared old ops a b i at shared place behind =
     let over : a + (at - a) ≡ at = omega arith in
     let across : b + (at - a) ≡ at - a + b = omega arith in
     trace_of-back old i at place ∙ ap (λ n. drop n (trace_of old)) (sym over) ∙ sym (drop-drop (at - a) a (trace_of old)) ∙ ap (drop (at - a)) shared.same ∙ drop-drop (at - a) b ops ∙ ap (λ n. drop n ops) across
-
--- the numbers of the operations behind a place of a trace are those of no object there
-unused-behind : (ops more : List Operation) → IsTrue (has_distinct_numbers (ops ++ more)) → AreUnused (end_from nothing_held ops) more
-unused-behind ops more distinct = appends.unused_rest nothing_held ops more soundness.start distinct (soundness.unused (ops ++ more))
 
 distinct-parted : (old : List SegmentView) (i : ℕ) → IsTrue (has_distinct_numbers (trace_of old)) → IsTrue (has_distinct_numbers (trace_of (take i old) ++ trace_of (drop i old)))
 distinct-parted old i distinct = subst (λ ops. IsTrue (has_distinct_numbers ops)) (sym (trace_of-parted old i)) distinct

@@ -8,9 +8,10 @@ use Rattle.ownership_model.specs.State.{State, nothing_held}
 use Rattle.trace_types.specs.Operation.{Operation}
 use Rattle.run_engine.specs.SegmentView.{SegmentView}
 use Rattle.trace_types.specs.declared.outcomes.Outcome.{Outcome}
-use Rattle.ownership_model.specs.Step.{end_from, outcomes_from, AreNew}
+use Rattle.ownership_model.specs.Step.{end_from, outcomes_from, AreUnused}
 use Rattle.run_engine.specs.Segments.{ops_of, trace_of, mark_here, marks_from, IsSegmentFrom, AreReplayFrom, AreFull, BeginsMarked, IsRun, IsReached, IsPiece}
-use Rattle.ownership_model.proofs.LawsHold.{appends}
+use Rattle.trace_types.specs.Trace.{has_distinct_numbers}
+use Rattle.ownership_model.proofs.LawsHold.{appends, soundness}
 use Rattle.run_engine.proofs.ListingLemmas.{around, take-shorter}
 use Rattle.run_engine.proofs.SegmentLemmas.{trace_of-append, marks_from-append, AreReplayFrom-append, AreReplayFrom-front, AreReplayFrom-back}
 
@@ -158,18 +159,22 @@ IsPiece-of-more start end ops n m len segments le h =
       marks = h.marks;
     }
 
--- operations of a part are new where the part begins
-pub new-slice_range : (ops : List Operation) (heap : State) (at to : ℕ) → AreNew nothing_held ops → heap ≡ end_from nothing_held (take at ops) → AreNew heap (slice_range ops at to)
-new-slice_range ops heap at to new is =
-    let m : State = end_from nothing_held (take at ops) in
-    let rest : AreNew m (drop at ops) = appends.new_rest nothing_held (take at ops) (drop at ops) (subst (AreNew nothing_held) (sym (take-append-drop at ops)) new) in
-    let first : AreNew m (slice_range ops at to) = appends.new_front m (slice_range ops at to) (drop (to - at) (drop at ops)) (subst (AreNew m) (sym (take-append-drop (to - at) (drop at ops))) rest) in
-    subst (λ n. AreNew n (slice_range ops at to)) (sym is) first
+-- the numbers of the operations behind a place of a trace are those of no object there
+pub unused-behind : (ops more : List Operation) → IsTrue (has_distinct_numbers (ops ++ more)) → AreUnused (end_from nothing_held ops) more
+unused-behind ops more distinct = appends.unused_rest nothing_held ops more soundness.start distinct (soundness.unused (ops ++ more))
 
--- and so are the first of them
-pub new-first : (heap : State) (ops : List Operation) (n m : ℕ) → n ≤ m → AreNew heap (take m ops) → AreNew heap (take n ops)
-new-first heap ops n m le new =
-    subst (AreNew heap) (take-shorter n m ops le) (appends.new_front heap (take n (take m ops)) (drop n (take m ops)) (subst (AreNew heap) (sym (take-append-drop n (take m ops))) new))
+-- so are those of a part, where it begins, and they are distinct
+pub distinct-slice_range : (ops : List Operation) (at to : ℕ) → IsTrue (has_distinct_numbers ops) → IsTrue (has_distinct_numbers (slice_range ops at to))
+distinct-slice_range ops at to distinct =
+    let rest : IsTrue (has_distinct_numbers (drop at ops)) = appends.distinct_rest (take at ops) (drop at ops) (subst (λ os. IsTrue (has_distinct_numbers os)) (sym (take-append-drop at ops)) distinct) in
+    appends.distinct_front (slice_range ops at to) (drop (to - at) (drop at ops)) (subst (λ os. IsTrue (has_distinct_numbers os)) (sym (take-append-drop (to - at) (drop at ops))) rest)
+
+pub unused-slice_range : (ops : List Operation) (heap : State) (at to : ℕ) → IsTrue (has_distinct_numbers ops) → heap ≡ end_from nothing_held (take at ops) → AreUnused heap (slice_range ops at to)
+unused-slice_range ops heap at to distinct is =
+    let m : State = end_from nothing_held (take at ops) in
+    let rest : AreUnused m (drop at ops) = unused-behind (take at ops) (drop at ops) (subst (λ os. IsTrue (has_distinct_numbers os)) (sym (take-append-drop at ops)) distinct) in
+    let first : AreUnused m (slice_range ops at to) = appends.unused_front m (slice_range ops at to) (drop (to - at) (drop at ops)) (subst (AreUnused m) (sym (take-append-drop (to - at) (drop at ops))) rest) in
+    subst (λ n. AreUnused n (slice_range ops at to)) (sym is) first
 
 -- one segment is a piece
 pub IsPiece-one : (start end : State) (ops : List Operation) (outcomes : List Outcome) → 0 < length ops → outcomes ≡ outcomes_from start ops → end ≡ end_from start ops

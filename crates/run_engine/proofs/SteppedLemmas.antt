@@ -1,15 +1,17 @@
 -- How many operations are stepped at least.
 use Rattle.std.proofs.Common.{◌≡◌, ℕ, ◌+◌, ◌-◌, ◌<◌, ◌≤◌, List, [], ◌∷◌, ◌++◌, length, take, drop, refl, ap, sym, subst, ◌∙◌, arith, length-append}
 use Rattle.std.specs.Prelude.{Contains, slice_range}
-use mathlib.Core.Logic.{⊎_elim}
+use mathlib.Core.Logic.{⊎_elim, inl, inr}
 use Rattle.std.proofs.lemmas.Bool.{cases_lt}
 use Rattle.trace_types.specs.Operation.{Operation}
 use Rattle.ownership_model.specs.State.{State, nothing_held}
 use Rattle.ownership_model.specs.Step.{end_from}
 use Rattle.op_step.specs.Meter.{raised}
+use Rattle.op_step.specs.Chunk.{Chunk}
+use Rattle.run_engine.specs.Memo.{IsAmong, AreSome}
 use Rattle.run_engine.specs.Bounds.{AgreesAt}
 use Rattle.std.specs.List.{AllByRecursion}
-use Rattle.run_engine.specs.Steps.{IsOldStretch, AreTaken, IsCovered, AreRising, HaveStepped, MustStep, AreStepped}
+use Rattle.run_engine.specs.Steps.{IsOldStretch, IsKnown, AreTaken, IsCovered, AreRising, HaveStepped, MustStep, AreStepped}
 use Rattle.run_engine.proofs.ListingLemmas.{take-shorter}
 
 AllByRecursion-front : (P : ℕ → Type 0) (a b : List ℕ) → AllByRecursion P (a ++ b) → AllByRecursion P a
@@ -55,41 +57,46 @@ narrowed : (ps : List ℕ) (from to x : ℕ) → AreRising from to ps → AllByR
 narrowed [] from to x h k = tt
 narrowed (p ∷ ps) from to x h k = (h.0, k.0, narrowed ps (p + 1) to x h.2 k.1)
 
-none-covered : (old ops : List Operation) (marks : List ℕ) (at len : ℕ) (ps : List ℕ) → IsOldStretch old marks (end_from nothing_held (take at ops)) (drop at ops) len
-    → AreRising at (at + len) ps → AllByRecursion (λ p. IsCovered old ops marks p → ⊥) ps → length ps ≡ 0
-none-covered old ops marks at len [] stretch h bare = refl
-none-covered old ops marks at len (p ∷ ps) stretch h bare = absurd (bare.0 (record { at = at; len = len; from_there = h.0; before_end = h.1; stretch = stretch }))
+none-covered : (old ops : List Operation) (marks : List ℕ) (chunks : List (ℕ × Chunk)) (at len : ℕ) (ps : List ℕ) → IsKnown old marks chunks (end_from nothing_held (take at ops)) (drop at ops) len
+    → AreRising at (at + len) ps → AllByRecursion (λ p. IsCovered old ops marks chunks p → ⊥) ps → length ps ≡ 0
+none-covered old ops marks chunks at len [] stretch h bare = refl
+none-covered old ops marks chunks at len (p ∷ ps) stretch h bare = absurd (bare.0 (record { at = at; len = len; from_there = h.0; before_end = h.1; stretch = stretch }))
 
-pub HaveStepped-none : (old ops : List Operation) (marks : List ℕ) (r before : ℕ) → HaveStepped old ops marks r r before before
-HaveStepped-none old ops marks r before ps h bare = let few : r + length ps ≤ r = rising-few ps r r (omega arith) h in omega arith
+pub HaveStepped-none : (old ops : List Operation) (marks : List ℕ) (chunks : List (ℕ × Chunk)) (r before : ℕ) → HaveStepped old ops marks chunks r r before before
+HaveStepped-none old ops marks chunks r before ps h bare = let few : r + length ps ≤ r = rising-few ps r r (omega arith) h in omega arith
 
--- what is said of a part of the operations holds of all from there on
-wider : (old : List Operation) (marks : List ℕ) (start heap : State) (ops : List Operation) (at to len : ℕ) → heap ≡ start → len ≤ to - at
-    → IsOldStretch old marks heap (slice_range ops at to) len → IsOldStretch old marks start (drop at ops) len
-wider old marks start heap ops at to len is le h = record { place = h.place; start_is = sym is ∙ h.start_is; ops_are = h.ops_are ∙ take-shorter len (to - at) (drop at ops) le }
+-- what is known of a part of the operations is known of all from there on, and to whoever has more chunks
+wider : (old : List Operation) (marks : List ℕ) (some chunks : List (ℕ × Chunk)) (start heap : State) (ops : List Operation) (at to len : ℕ) → heap ≡ start → len ≤ to - at
+    → AreSome some chunks → IsKnown old marks some heap (slice_range ops at to) len → IsKnown old marks chunks start (drop at ops) len
+wider old marks some chunks start heap ops at to len is le all known = ⊎_elim
+    (λ (h : IsOldStretch old marks heap (slice_range ops at to) len). inl (record { place = h.place; start_is = sym is ∙ h.start_is; ops_are = h.ops_are ∙ take-shorter len (to - at) (drop at ops) le }))
+    (λ (h : IsAmong some heap (take len (slice_range ops at to))).
+    let same : record { start = heap; ops = take len (slice_range ops at to) } ≡ record { start = start; ops = take len (drop at ops) } = λ i. record { start = is i; ops = take-shorter len (to - at) (drop at ops) le i } in
+    inr (h.0, all (h.0, record { start = start; ops = take len (drop at ops) }) (subst (λ (d : Chunk). Contains some (h.0, d)) same h.1)))
+    known
 
-pub HaveStepped-next : (old ops : List Operation) (marks : List ℕ) (heap : State) (r at to len before count counted : ℕ) → heap ≡ end_from nothing_held (take at ops) → len ≤ to - at
-    → AreTaken old marks heap (slice_range ops at to) len count counted → HaveStepped old ops marks r at before count → HaveStepped old ops marks r (at + len) before counted
-HaveStepped-next old ops marks heap r at to len before count counted is le taken h ps rising bare =
+pub HaveStepped-next : (old ops : List Operation) (marks : List ℕ) (some chunks : List (ℕ × Chunk)) (heap : State) (r at to len before count counted : ℕ) → heap ≡ end_from nothing_held (take at ops) → len ≤ to - at
+    → AreSome some chunks → AreTaken old marks some heap (slice_range ops at to) len count counted → HaveStepped old ops marks chunks r at before count → HaveStepped old ops marks chunks r (at + len) before counted
+HaveStepped-next old ops marks some chunks heap r at to len before count counted is le all taken h ps rising bare =
     let parts : IsSplit r at (at + len) ps = split ps r at (at + len) rising in
-    let both : AllByRecursion (λ p. IsCovered old ops marks p → ⊥) (parts.front ++ parts.back) = subst (AllByRecursion (λ p. IsCovered old ops marks p → ⊥)) parts.whole bare in
-    let first : raised before (length parts.front) ≤ count = h parts.front parts.before (AllByRecursion-front (λ p. IsCovered old ops marks p → ⊥) parts.front parts.back both) in
+    let both : AllByRecursion (λ p. IsCovered old ops marks chunks p → ⊥) (parts.front ++ parts.back) = subst (AllByRecursion (λ p. IsCovered old ops marks chunks p → ⊥)) parts.whole bare in
+    let first : raised before (length parts.front) ≤ count = h parts.front parts.before (AllByRecursion-front (λ p. IsCovered old ops marks chunks p → ⊥) parts.front parts.back both) in
     let few : at + length parts.back ≤ at + len = rising-few parts.back at (at + len) (omega arith) parts.behind in
     let long : length ps ≡ length parts.front + length parts.back = ap length parts.whole ∙ length-append parts.front parts.back in
     ⊎_elim
-    (λ (t : IsOldStretch old marks heap (slice_range ops at to) len × (counted ≡ count)).
-    let none : length parts.back ≡ 0 = none-covered old ops marks at len parts.back (wider old marks (end_from nothing_held (take at ops)) heap ops at to len is le t.0) parts.behind (AllByRecursion-back (λ p. IsCovered old ops marks p → ⊥) parts.front parts.back both) in
+    (λ (t : IsKnown old marks some heap (slice_range ops at to) len × (counted ≡ count)).
+    let none : length parts.back ≡ 0 = none-covered old ops marks chunks at len parts.back (wider old marks some chunks (end_from nothing_held (take at ops)) heap ops at to len is le all t.0) parts.behind (AllByRecursion-back (λ p. IsCovered old ops marks chunks p → ⊥) parts.front parts.back both) in
     let same : counted ≡ count = t.1 in
     omega arith)
     (λ (e : counted ≡ raised count len). omega arith)
     taken
 
-pub AreStepped-stop : (old ops : List Operation) (marks : List ℕ) (a b r x q before after : ℕ) → x ≡ q - a + b → Contains marks q → a ≤ q → AgreesAt old ops a b q
-    → HaveStepped old ops marks r x before after → AreStepped old ops a b marks r before after
-AreStepped-stop old ops marks a b r x q before after there mark behind agrees h ps rising must =
-    h ps (narrowed ps r (length ops) x rising (AllByRecursion-map (MustStep old ops a b marks) (λ p. p < x) (λ p m. let lt : p < q - a + b = m.early q mark behind agrees in omega arith) ps must))
-    (AllByRecursion-map (MustStep old ops a b marks) (λ p. IsCovered old ops marks p → ⊥) (λ p m. m.bare) ps must)
+pub AreStepped-stop : (old ops : List Operation) (marks : List ℕ) (chunks : List (ℕ × Chunk)) (a b r x q before after : ℕ) → x ≡ q - a + b → Contains marks q → a ≤ q → AgreesAt old ops a b q
+    → HaveStepped old ops marks chunks r x before after → AreStepped old ops a b marks chunks r before after
+AreStepped-stop old ops marks chunks a b r x q before after there mark behind agrees h ps rising must =
+    h ps (narrowed ps r (length ops) x rising (AllByRecursion-map (MustStep old ops a b marks chunks) (λ p. p < x) (λ p m. let lt : p < q - a + b = m.early q mark behind agrees in omega arith) ps must))
+    (AllByRecursion-map (MustStep old ops a b marks chunks) (λ p. IsCovered old ops marks chunks p → ⊥) (λ p m. m.bare) ps must)
 
-pub AreStepped-end : (old ops : List Operation) (marks : List ℕ) (a b r x before after : ℕ) → x ≡ length ops → HaveStepped old ops marks r x before after → AreStepped old ops a b marks r before after
-AreStepped-end old ops marks a b r x before after there h ps rising must =
-    h ps (subst (λ n. AreRising r n ps) (sym there) rising) (AllByRecursion-map (MustStep old ops a b marks) (λ p. IsCovered old ops marks p → ⊥) (λ p m. m.bare) ps must)
+pub AreStepped-end : (old ops : List Operation) (marks : List ℕ) (chunks : List (ℕ × Chunk)) (a b r x before after : ℕ) → x ≡ length ops → HaveStepped old ops marks chunks r x before after → AreStepped old ops a b marks chunks r before after
+AreStepped-end old ops marks chunks a b r x before after there h ps rising must =
+    h ps (subst (λ n. AreRising r n ps) (sym there) rising) (AllByRecursion-map (MustStep old ops a b marks chunks) (λ p. IsCovered old ops marks chunks p → ⊥) (λ p m. m.bare) ps must)

@@ -11,6 +11,7 @@ use Rattle.mark_shelf.specs.Shelf.{Shelf}
 use Rattle.run_engine.specs.RunView.{RunView}
 use Rattle.run_engine.specs.Segments.{without, IsInner}
 use Rattle.run_engine.specs.NewMarks.{AreMarksAfter}
+use Rattle.run_engine.specs.Memo.{HasSameNames}
 use Rattle.run_engine.specs.GivenUp.{AreTouches, given_up, names_at, between, IsTouched, AreMarksKept}
 
 given_up-append : (trace : List Operation) (marks more less : List ℕ) → fold (given_up trace) marks (more ++ less) ≡ fold (given_up trace) (fold (given_up trace) marks more) less
@@ -60,11 +61,13 @@ pub IsTouched-next : (r s t : RunView) (a b c : Shelf) (names : List ℕ) (i : �
 IsTouched-next r s t a b c names i lt h k = subst (IsTouched r t a c) (sym (take_more names i 0 lt)) (IsTouched-append r s t a b c (take i names) (get_or names i 0 ∷ []) h k)
 
 -- the checkpoints of an edited trace after the touches
-pub AreMarksKept-touched : (old all new : RunView) (shelf after : Shelf) (from to : ℕ) → AreMarksAfter old all from to → IsTouched all new shelf after (names_at all.trace (between from to all.marks)) → AreMarksKept old new shelf after
-AreMarksKept-touched old all new shelf after from to marks h = record {
+pub AreMarksKept-touched : (old all new : RunView) (shelf mid after : Shelf) (from to : ℕ) → HasSameNames shelf mid → AreMarksAfter old all from to → IsTouched all new mid after (names_at all.trace (between from to all.marks)) → AreMarksKept old new shelf after
+AreMarksKept-touched old all new shelf mid after from to same marks h = record {
+  between_them = mid;
+  same_names = same;
   all = all.marks;
   from = from;
   to = to;
   replayed = subst (λ ops. AreMarksAfter old (record { trace = ops; marks = all.marks }) from to) (sym h.trace) marks;
-  touched = subst (λ ops. IsTouched (record { trace = ops; marks = all.marks }) new shelf after (names_at ops (between from to all.marks))) (sym h.trace) h;
+  touched = subst (λ ops. IsTouched (record { trace = ops; marks = all.marks }) new mid after (names_at ops (between from to all.marks))) (sym h.trace) h;
 }

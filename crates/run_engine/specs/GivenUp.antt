@@ -7,6 +7,7 @@ use Rattle.mark_shelf.specs.Shelf.{Shelf, Touches}
 use Rattle.run_engine.specs.RunView.{RunView}
 use Rattle.run_engine.specs.Segments.{without}
 use Rattle.run_engine.specs.NewMarks.{AreMarksAfter}
+use Rattle.run_engine.specs.Memo.{HasSameNames}
 
 -- touches of these names in turn, and the names that they answered
 abbrev pub AreTouches : Shelf → List ℕ → List ℕ → Shelf → Type 0
@@ -38,10 +39,13 @@ abbrev pub between : ℕ → ℕ → List ℕ → List ℕ
 between from to marks = filter (λ p. nat_le from p && nat_le p to) marks
 
 -- the checkpoints of the run of an edited trace, with a shelf before and after: of all that the replay leaves, those are given up whose names
--- are answered as the shelf is touched with the names of the restart, of the new ones in order, and so of the stop
+-- are answered as the shelf, which has looked for chunks and remembered others, is touched with the names of the restart, of the new ones in
+-- order, and so of the stop
 pub record AreMarksKept (old new : RunView) (shelf after : Shelf) : Type 0 where
   pub all : List ℕ
   pub from : ℕ
   pub to : ℕ
+  pub between_them : Shelf
+  pub same_names : HasSameNames shelf between_them
   pub replayed : AreMarksAfter old (record { trace = new.trace; marks = all }) from to
-  pub touched : IsTouched (record { trace = new.trace; marks = all }) new shelf after (names_at new.trace (between from to all))
+  pub touched : IsTouched (record { trace = new.trace; marks = all }) new between_them after (names_at new.trace (between from to all))

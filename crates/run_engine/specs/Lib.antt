@@ -10,6 +10,7 @@ pub mod RunView
 pub mod HeadAndTail
 pub mod Bounds
 pub mod NewMarks
+pub mod Memo
 pub mod Steps
 pub mod GivenUp
 pub mod Loaded

@@ -8,7 +8,9 @@ use Rattle.op_step.specs.Meter.{raised}
 use Rattle.run_engine.specs.HeadAndTail.{AreShared}
 use Rattle.run_engine.specs.Marks.{IsGreatest}
 use Rattle.run_engine.specs.Bounds.{AgreesAt}
+use Rattle.op_step.specs.Chunk.{Chunk}
 use Rattle.run_engine.specs.NewMarks.{AreNeighbours}
+use Rattle.run_engine.specs.Memo.{IsAmong}
 
 -- an old stretch between neighbouring checkpoints begins with the state, and has the first `len` of the operations
 pub record IsOldStretch (old : List Operation) (marks : List ℕ) (start : State) (ops : List Operation) (len : ℕ) : Type 0 where
@@ -16,39 +18,43 @@ pub record IsOldStretch (old : List Operation) (marks : List ℕ) (start : State
   pub start_is : start ≡ end_from nothing_held (take place.at old)
   pub ops_are : take len (drop place.at old) ≡ take len ops
 
--- of the first `len` operations none is stepped, since an old stretch has them, or each one
-abbrev pub AreTaken : List Operation → List ℕ → State → List Operation → ℕ → ℕ → ℕ → Type 0
-AreTaken old marks start ops len before after = (IsOldStretch old marks start ops len × (after ≡ before)) ⊎ (after ≡ raised before len)
+-- an old stretch begins with the state and has the first `len` of the operations, or one of the chunks does
+abbrev pub IsKnown : List Operation → List ℕ → List (ℕ × Chunk) → State → List Operation → ℕ → Type 0
+IsKnown old marks chunks start ops len = IsOldStretch old marks start ops len ⊎ IsAmong chunks start (take len ops)
 
--- the operation at p of the edited trace lies in a stretch that begins and goes on as an old one
-pub record IsCovered (old ops : List Operation) (marks : List ℕ) (p : ℕ) : Type 0 where
+-- of the first `len` operations none is stepped, since they are known, or each one
+abbrev pub AreTaken : List Operation → List ℕ → List (ℕ × Chunk) → State → List Operation → ℕ → ℕ → ℕ → Type 0
+AreTaken old marks chunks start ops len before after = (IsKnown old marks chunks start ops len × (after ≡ before)) ⊎ (after ≡ raised before len)
+
+-- the operation at p of the edited trace lies in a stretch that is known
+pub record IsCovered (old ops : List Operation) (marks : List ℕ) (chunks : List (ℕ × Chunk)) (p : ℕ) : Type 0 where
   pub at : ℕ
   pub len : ℕ
   pub from_there : at ≤ p
   pub before_end : p < at + len
-  pub stretch : IsOldStretch old marks (end_from nothing_held (take at ops)) (drop at ops) len
+  pub stretch : IsKnown old marks chunks (end_from nothing_held (take at ops)) (drop at ops) len
 
 -- the positions rise, from `from` on and below `to`
 abbrev pub AreRising : ℕ → ℕ → List ℕ → Type 0
 AreRising from to [] = Unit {0}
 AreRising from to (p ∷ ps) = (from ≤ p) × (p < to) × AreRising (p + 1) to ps
 
--- as many operations were stepped as there are from r to `at` that no old stretch covers
-abbrev pub HaveStepped : List Operation → List Operation → List ℕ → ℕ → ℕ → ℕ → ℕ → Type 0
-HaveStepped old ops marks r at before after =
-    (ps : List ℕ) → AreRising r at ps → AllByRecursion (λ p. IsCovered old ops marks p → ⊥) ps → raised before (length ps) ≤ after
+-- as many operations were stepped as there are from r to `at` that are not covered
+abbrev pub HaveStepped : List Operation → List Operation → List ℕ → List (ℕ × Chunk) → ℕ → ℕ → ℕ → ℕ → Type 0
+HaveStepped old ops marks chunks r at before after =
+    (ps : List ℕ) → AreRising r at ps → AllByRecursion (λ p. IsCovered old ops marks chunks p → ⊥) ps → raised before (length ps) ≤ after
 
--- the operation at p of the edited trace is before each place where the replay may stop, and no old stretch covers it
-pub record MustStep (old ops : List Operation) (a b : ℕ) (marks : List ℕ) (p : ℕ) : Type 0 where
+-- the operation at p of the edited trace is before each place where the replay may stop, and is not covered
+pub record MustStep (old ops : List Operation) (a b : ℕ) (marks : List ℕ) (chunks : List (ℕ × Chunk)) (p : ℕ) : Type 0 where
   pub early : (q : ℕ) → Contains marks q → a ≤ q → AgreesAt old ops a b q → p < q - a + b
-  pub bare : IsCovered old ops marks p → ⊥
+  pub bare : IsCovered old ops marks chunks p → ⊥
 
 -- each such operation from r on was stepped
-abbrev pub AreStepped : List Operation → List Operation → ℕ → ℕ → List ℕ → ℕ → ℕ → ℕ → Type 0
-AreStepped old ops a b marks r before after =
-    (ps : List ℕ) → AreRising r (length ops) ps → AllByRecursion (MustStep old ops a b marks) ps → raised before (length ps) ≤ after
+abbrev pub AreStepped : List Operation → List Operation → ℕ → ℕ → List ℕ → List (ℕ × Chunk) → ℕ → ℕ → ℕ → Type 0
+AreStepped old ops a b marks chunks r before after =
+    (ps : List ℕ) → AreRising r (length ops) ps → AllByRecursion (MustStep old ops a b marks chunks) ps → raised before (length ps) ≤ after
 
 -- the same from the greatest checkpoint at or before the head
-abbrev pub AreSteppedFrom : List Operation → List Operation → List ℕ → ℕ → ℕ → Type 0
-AreSteppedFrom old ops marks before after =
-    (head tail r : ℕ) → AreShared old ops head tail → IsGreatest marks head r → AreStepped old ops (length old - tail) (length ops - tail) marks r before after
+abbrev pub AreSteppedFrom : List Operation → List Operation → List ℕ → List (ℕ × Chunk) → ℕ → ℕ → Type 0
+AreSteppedFrom old ops marks chunks before after =
+    (head tail r : ℕ) → AreShared old ops head tail → IsGreatest marks head r → AreStepped old ops (length old - tail) (length ops - tail) marks chunks r before after

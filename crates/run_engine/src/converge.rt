@@ -1,93 +1,124 @@
 //! A replay beside an old one, as far as the two come together.
-ghost use Rattle.std.specs.Prelude.{◌≡◌, ℕ, List, ◌++◌, ◌+◌, ◌-◌, ◌^◌, ◌<◌, ◌≤◌, IfOk, length, slice_range};
-ghost use Rattle.ownership_model.specs.State.{nothing_held};
-ghost use Rattle.ownership_model.specs.Step.{AreNew};
+ghost use Rattle.std.specs.Prelude.{◌≡◌, ℕ, List, ◌++◌, ◌+◌, ◌<◌, ◌≤◌, IfOk, length, slice_range};
 ghost use Rattle.trace_types.specs.Trace.{IsTrace};
+ghost use Rattle.op_step.specs.Chunk.{Chunk};
 ghost use Rattle.run_engine.specs.Segments.{trace_of, marks_from, all_marks, IsRun, IsReached, IsPiece};
 ghost use Rattle.run_engine.specs.Revision.{IsRevision};
 ghost use Rattle.run_engine.specs.HeadAndTail.{ShareEnd};
 ghost use Rattle.run_engine.specs.Bounds.{StepsAtMost};
 ghost use Rattle.run_engine.specs.NewMarks.{AreLaid, AreMarksOf, IsGap};
+ghost use Rattle.run_engine.specs.Memo.{IsSearched, AreSome};
 ghost use Rattle.run_engine.specs.Steps.{AreTaken, HaveStepped, AreStepped};
 
-use crate::piece::{Piece, joined, stepped_up_to};
+use crate::piece::{Piece, STRIDE, found, joined, stepped};
 use crate::rejoin::rejoined;
 use crate::revision::Revision;
 use crate::segment::{Segment, append};
 use crate::stretch::old_stretch;
+use mark_shelf::MarkShelf;
 use object_heap::heap::Heap;
 use op_step::meter::Meter;
 use std::alloc::{AllocError, Global};
 
-// What a replay goes on with: an old stretch, if one may serve, or else operations that are stepped.
+/// Where the operations begin that both traces end with, in the old trace and in the edited one.
+#[derive(Clone, Copy)]
+pub struct Seam {
+    pub old: usize,
+    pub new: usize,
+}
+
+// How far a replay is to go on, and whether old stretches may serve on the way.
+#[derive(Clone, Copy)]
+struct Leg {
+    to: usize,
+    may_serve: bool,
+}
+
+// What a replay goes on with: a chunk that the shelf has of the operations up to the next cut, an old stretch, if one may serve, or
+// else those operations, which are stepped.
 fn next_piece(
     alloc: Global,
     revision: &Revision,
     front: &Piece,
-    to: usize,
-    may_serve: bool,
+    leg: Leg,
+    shelf: &mut MarkShelf,
     meter: &mut Meter,
 ) -> Result<Piece, AllocError>
     requires revision { IsRevision revision.now }
-    requires some { front.now.len < to }
-    requires within { to ≤ length revision.now.ops.now.ops }
-    requires new { AreNew front.now.end (slice_range revision.now.ops.now.ops front.now.len to) }
-    ensures piece { IfOk result (λ p. IsPiece front.now.end (slice_range revision.now.ops.now.ops front.now.len to) p.segments.items p.end p.len) }
+    requires some { front.now.len < leg.to }
+    requires within { leg.to ≤ length revision.now.ops.now.ops }
+    requires front { IsReached revision.now.ops.now.ops front.now.len front.now.segments.items front.now.end }
+    requires trace { IsTrace revision.now.ops.now.ops }
+    ensures piece { IfOk result (λ p. IsPiece front.now.end (slice_range revision.now.ops.now.ops front.now.len leg.to) p.segments.items p.end p.len) }
     ensures gap { IfOk result (λ p. IsGap (all_marks revision.now.segments.now) p.len) }
     ensures steps { IfOk result (λ p. meter.new ≤ meter.old + p.len) }
-    ensures taken { IfOk result (λ p. AreTaken (trace_of revision.now.segments.now) (all_marks revision.now.segments.now) front.now.end (slice_range revision.now.ops.now.ops front.now.len to) p.len meter.old meter.new) }
+    ensures taken { IfOk result (λ p. AreTaken (trace_of revision.now.segments.now) (all_marks revision.now.segments.now) shelf.old.chunks front.now.end (slice_range revision.now.ops.now.ops front.now.len leg.to) p.len meter.old meter.new) }
+    ensures searched { IsSearched shelf.old shelf.new }
     ensures never_less { meter.old ≤ meter.new }
-    ensures rise { meter.new + front.now.len ≤ meter.old + to }
+    ensures rise { meter.new + front.now.len ≤ meter.old + leg.to }
 {
-    if may_serve {
-        let found = old_stretch(alloc, revision, &front.end, front.len, to)?;
-        if let Some(piece) = found {
+    let len = (leg.to - front.len).min(STRIDE);
+    let next = revision.ops.copies(alloc, front.len, front.len + len)?;
+    let known = found(alloc, &front.end, &next, shelf)?;
+    if let Some(piece) = known {
+        return Ok(piece);
+    }
+    if leg.may_serve {
+        let stretch = old_stretch(alloc, revision, &front.end, front.len, leg.to)?;
+        if let Some(piece) = stretch {
             return Ok(piece);
         }
     }
-    let piece = stepped_up_to(alloc, &front.end, revision.ops, front.len, to, meter)?;
+    let piece = stepped(alloc, &front.end, next, meter)?;
     Ok(piece)
 }
 
-// Goes on with the replay up to the position `to`. Old stretches are looked for where they may serve.
+// Goes on with the replay to the end of the leg.
 fn advance(
     alloc: Global,
     revision: &Revision,
     front: Piece,
-    to: usize,
-    may_serve: bool,
+    leg: Leg,
+    shelf: &mut MarkShelf,
     meter: &mut Meter,
 ) -> Result<Piece, AllocError>
     requires revision { IsRevision revision.now }
     requires front { IsReached revision.now.ops.now.ops front.len front.segments.items front.end }
-    requires order { front.len ≤ to }
-    requires within { to ≤ length revision.now.ops.now.ops }
-    requires new { AreNew nothing_held revision.now.ops.now.ops }
+    requires order { front.len ≤ leg.to }
+    requires within { leg.to ≤ length revision.now.ops.now.ops }
+    requires trace { IsTrace revision.now.ops.now.ops }
     ensures front { IfOk result (λ f. IsReached revision.now.ops.now.ops f.len f.segments.items f.end) }
-    ensures there { IfOk result (λ f. f.len ≡ to) }
+    ensures there { IfOk result (λ f. f.len ≡ leg.to) }
+    ensures searched { IsSearched shelf.old shelf.new }
     ensures never_less { meter.old ≤ meter.new }
-    ensures rise { meter.new + front.len ≤ meter.old + to }
-    ensures stepped { (r before : ℕ) → HaveStepped (trace_of revision.now.segments.now) revision.now.ops.now.ops (all_marks revision.now.segments.now) r front.len before meter.old → IfOk result (λ f. HaveStepped (trace_of revision.now.segments.now) revision.now.ops.now.ops (all_marks revision.now.segments.now) r f.len before meter.new) }
+    ensures rise { meter.new + front.len ≤ meter.old + leg.to }
+    ensures stepped { (r before : ℕ) (chunks : List (ℕ × Chunk)) → HaveStepped (trace_of revision.now.segments.now) revision.now.ops.now.ops (all_marks revision.now.segments.now) chunks r front.len before meter.old → AreSome shelf.old.chunks chunks → IfOk result (λ f. HaveStepped (trace_of revision.now.segments.now) revision.now.ops.now.ops (all_marks revision.now.segments.now) chunks r f.len before meter.new) }
     ensures marks { (kept : List ℕ) (r : ℕ) → AreLaid (all_marks revision.now.segments.now) kept r front.len (marks_from 0 front.segments.items) → IfOk result (λ f. AreLaid (all_marks revision.now.segments.now) kept r f.len (marks_from 0 f.segments.items)) }
 {
     let mut front = front;
-    while front.len < to {
-        let piece = next_piece(alloc, revision, &front, to, may_serve, meter)?;
+    while front.len < leg.to {
+        let piece = next_piece(alloc, revision, &front, leg, shelf, meter)?;
         front = joined(front, piece)?;
     }
     Ok(front)
 }
 
 // The segments of the front, and then others.
-fn spliced(front: Piece, rest: Vec<Segment>) -> Result<Vec<Segment>, AllocError>
-    ensures { IfOk result (λ v. v.items ≡ front.segments.items ++ rest.items) }
+fn spliced(front: Piece, rest: Vec<Segment>, end: Heap, len: usize) -> Result<Piece, AllocError>
+    ensures segments { IfOk result (λ p. p.segments.items ≡ front.segments.items ++ rest.items) }
+    ensures end { IfOk result (λ p. p.end ≡ end) }
 {
     let mut segments = front.segments;
     append(&mut segments, rest)?;
-    Ok(segments)
+    Ok(Piece {
+        segments,
+        end,
+        len,
+        fresh: front.fresh,
+    })
 }
 
-/// Goes on with the replay to its end, or to the first old checkpoint at or behind `a` where the heaps agree. The last
+/// Goes on with the replay to its end, or to the first old checkpoint at or behind the seam where the heaps agree. The
 /// number is where that checkpoint stands in the old trace, or the old trace ends.
 ///
 /// From there on each operation has its old neighbours, so that behind a checkpoint with another heap no old stretch serves.
@@ -95,42 +126,52 @@ pub fn converge(
     alloc: Global,
     revision: &Revision,
     front: Piece,
-    a: usize,
-    b: usize,
+    seam: Seam,
+    shelf: &mut MarkShelf,
     meter: &mut Meter,
-) -> Result<(Vec<Segment>, Heap, usize), AllocError>
+) -> Result<(Piece, usize), AllocError>
     requires revision { IsRevision revision.now }
     requires old_trace { IsTrace (trace_of revision.now.segments.now) }
     requires front { IsReached revision.now.ops.now.ops front.len front.segments.items front.end }
-    requires shared { ShareEnd (trace_of revision.now.segments.now) revision.now.ops.now.ops a b }
-    requires order { front.len ≤ b }
+    requires shared { ShareEnd (trace_of revision.now.segments.now) revision.now.ops.now.ops seam.old seam.new }
+    requires order { front.len ≤ seam.new }
     requires trace { IsTrace revision.now.ops.now.ops }
-    ensures run { IfOk result (λ r. IsRun r.0.items r.1) }
-    ensures trace { IfOk result (λ r. trace_of r.0.items ≡ revision.now.ops.now.ops) }
-    ensures marks { IfOk result (λ r. AreMarksOf (trace_of revision.now.segments.now) revision.now.ops.now.ops (marks_from 0 front.segments.items) (all_marks revision.now.segments.now) (all_marks r.0.items) front.len a b r.2) }
-    ensures bound { StepsAtMost (trace_of revision.now.segments.now) revision.now.ops.now.ops a b (all_marks revision.now.segments.now) front.len meter.old meter.new }
-    ensures stepped { IfOk result (λ _. AreStepped (trace_of revision.now.segments.now) revision.now.ops.now.ops a b (all_marks revision.now.segments.now) front.len meter.old meter.new) }
+    ensures run { IfOk result (λ r. IsRun r.0.segments.items r.0.end) }
+    ensures trace { IfOk result (λ r. trace_of r.0.segments.items ≡ revision.now.ops.now.ops) }
+    ensures marks { IfOk result (λ r. AreMarksOf (trace_of revision.now.segments.now) revision.now.ops.now.ops (marks_from 0 front.segments.items) (all_marks revision.now.segments.now) (all_marks r.0.segments.items) front.len seam.old seam.new r.1) }
+    ensures bound { StepsAtMost (trace_of revision.now.segments.now) revision.now.ops.now.ops seam.old seam.new (all_marks revision.now.segments.now) front.len meter.old meter.new }
+    ensures stepped { IfOk result (λ _. AreStepped (trace_of revision.now.segments.now) revision.now.ops.now.ops seam.old seam.new (all_marks revision.now.segments.now) shelf.old.chunks front.len meter.old meter.new) }
+    ensures searched { IsSearched shelf.old shelf.new }
     ensures never_less { meter.old ≤ meter.new }
 {
     let old = revision.segments;
     let mut front = front;
-    let (first, mut at) = revision.last_from(a);
+    let (first, mut at) = revision.last_from(seam.old);
     let mut seen = None;
     let mut apart = false;
     for i in first..old.len() {
         let segment = &old[i];
-        if at >= a {
+        if at >= seam.old {
             if let Some(mark) = segment.mark() {
-                front = advance(alloc, revision, front, at - a + b, !apart, meter)?;
+                let leg = Leg {
+                    to: at - seam.old + seam.new,
+                    may_serve: !apart,
+                };
+                front = advance(alloc, revision, front, leg, shelf, meter)?;
                 let found = rejoined(alloc, &front.end, mark, &old[i..], revision.end, &mut seen)?;
                 if let Some((rest, end)) = found {
-                    return Ok((spliced(front, rest)?, end, at));
+                    let len = revision.ops.len();
+                    return Ok((spliced(front, rest, end, len)?, at));
                 }
                 apart = true;
             }
         }
         at += segment.ops().len();
     }
-    front = advance(alloc, revision, front, revision.ops.len(), !apart, meter)?;
-    Ok((front.segments, front.end, at))
+    let leg = Leg {
+        to: revision.ops.len(),
+        may_serve: !apart,
+    };
+    front = advance(alloc, revision, front, leg, shelf, meter)?;
+    Ok((front, at))
 }

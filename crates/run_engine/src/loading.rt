@@ -8,11 +8,11 @@ ghost use Rattle.run_engine.specs.RunView.{RunView};
 ghost use Rattle.run_engine.specs.GivenUp.{given_up, name_at, names_at, IsTouched};
 ghost use Rattle.run_engine.specs.Loaded.{is_gone, kept_below, loaded_view};
 
-use crate::piece::{Piece, STRIDE, joined, stepped};
+use crate::piece::{Piece, STRIDE, joined};
 use crate::seek::clear_mark;
 use mark_shelf::MarkShelf;
 use object_heap::heap::Heap;
-use op_step::chunk_run::copy_ops;
+use op_step::chunk_run::{copy_ops, run_of};
 use op_step::meter::Meter;
 use std::alloc::{AllocError, Global};
 use trace_types::ops::Op;
@@ -36,14 +36,15 @@ pub fn loaded(
         segments: Vec::new(alloc),
         end: Heap::empty(),
         len: 0,
+        fresh: Vec::new(alloc),
     };
     while front.len < ops.len() {
         let at = front.len;
         let i = front.segments.as_slice().len();
         let to = at + (ops.len() - at).min(STRIDE);
         let copies = copy_ops(alloc, &ops[at..to])?;
-        let piece = stepped(alloc, &front.end, copies, meter)?;
-        front = joined(front, piece)?;
+        let chunk = run_of(alloc, &front.end, copies, meter)?;
+        front = joined(front, Piece::of(alloc, &chunk)?)?;
         if is_gone(gone, at) {
             clear_mark(&mut front.segments, i);
         }

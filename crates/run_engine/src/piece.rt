@@ -1,27 +1,48 @@
 //! Pieces of a replay.
-ghost use Rattle.std.specs.Prelude.{◌≡◌, ◌++◌, ◌+◌, ◌-◌, ◌^◌, ◌<◌, ◌≤◌, IfOk, length, slice_range};
-ghost use Rattle.ownership_model.specs.Step.{AreNew};
+ghost use Rattle.std.specs.Prelude.{◌≡◌, ◌++◌, ◌+◌, ◌^◌, ◌<◌, ◌≤◌, IfOk, IfSome, IsTrue, length};
+ghost use Rattle.trace_types.specs.Trace.{has_distinct_numbers};
+ghost use Rattle.ownership_model.specs.Step.{AreUnused};
 ghost use Rattle.op_step.specs.Meter.{raised};
 ghost use Rattle.run_engine.specs.Segments.{IsPiece};
+ghost use Rattle.run_engine.specs.Memo.{IsAmong, IsSearched};
 
-use crate::listing::Listing;
 use crate::segment::{Segment, append};
-use agreement::checkpoint::Checkpoint;
+use mark_shelf::MarkShelf;
+use mark_shelf::laws::finds_what_was_there;
 use object_heap::heap::Heap;
+use op_step::chunk_run::{ChunkRun, run_of};
 use op_step::meter::Meter;
-use op_step::replay::replay_from;
 use std::alloc::{AllocError, Global};
 use trace_types::ops::Op;
 
 /// How many operations stand between neighbouring checkpoints where they are stepped.
 pub const STRIDE: usize = 64;
 
-/// A piece of a replay: its segments, the heap after them, and how many operations they have.
+/// A piece of a replay: its segments, the heap after them, how many operations they have, and the chunks that were stepped for it.
 #[derive(Drop)]
 pub struct Piece {
     pub segments: Vec<Segment>,
     pub end: Heap,
     pub len: usize,
+    pub fresh: Vec<ChunkRun>,
+}
+
+impl Piece {
+    /// A chunk as a piece, none of which is stepped.
+    pub fn of(alloc: Global, chunk: &ChunkRun) -> Result<Self, AllocError>
+        requires { 0 < length chunk.now.ops }
+        ensures piece { IfOk result (λ p. IsPiece chunk.now.start chunk.now.ops p.segments.items p.end p.len) }
+        ensures whole { IfOk result (λ p. p.len ≡ length chunk.now.ops) }
+    {
+        let mut segments = Vec::new(alloc);
+        segments.push(Segment::of(alloc, chunk)?)?;
+        Ok(Piece {
+            segments,
+            end: chunk.end().share()?,
+            len: chunk.ops().len(),
+            fresh: Vec::new(alloc),
+        })
+    }
 }
 
 /// A piece and the next behind it.
@@ -33,14 +54,19 @@ pub fn joined(front: Piece, next: Piece) -> Result<Piece, AllocError>
 {
     let mut segments = front.segments;
     append(&mut segments, next.segments)?;
+    let mut fresh = front.fresh;
+    for chunk in next.fresh {
+        fresh.push(chunk)?;
+    }
     Ok(Piece {
         segments,
         end: next.end,
         len: front.len + next.len,
+        fresh,
     })
 }
 
-/// Steps all the operations.
+/// Steps all the operations: a piece with a fresh chunk.
 pub fn stepped(
     alloc: Global,
     heap: &Heap,
@@ -48,41 +74,37 @@ pub fn stepped(
     meter: &mut Meter,
 ) -> Result<Piece, AllocError>
     requires some { 0 < length ops.items }
-    requires new { AreNew heap.now ops.items }
+    requires distinct { IsTrue (has_distinct_numbers ops.items) }
+    requires unused { AreUnused heap.now ops.items }
     ensures piece { IfOk result (λ p. IsPiece heap.now ops.items p.segments.items p.end p.len) }
     ensures whole { IfOk result (λ p. p.len ≡ length ops.items) }
     ensures count { IfOk result (λ p. meter.new ≡ raised meter.old p.len) }
     ensures never_less { meter.old ≤ meter.new }
     ensures rise { meter.new ≤ meter.old + length ops.items }
 {
-    let (outcomes, end) = replay_from(alloc, heap.share()?, &ops, meter)?;
-    let len = ops.len();
-    let segment = Segment::new(alloc, Some(Checkpoint::of(heap.share()?)), ops, outcomes)?;
-    let mut segments = Vec::new(alloc);
-    segments.push(segment)?;
-    Ok(Piece { segments, end, len })
+    let chunk = run_of(alloc, heap, ops, meter)?;
+    let mut piece = Piece::of(alloc, &chunk)?;
+    piece.fresh.push(chunk)?;
+    Ok(piece)
 }
 
-/// Steps operations from the position `at` on, up to 64 and none from `to` on.
-pub fn stepped_up_to(
+/// A chunk that the shelf has, which begins with this heap and has these operations, as a piece.
+pub fn found(
     alloc: Global,
     heap: &Heap,
-    ops: &Listing,
-    at: usize,
-    to: usize,
-    meter: &mut Meter,
-) -> Result<Piece, AllocError>
-    requires some { at < to }
-    requires within { to ≤ length ops.now.ops }
-    requires new { AreNew heap.now (slice_range ops.now.ops at to) }
-    ensures piece { IfOk result (λ p. IsPiece heap.now (slice_range ops.now.ops at to) p.segments.items p.end p.len) }
-    ensures short { IfOk result (λ p. p.len ≤ 64) }
-    ensures count { IfOk result (λ p. meter.new ≡ raised meter.old p.len) }
-    ensures never_less { meter.old ≤ meter.new }
-    ensures rise { meter.new + at ≤ meter.old + to }
+    ops: &[Op],
+    shelf: &mut MarkShelf,
+) -> Result<Option<Piece>, AllocError>
+    requires { 0 < length ops.now }
+    ensures piece { IfOk result (λ o. IfSome o (λ p. IsPiece heap.now ops.now p.segments.items p.end p.len)) }
+    ensures whole { IfOk result (λ o. IfSome o (λ p. p.len ≡ length ops.now)) }
+    ensures there { IfOk result (λ o. IfSome o (λ _. IsAmong shelf.old.chunks heap.now ops.now)) }
+    ensures searched { IsSearched shelf.old shelf.new }
 {
-    let len = (to - at).min(STRIDE);
-    let copies = ops.copies(alloc, at, at + len)?;
-    let piece = stepped(alloc, heap, copies, meter)?;
-    Ok(piece)
+    finds_what_was_there();
+    let Some(chunk) = shelf.find(heap, ops) else {
+        return Ok(None);
+    };
+    let piece = Piece::of(alloc, &chunk)?;
+    Ok(Some(piece))
 }

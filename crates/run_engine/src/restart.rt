@@ -5,14 +5,16 @@ ghost use Rattle.run_engine.specs.Segments.{trace_of, all_marks, IsRun, IsRestar
 ghost use Rattle.run_engine.specs.Revision.{IsRevision};
 ghost use Rattle.run_engine.specs.Bounds.{StepsAtMostFrom};
 ghost use Rattle.run_engine.specs.NewMarks.{AreMarksAfter};
+ghost use Rattle.run_engine.specs.Memo.{IsSearched};
 ghost use Rattle.run_engine.specs.Steps.{AreSteppedFrom};
 
-use crate::converge::converge;
+use crate::converge::{Seam, converge};
 use crate::head_and_tail::{head, tail};
 use crate::listing::Listing;
 use crate::piece::Piece;
 use crate::revision::Revision;
 use crate::segment::{Segment, share_segments};
+use mark_shelf::MarkShelf;
 use agreement::checkpoint::Checkpoint;
 use object_heap::heap::Heap;
 use op_step::meter::Meter;
@@ -75,14 +77,14 @@ fn front(alloc: Global, revision: &Revision, head: usize) -> Result<Piece, Alloc
         segments: kept,
         end: best.heap.heap(alloc)?,
         len: best.at,
+        fresh: Vec::new(alloc),
     })
 }
 
 /// The replay of an edited trace, and the positions between which it was replayed: the restart, and where the stop stands in it.
 #[derive(Drop)]
 pub struct Redone {
-    pub segments: Vec<Segment>,
-    pub end: Heap,
+    pub replay: Piece,
     pub from: usize,
     pub to: usize,
 }
@@ -93,30 +95,34 @@ pub fn resumed(
     segments: &[Segment],
     end: &Heap,
     ops: &Listing,
+    shelf: &mut MarkShelf,
     meter: &mut Meter,
 ) -> Result<Redone, AllocError>
     requires run { IsRun segments.now end.now }
     requires base { ops.now.base ≡ trace_of segments.now }
     requires base_trace { IsTrace ops.now.base }
     requires trace { IsTrace ops.now.ops }
-    ensures run { IfOk result (λ r. IsRun r.segments.items r.end) }
-    ensures trace { IfOk result (λ r. trace_of r.segments.items ≡ ops.now.ops) }
-    ensures marks { IfOk result (λ r. AreMarksAfter (record { trace = ops.now.base; marks = all_marks segments.now }) (record { trace = ops.now.ops; marks = all_marks r.segments.items }) r.from r.to) }
+    ensures run { IfOk result (λ r. IsRun r.replay.segments.items r.replay.end) }
+    ensures trace { IfOk result (λ r. trace_of r.replay.segments.items ≡ ops.now.ops) }
+    ensures marks { IfOk result (λ r. AreMarksAfter (record { trace = ops.now.base; marks = all_marks segments.now }) (record { trace = ops.now.ops; marks = all_marks r.replay.segments.items }) r.from r.to) }
     ensures bound { StepsAtMostFrom ops.now.base ops.now.ops (all_marks segments.now) meter.old meter.new }
-    ensures stepped { IfOk result (λ _. AreSteppedFrom ops.now.base ops.now.ops (all_marks segments.now) meter.old meter.new) }
+    ensures stepped { IfOk result (λ _. AreSteppedFrom ops.now.base ops.now.ops (all_marks segments.now) shelf.old.chunks meter.old meter.new) }
+    ensures searched { IsSearched shelf.old shelf.new }
     ensures never_less { meter.old ≤ meter.new }
 {
     let first = head(ops);
     let last = tail(ops, first);
     let revision = Revision::of(alloc, segments, end, ops)?;
     let front = front(alloc, &revision, first)?;
-    let (a, b) = (ops.base_len() - last, ops.len() - last);
+    let seam = Seam {
+        old: ops.base_len() - last,
+        new: ops.len() - last,
+    };
     let from = front.len;
-    let (segments, end, stop) = converge(alloc, &revision, front, a, b, meter)?;
+    let (replay, stop) = converge(alloc, &revision, front, seam, shelf, meter)?;
     Ok(Redone {
-        segments,
-        end,
+        replay,
         from,
-        to: stop - a + b,
+        to: stop - seam.old + seam.new,
     })
 }

@@ -15,6 +15,7 @@ ghost use Rattle.run_engine.specs.Bounds.{StepsAtMostFrom};
 ghost use Rattle.run_engine.specs.NewMarks.{AreMarksAfter};
 ghost use Rattle.run_engine.specs.GivenUp.{names_at, between, IsTouched, AreMarksKept};
 ghost use Rattle.run_engine.specs.RunView.{RunView};
+ghost use Rattle.run_engine.specs.Memo.{IsSearched};
 ghost use Rattle.run_engine.specs.Steps.{AreRising, AreSteppedFrom};
 
 use crate::contents::{len_in, marks_in, ops_in, outcomes_in, stretches_in};
@@ -26,9 +27,10 @@ use crate::names::{names_between, place_at};
 use crate::restart::{Redone, resumed};
 use crate::seek::{clear_mark, op_at, outcome_at, segment_at};
 use crate::segment::Segment;
-use crate::touching::touch_between;
+use crate::touching::{remember_all, touch_between};
 use mark_shelf::MarkShelf;
 use object_heap::heap::Heap;
+use op_step::chunk_run::ChunkRun;
 use op_step::meter::Meter;
 use std::alloc::{AllocError, Global};
 use std::marker::Model;
@@ -51,12 +53,13 @@ pub struct Run {
     end: Heap,
 }
 
-// The run of an edited trace, and the positions between which it was replayed.
+// The run of an edited trace, the positions between which it was replayed, and the chunks that were stepped.
 #[derive(Drop)]
 struct Edited {
     run: Run,
     from: usize,
     to: usize,
+    fresh: Vec<ChunkRun>,
 }
 
 impl Model for Run {
@@ -114,13 +117,13 @@ impl Run {
     ///
     /// The size of the batch is tried first, which takes no memory. Then the edits are tried in order, each on the result
     /// of those before it. The replay begins again at the greatest checkpoint at or before the first operation that
-    /// differs, takes old stretches where they begin with the same heap and have the same operations, and stops at the
+    /// differs, takes chunks of the shelf and old stretches where they begin with the same heap and have the same operations, and stops at the
     /// first old checkpoint behind the last operation that differs where the heaps agree on all that can be reached. From
     /// there on the old outcomes stay, and what can't be reached is exchanged in the checkpoints and the end. The meter rises
     /// by the operations stepped, and where memory runs out by at most those up to the stop.
     ///
-    /// In the end the shelf is touched with the names of the inner checkpoints from the restart to the stop, and each checkpoint is given
-    /// up whose name it answers.
+    /// In the end the shelf remembers each chunk that was stepped, and is touched with the names of the inner checkpoints from the
+    /// restart to the stop: each checkpoint is given up whose name it answers. A refusal of the edits leaves the shelf as it was.
     pub fn edited(
         &self,
         alloc: Global,
@@ -134,26 +137,39 @@ impl Run {
         ensures empty { length batch.now ≡ 0 → result ≡ Err EmptyBatch }
         ensures too_many { MAX_EDITS < length batch.now → result ≡ Err TooManyEdits }
         ensures bound { (ops : List Operation) → edited_by self.now.trace batch.now ≡ Ok ops → StepsAtMostFrom self.now.trace ops self.now.marks meter.old meter.new }
-        ensures stepped { IfOk result (λ r. AreSteppedFrom self.now.trace r.trace self.now.marks meter.old meter.new) }
+        ensures stepped { IfOk result (λ r. AreSteppedFrom self.now.trace r.trace self.now.marks shelf.old.chunks meter.old meter.new) }
         ensures refused { IsErr (edited_by self.now.trace batch.now) → meter.new ≡ meter.old }
-        ensures same_shelf { OnErr result (shelf.new ≡ shelf.old) }
+        ensures refused_shelf { IsErr (edited_by self.now.trace batch.now) → shelf.new ≡ shelf.old }
         ensures never_less { meter.old ≤ meter.new }
     {
-        let Edited { run, from, to } = self.revised(alloc, batch, meter)?;
+        let Edited {
+            run,
+            from,
+            to,
+            fresh,
+        } = self.revised(alloc, batch, shelf, meter)?;
         let mut run = run;
+        remember_all(shelf, fresh);
         touch_between(alloc, &mut run, from, to, shelf)?;
         Ok(run)
     }
 
     // The run of the trace after the edits, with all the checkpoints that its replay leaves.
-    fn revised(&self, alloc: Global, batch: &Batch, meter: &mut Meter) -> Result<Edited, RunFault>
+    fn revised(
+        &self,
+        alloc: Global,
+        batch: &Batch,
+        shelf: &mut MarkShelf,
+        meter: &mut Meter,
+    ) -> Result<Edited, RunFault>
         ensures trace { IfOk result (λ r. edited_by self.now.trace batch.now ≡ Ok r.run.trace) }
         ensures marks { IfOk result (λ r. AreMarksAfter self.now r.run r.from r.to) }
         ensures fault { IfErr result (IsFaultOf (edited_by self.now.trace batch.now)) }
         ensures empty { length batch.now ≡ 0 → result ≡ Err EmptyBatch }
         ensures too_many { MAX_EDITS < length batch.now → result ≡ Err TooManyEdits }
         ensures bound { (ops : List Operation) → edited_by self.now.trace batch.now ≡ Ok ops → StepsAtMostFrom self.now.trace ops self.now.marks meter.old meter.new }
-        ensures stepped { IfOk result (λ r. AreSteppedFrom self.now.trace r.run.trace self.now.marks meter.old meter.new) }
+        ensures stepped { IfOk result (λ r. AreSteppedFrom self.now.trace r.run.trace self.now.marks shelf.old.chunks meter.old meter.new) }
+        ensures searched { IsSearched shelf.old shelf.new }
         ensures refused { IsErr (edited_by self.now.trace batch.now) → meter.new ≡ meter.old }
         ensures never_less { meter.old ≤ meter.new }
     {
@@ -161,27 +177,38 @@ impl Run {
         let original = ops_in(alloc, &self.segments)?;
         let listed = Listing::of(alloc, original)?;
         let ops = edited(listed, batch.as_slice())?;
-        Ok(self.beside(alloc, &ops, meter)?)
+        Ok(self.beside(alloc, &ops, shelf, meter)?)
     }
 
     // The run of a trace that replaces this run's.
-    fn beside(&self, alloc: Global, ops: &Listing, meter: &mut Meter) -> Result<Edited, AllocError>
+    fn beside(
+        &self,
+        alloc: Global,
+        ops: &Listing,
+        shelf: &mut MarkShelf,
+        meter: &mut Meter,
+    ) -> Result<Edited, AllocError>
         requires base { ops.now.base ≡ self.now.trace }
         requires trace { IsTrace ops.now.ops }
         ensures trace { IfOk result (λ r. r.run.trace ≡ ops.now.ops) }
         ensures marks { IfOk result (λ r. AreMarksAfter self.now r.run r.from r.to) }
         ensures bound { StepsAtMostFrom self.now.trace ops.now.ops self.now.marks meter.old meter.new }
-        ensures stepped { IfOk result (λ _. AreSteppedFrom self.now.trace ops.now.ops self.now.marks meter.old meter.new) }
+        ensures stepped { IfOk result (λ _. AreSteppedFrom self.now.trace ops.now.ops self.now.marks shelf.old.chunks meter.old meter.new) }
+        ensures searched { IsSearched shelf.old shelf.new }
         ensures never_less { meter.old ≤ meter.new }
     {
-        let Redone {
-            segments,
-            end,
+        let Redone { replay, from, to } =
+            resumed(alloc, &self.segments, &self.end, ops, shelf, meter)?;
+        let run = Run {
+            segments: replay.segments,
+            end: replay.end,
+        };
+        Ok(Edited {
+            run,
             from,
             to,
-        } = resumed(alloc, &self.segments, &self.end, ops, meter)?;
-        let run = Run { segments, end };
-        Ok(Edited { run, from, to })
+            fresh: replay.fresh,
+        })
     }
 
     /// Gives up the checkpoint at a position, if it is an inner one, and tells whether it was. Takes no memory.

@@ -1,26 +1,20 @@
 //! A segment of a run.
-ghost use Rattle.std.specs.Prelude.{◌≡◌, ◌++◌, length, IfOk, OnOk, None, is_some};
+ghost use Rattle.std.specs.Prelude.{◌≡◌, ◌++◌, length, IfOk, OnOk, None, Some, is_some};
 ghost use Rattle.std.specs.Arc.{arc_value};
 ghost use Rattle.std.specs.Option.{option_copied};
+ghost use Rattle.ownership_model.specs.Step.{outcomes_from};
 ghost use Rattle.run_engine.specs.Exchanged.{exchanged, IsExchangeable};
 
 use crate::part::{Bounds, Part, bounds_of};
 use agreement::checkpoint::Checkpoint;
 use agreement::remains::Remains;
+use op_step::chunk_run::{ChunkRun, Replayed};
 use std::alloc::{AllocError, Global};
 use std::marker::Model;
 use std::sync::Arc;
 use trace_types::ops::Op;
 use trace_types::outcomes::Outcome;
-use trace_types::sequence::Sequence;
 use trace_types::stretches::Stretch;
-
-#[derive(Drop)]
-struct Replayed {
-    ops: Vec<Op>,
-    outcomes: Sequence<Outcome>,
-    bounds: Bounds,
-}
 
 /// Operations with their outcomes, and the heap where they begin, if that is kept. The versions of a run share both: one
 /// more of a segment takes two counts.
@@ -28,6 +22,7 @@ struct Replayed {
 pub struct Segment {
     mark: Option<Arc<Checkpoint>>,
     body: Arc<Replayed>,
+    bounds: Bounds,
 }
 
 impl Model for Segment {
@@ -43,31 +38,19 @@ impl Model for Segment {
 
     ghost view = { λ s. record { mark = option_map arc_value s.mark; ops = (arc_value s.body).ops.items; outcomes = (arc_value s.body).outcomes } };
 
-    ghost invariant = { λ s. AreBetween (arc_value s.body).bounds.least (arc_value s.body).bounds.greatest (arc_value s.body).ops.items };
+    ghost invariant = { λ s. AreBetween s.bounds.least s.bounds.greatest (arc_value s.body).ops.items };
 }
 
 impl Segment {
-    pub fn new(
-        alloc: Global,
-        mark: Option<Checkpoint>,
-        ops: Vec<Op>,
-        outcomes: Sequence<Outcome>,
-    ) -> Result<Self, AllocError>
-        ensures { IfOk result (λ s. s ≡ record { mark = mark; ops = ops.items; outcomes = outcomes }) }
+    /// The segment of a chunk that was replayed, with a checkpoint where it begins. It shares the operations and outcomes.
+    pub fn of(alloc: Global, chunk: &ChunkRun) -> Result<Self, AllocError>
+        ensures { IfOk result (λ s. s ≡ record { mark = Some chunk.now.start; ops = chunk.now.ops; outcomes = outcomes_from chunk.now.start chunk.now.ops }) }
     {
-        let mark = match mark {
-            None => None,
-            Some(checkpoint) => Some(Arc::new(alloc, checkpoint)?),
-        };
-        let bounds = bounds_of(&ops);
-        let replayed = Replayed {
-            ops,
-            outcomes,
-            bounds,
-        };
+        let start = Checkpoint::of(chunk.start().share()?);
         Ok(Segment {
-            mark,
-            body: Arc::new(alloc, replayed)?,
+            mark: Some(Arc::new(alloc, start)?),
+            body: Arc::try_clone(chunk.replayed())?,
+            bounds: bounds_of(chunk.ops()),
         })
     }
 
@@ -82,6 +65,7 @@ impl Segment {
         Ok(Segment {
             mark,
             body: Arc::try_clone(&self.body)?,
+            bounds: self.bounds,
         })
     }
 
@@ -97,6 +81,7 @@ impl Segment {
         Ok(Segment {
             mark,
             body: Arc::try_clone(&self.body)?,
+            bounds: self.bounds,
         })
     }
 
@@ -110,7 +95,7 @@ impl Segment {
     pub fn part(&self) -> Part<'_>
         ensures { result ≡ self.now.ops }
     {
-        Part::new(self.body.ops.as_slice(), self.body.bounds)
+        Part::new(self.body.ops.as_slice(), self.bounds)
     }
 
     pub fn outcomes(&self) -> &[Outcome]

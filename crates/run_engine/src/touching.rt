@@ -1,9 +1,12 @@
-//! Touches the names of a run's checkpoints, and gives up those for which a shelf has no room.
+//! What a shelf keeps of a run: its chunks are remembered, the names of its checkpoints touched, and those are given up for which there is
+//! no room.
 ghost use Rattle.std.specs.Prelude.{◌≡◌, ◌∷◌, [], OnOk, OnErr};
+ghost use Rattle.run_engine.specs.Memo.{HasSameNames};
 ghost use Rattle.run_engine.specs.GivenUp.{given_up, names_at, between, IsTouched};
 
 use crate::run::Run;
 use mark_shelf::MarkShelf;
+use op_step::chunk_run::ChunkRun;
 use std::alloc::{AllocError, Global};
 
 /// Touches the names of the inner checkpoints from one position to another, in order, and gives up each checkpoint whose name is
@@ -21,6 +24,15 @@ pub fn touch_between(
     let names = run.names_between(alloc, from, to)?;
     touch_all(run, shelf, &names);
     Ok(())
+}
+
+/// Has the shelf remember chunks.
+pub fn remember_all(shelf: &mut MarkShelf, chunks: Vec<ChunkRun>)
+    ensures { HasSameNames shelf.old shelf.new }
+{
+    for chunk in chunks {
+        shelf.remember(chunk);
+    }
 }
 
 // Touches names in turn, and gives up each checkpoint whose name is answered.

@@ -2,7 +2,6 @@ use Rattle.run_engine.specs.Segments.{all_marks}
 use Rattle.std.proofs.Common.{◌≡◌, ℕ, ◌+◌, ◌-◌, ◌<◌, ◌≤◌, List, ◌++◌, length, take, drop, true, false, refl, ap, sym, subst, ◌∙◌, arith}
 use Rattle.std.specs.Prelude.{is_some}
 use Rattle.ownership_model.specs.State.{nothing_held}
-use Rattle.ownership_model.proofs.LawsHold.{soundness}
 use Rattle.agreement.specs.Agreement.{Agree}
 use Rattle.trace_types.specs.Operation.{Operation}
 use Rattle.ownership_model.specs.Step.{end_from}
@@ -14,10 +13,11 @@ use Rattle.run_engine.proofs.SegmentLemmas.{length-trace_of-next, trace_of-appen
 use Rattle.run_engine.proofs.PieceLemmas.{mark-is, take-rest}
 use Rattle.run_engine.proofs.PlaceLemmas.{mark-there, place-within, trace_of-front}
 use Rattle.run_engine.proofs.ConvergeLemmas.{IsBeside-first, IsBeside-next, least-agreeing, bounded, ShareEnd-length, IsRunFrom-back, rest-shared, distinct-back, old-unused, new-unused, AgreesAt-here, AgreesAt-there, IsSpliced, IsSpliced-rest, IsSpliced-end}
-use Rattle.run_engine.proofs.converge.converge.Goals.{then-at-a+in-Some+in_ok-front+in_ok-found+in_default-found, then-at-a+in_default, else-at-a}
+use Rattle.run_engine.proofs.converge.converge.Goals.{then-at-old+in-Some+in_ok-front+in_ok-found+in_default-found, then-at-old+in_default, else-at-old}
 use Rattle.run_engine.specs.NewMarks.{AreLaid, AreMarksOf}
 use Rattle.run_engine.proofs.MarksLemmas.{AreLaid-none, AreMarksOf-stop, AreMarksOf-end, all_marks-rest, IsReached-length}
 use Rattle.run_engine.specs.Bounds.{AgreesAt}
+use Rattle.run_engine.proofs.MemoLemmas.{IsSearched-none, IsSearched-next}
 use Rattle.run_engine.proofs.SteppedLemmas.{HaveStepped-none, AreStepped-stop, AreStepped-end}
 use Rattle.run_engine.proofs.converge.converge.Goals as goal
 
@@ -27,11 +27,11 @@ moved-within old ops a b at h le behind = omega (arith, ShareEnd-length old ops 
 
 pub advance-requires-clause-within : goal.advance-requires-clause-within
 advance-requires-clause-within c =
-    moved-within _ _ c.args.a c.args.b c.loop-i.at c.requires.shared (place-within c.args.revision.now.segments.now c.loop-i.i c.loop-i.at c.loop-i.invariant.beside.place) c.if-at-a.true
+    moved-within _ _ c.args.seam.old c.args.seam.new c.loop-i.at c.requires.shared (place-within c.args.revision.now.segments.now c.loop-i.i c.loop-i.at c.loop-i.invariant.beside.place) c.if-at-old.true
 
 pub overflow_add-at : goal.overflow_add-at
 overflow_add-at c =
-    let le : c.loop-i.at - c.args.a + c.args.b ≤ length c.args.revision.now.ops.now.ops = moved-within _ _ c.args.a c.args.b c.loop-i.at c.requires.shared (place-within c.args.revision.now.segments.now c.loop-i.i c.loop-i.at c.loop-i.invariant.beside.place) c.if-at-a.true in
+    let le : c.loop-i.at - c.args.seam.old + c.args.seam.new ≤ length c.args.revision.now.ops.now.ops = moved-within _ _ c.args.seam.old c.args.seam.new c.loop-i.at c.requires.shared (place-within c.args.revision.now.segments.now c.loop-i.i c.loop-i.at c.loop-i.invariant.beside.place) c.if-at-old.true in
     omega (arith, c.requires.trace.few)
 
 pub overflow_add-at-in-loop-i : goal.overflow_add-at-in-loop-i
@@ -43,25 +43,19 @@ overflow_add-at-in-loop-i c =
 
 pub returns-in_err-front-clause-bound : goal.returns-in_err-front-clause-bound
 returns-in_err-front-clause-bound c =
-    bounded _ _ _ _ _ _ _ _ _ _ _ _ _ c.loop-i.invariant.beside c.requires.shared c.if-at-a.true (omega (arith, c.loop-i.invariant.beside.rise, c.advance.ensures.rise))
+    bounded _ _ _ _ _ _ _ _ _ _ _ _ _ c.loop-i.invariant.beside c.requires.shared c.if-at-old.true (omega (arith, c.loop-i.invariant.beside.rise, c.advance.ensures.rise))
 
 pub returns-in_err-found-clause-bound : goal.returns-in_err-found-clause-bound
 returns-in_err-found-clause-bound c =
-    bounded _ _ _ _ _ _ _ _ _ _ _ _ _ c.loop-i.invariant.beside c.requires.shared c.if-at-a.true (omega (arith, c.loop-i.invariant.beside.rise, c.advance.ensures.rise))
+    bounded _ _ _ _ _ _ _ _ _ _ _ _ _ c.loop-i.invariant.beside c.requires.shared c.if-at-old.true (omega (arith, c.loop-i.invariant.beside.rise, c.advance.ensures.rise))
 
 pub returns-in_err-spliced-clause-bound : goal.returns-in_err-spliced-clause-bound
 returns-in_err-spliced-clause-bound c =
-    bounded _ _ _ _ _ _ _ _ _ _ _ _ _ c.loop-i.invariant.beside c.requires.shared c.if-at-a.true (omega (arith, c.loop-i.invariant.beside.rise, c.advance.ensures.rise))
+    bounded _ _ _ _ _ _ _ _ _ _ _ _ _ c.loop-i.invariant.beside c.requires.shared c.if-at-old.true (omega (arith, c.loop-i.invariant.beside.rise, c.advance.ensures.rise))
 
 pub returns-in-Some-found-clause-bound : goal.returns-in-Some-found-clause-bound
 returns-in-Some-found-clause-bound c =
-    bounded _ _ _ _ _ _ _ _ _ _ _ _ _ c.loop-i.invariant.beside c.requires.shared c.if-at-a.true (omega (arith, c.loop-i.invariant.beside.rise, c.advance.ensures.rise))
-
-pub advance-requires-clause-new : goal.advance-requires-clause-new
-advance-requires-clause-new c = soundness.are_new c.args.revision.now.ops.now.ops c.requires.trace.distinct
-
-pub advance-requires-2-clause-new : goal.advance-requires-2-clause-new
-advance-requires-2-clause-new c = soundness.are_new c.args.revision.now.ops.now.ops c.requires.trace.distinct
+    bounded _ _ _ _ _ _ _ _ _ _ _ _ _ c.loop-i.invariant.beside c.requires.shared c.if-at-old.true (omega (arith, c.loop-i.invariant.beside.rise, c.advance.ensures.rise))
 
 pub rejoined-requires-clause-run : goal.rejoined-requires-clause-run
 rejoined-requires-clause-run c =
@@ -84,7 +78,7 @@ pub rejoined-requires-clause-unused : goal.rejoined-requires-clause-unused
 rejoined-requires-clause-unused c =
     rw (take-rest c.loop-i.i c.args.revision.now.segments.now)
     (new-unused c.args.revision.now.ops.now.ops c.in_ok-front.front.len c.in_ok-front.front.segments.items (drop c.loop-i.i c.args.revision.now.segments.now) c.in_ok-front.front.end c.in_ok-front.ensures.front c.requires.trace.distinct
-    (back c.args.revision.now.segments.now c.args.revision.now.ops.now.ops c.args.a c.args.b c.loop-i.i c.loop-i.at c.in_ok-front.front.len c.requires.shared c.loop-i.invariant.beside.place c.if-at-a.true c.in_ok-front.ensures.there))
+    (back c.args.revision.now.segments.now c.args.revision.now.ops.now.ops c.args.seam.old c.args.seam.new c.loop-i.i c.loop-i.at c.in_ok-front.front.len c.requires.shared c.loop-i.invariant.beside.place c.if-at-old.true c.in_ok-front.ensures.there))
 
 -- where the old run goes on it has the operations that are left
 rest-is : (c : goal.Joined-seen-7) → trace_of c.in-Some-found.rest.items ≡ trace_of (drop c.loop-i.i c.args.revision.now.segments.now)
@@ -96,47 +90,53 @@ spliced : (c : goal.Joined-seen-7) → IsSpliced c.args.revision.now.ops.now.ops
 spliced c =
     let run : IsRunFrom c.in_ok-front.front.end c.in-Some-found.rest.items c.in-Some-found.end = rw c.in-Some-found.is at c.in_ok-found.ensures.run in
     IsSpliced-rest c.args.revision.now.ops.now.ops c.in_ok-front.front.len c.in_ok-front.front.segments.items c.in-Some-found.rest.items c.in_ok-front.front.end c.in-Some-found.end c.in_ok-front.ensures.front
-    (rest-is c ∙ back c.args.revision.now.segments.now c.args.revision.now.ops.now.ops c.args.a c.args.b c.loop-i.i c.loop-i.at c.in_ok-front.front.len c.requires.shared c.loop-i.invariant.beside.place c.if-at-a.true c.in_ok-front.ensures.there)
+    (rest-is c ∙ back c.args.revision.now.segments.now c.args.revision.now.ops.now.ops c.args.seam.old c.args.seam.new c.loop-i.i c.loop-i.at c.in_ok-front.front.len c.requires.shared c.loop-i.invariant.beside.place c.if-at-old.true c.in_ok-front.ensures.there)
     run
 
 -- the heaps agree where the replay stops
-agreed : (c : goal.Joined-seen-7) → AgreesAt (trace_of c.args.revision.now.segments.now) c.args.revision.now.ops.now.ops c.args.a c.args.b c.loop-i.at
+agreed : (c : goal.Joined-seen-7) → AgreesAt (trace_of c.args.revision.now.segments.now) c.args.revision.now.ops.now.ops c.args.seam.old c.args.seam.new c.loop-i.at
 agreed c =
     let m : c.in-Some.mark.now ≡ end_from nothing_held (trace_of (take c.loop-i.i c.args.revision.now.segments.now)) = mark-is c.args.revision.now.segments.now c.loop-i.i c.index-old-i.result c.in-Some.mark.now c.requires.revision.run.replay c.loop-i-test.true c.index-old-i.is c.in-Some.ensures in
-    let there : c.in_ok-front.front.len ≡ c.loop-i.at - c.args.a + c.args.b = c.in_ok-front.ensures.there in
+    let there : c.in_ok-front.front.len ≡ c.loop-i.at - c.args.seam.old + c.args.seam.new = c.in_ok-front.ensures.there in
     let agree : Agree c.in_ok-front.front.end c.in-Some.mark.now = c.in_ok-found.ensures.answer.0 (ap is_some c.in-Some-found.is) in
-    AgreesAt-here (trace_of c.args.revision.now.segments.now) c.args.revision.now.ops.now.ops c.args.a c.args.b c.loop-i.at c.in_ok-front.front.end c.in-Some.mark.now
+    AgreesAt-here (trace_of c.args.revision.now.segments.now) c.args.revision.now.ops.now.ops c.args.seam.old c.args.seam.new c.loop-i.at c.in_ok-front.front.end c.in-Some.mark.now
     (c.in_ok-front.ensures.front.state ∙ ap (λ x. end_from nothing_held (take x c.args.revision.now.ops.now.ops)) there) (m ∙ ap (end_from nothing_held) (trace_of-front c.args.revision.now.segments.now c.loop-i.i c.loop-i.at c.loop-i.invariant.beside.place)) agree
 
 pub returns-in-Some-found-clause-run : goal.returns-in-Some-found-clause-run
-returns-in-Some-found-clause-run c = rw c.in_ok-spliced.ensures (spliced c).run
+returns-in-Some-found-clause-run c = rw (c.in_ok-spliced.ensures.segments, c.in_ok-spliced.ensures.end) (spliced c).run
+
+pub returns-in-Some-found-clause-searched : goal.returns-in-Some-found-clause-searched
+returns-in-Some-found-clause-searched c = IsSearched-next c.args.shelf.now c.loop-i.shelf _ c.loop-i.invariant.searched c.in_ok-front.ensures.searched
+
+pub returns-clause-searched : goal.returns-clause-searched
+returns-clause-searched c = IsSearched-next c.args.shelf.now c.loop-i.shelf _ c.loop-i.invariant.searched c.in_ok-front-2.ensures.searched
 
 pub returns-in-Some-found-clause-trace : goal.returns-in-Some-found-clause-trace
-returns-in-Some-found-clause-trace c = rw c.in_ok-spliced.ensures (spliced c).trace
+returns-in-Some-found-clause-trace c = rw c.in_ok-spliced.ensures.segments (spliced c).trace
 
 pub returns-in-Some-found-clause-marks : goal.returns-in-Some-found-clause-marks
 returns-in-Some-found-clause-marks c =
     let old : List SegmentView = c.args.revision.now.segments.now in
     let front : List SegmentView = c.in_ok-front.front.segments.items in
-    let there : c.in_ok-front.front.len ≡ c.loop-i.at - c.args.a + c.args.b = c.in_ok-front.ensures.there in
-    let laid : AreLaid (all_marks c.args.revision.now.segments.now) (marks_from 0 c.args.front.segments.items) c.args.front.len (c.loop-i.at - c.args.a + c.args.b) (marks_from 0 c.in_ok-front.front.segments.items) =
+    let there : c.in_ok-front.front.len ≡ c.loop-i.at - c.args.seam.old + c.args.seam.new = c.in_ok-front.ensures.there in
+    let laid : AreLaid (all_marks c.args.revision.now.segments.now) (marks_from 0 c.args.front.segments.items) c.args.front.len (c.loop-i.at - c.args.seam.old + c.args.seam.new) (marks_from 0 c.in_ok-front.front.segments.items) =
     subst (λ x. AreLaid (all_marks c.args.revision.now.segments.now) (marks_from 0 c.args.front.segments.items) c.args.front.len x (marks_from 0 c.in_ok-front.front.segments.items)) there (c.in_ok-front.ensures.marks _ _ c.loop-i.invariant.laid) in
     let marks : (at : ℕ) → marks_from at c.in-Some-found.rest.items ≡ marks_from at (take (length c.args.revision.now.segments.now - c.loop-i.i) (drop c.loop-i.i c.args.revision.now.segments.now)) = rw c.in-Some-found.is at c.in_ok-found.ensures.marks in
     let alike : all_marks (front ++ c.in-Some-found.rest.items) ≡ all_marks (front ++ drop c.loop-i.i old) =
     all_marks-rest front c.in-Some-found.rest.items (drop c.loop-i.i old) (rest-is c) (λ at. marks at ∙ ap (marks_from at) (take-rest c.loop-i.i c.args.revision.now.segments.now)) in
     let trace : trace_of (front ++ drop c.loop-i.i old) ≡ c.args.revision.now.ops.now.ops =
     trace_of-append front (drop c.loop-i.i old) ∙ ap (λ t. trace_of front ++ t) (sym (rest-is c)) ∙ sym (trace_of-append front c.in-Some-found.rest.items) ∙ (spliced c).trace in
-    rw (c.in_ok-spliced.ensures, alike)
-    (AreMarksOf-stop c.args.revision.now.segments.now c.in_ok-front.front.segments.items c.args.revision.now.ops.now.ops (marks_from 0 c.args.front.segments.items) c.args.a c.args.b c.loop-i.i c.loop-i.at c.args.front.len c.index-old-i.result
-    c.requires.revision.run.full c.requires.shared c.loop-i-test.true c.index-old-i.is c.in-Some.mark.now (sym c.in-Some.ensures) c.loop-i.invariant.beside.place c.if-at-a.true
+    rw (c.in_ok-spliced.ensures.segments, alike)
+    (AreMarksOf-stop c.args.revision.now.segments.now c.in_ok-front.front.segments.items c.args.revision.now.ops.now.ops (marks_from 0 c.args.front.segments.items) c.args.seam.old c.args.seam.new c.loop-i.i c.loop-i.at c.args.front.len c.index-old-i.result
+    c.requires.revision.run.full c.requires.shared c.loop-i-test.true c.index-old-i.is c.in-Some.mark.now (sym c.in-Some.ensures) c.loop-i.invariant.beside.place c.if-at-old.true
     (agreed c) (least-agreeing _ _ _ _ _ _ _ _ _ _ _ _ c.loop-i.invariant.beside)
     (IsReached-length _ _ _ _ c.in_ok-front.ensures.front ∙ there) trace laid)
 
 pub returns-in-Some-found-clause-stepped : goal.returns-in-Some-found-clause-stepped
 returns-in-Some-found-clause-stepped c =
-    AreStepped-stop (trace_of c.args.revision.now.segments.now) c.args.revision.now.ops.now.ops (all_marks c.args.revision.now.segments.now) c.args.a c.args.b c.args.front.len c.in_ok-front.front.len c.loop-i.at c.args.meter.now _ c.in_ok-front.ensures.there
+    AreStepped-stop (trace_of c.args.revision.now.segments.now) c.args.revision.now.ops.now.ops (all_marks c.args.revision.now.segments.now) c.args.shelf.now.chunks c.args.seam.old c.args.seam.new c.args.front.len c.in_ok-front.front.len c.loop-i.at c.args.meter.now _ c.in_ok-front.ensures.there
     (mark-there c.args.revision.now.segments.now c.loop-i.i c.loop-i.at c.index-old-i.result c.in-Some.mark.now c.loop-i-test.true c.index-old-i.is (sym c.in-Some.ensures) c.loop-i.invariant.beside.place)
-    c.if-at-a.true (agreed c) (c.in_ok-front.ensures.stepped _ _ c.loop-i.invariant.stepped)
+    c.if-at-old.true (agreed c) (c.in_ok-front.ensures.stepped _ _ _ c.loop-i.invariant.stepped c.loop-i.invariant.searched.fewer)
 
 place-end : (old : List SegmentView) (i at : ℕ) → length old ≤ i → i ≤ length old → length (trace_of (take i old)) ≡ at → at ≡ length (trace_of old)
 place-end old i at ge le e = let n : i ≡ length old = omega arith in sym e ∙ ap (λ j. length (trace_of (take j old))) n ∙ ap (λ ss. length (trace_of ss)) (take-length old)
@@ -147,8 +147,8 @@ returns-clause-marks c =
     let laid : AreLaid (all_marks c.args.revision.now.segments.now) (marks_from 0 c.args.front.segments.items) c.args.front.len (length c.args.revision.now.ops.now.ops) (marks_from 0 c.in_ok-front-2.front.segments.items) =
     subst (λ x. AreLaid (all_marks c.args.revision.now.segments.now) (marks_from 0 c.args.front.segments.items) c.args.front.len x (marks_from 0 c.in_ok-front-2.front.segments.items)) there (c.in_ok-front-2.ensures.marks _ _ c.loop-i.invariant.laid) in
     let e = place-end c.args.revision.now.segments.now c.loop-i.i c.loop-i.at c.loop-i-test.false (c.loop-i.auto.i-end c.last_from-first.ensures.within) c.loop-i.invariant.beside.place in
-    subst (λ n. AreMarksOf (trace_of c.args.revision.now.segments.now) c.args.revision.now.ops.now.ops (marks_from 0 c.args.front.segments.items) (all_marks c.args.revision.now.segments.now) (all_marks c.in_ok-front-2.front.segments.items) c.args.front.len c.args.a c.args.b n) (sym e)
-    (AreMarksOf-end c.args.revision.now.segments.now c.in_ok-front-2.front.segments.items c.args.revision.now.ops.now.ops (marks_from 0 c.args.front.segments.items) c.args.a c.args.b c.args.front.len c.requires.shared
+    subst (λ n. AreMarksOf (trace_of c.args.revision.now.segments.now) c.args.revision.now.ops.now.ops (marks_from 0 c.args.front.segments.items) (all_marks c.args.revision.now.segments.now) (all_marks c.in_ok-front-2.front.segments.items) c.args.front.len c.args.seam.old c.args.seam.new n) (sym e)
+    (AreMarksOf-end c.args.revision.now.segments.now c.in_ok-front-2.front.segments.items c.args.revision.now.ops.now.ops (marks_from 0 c.args.front.segments.items) c.args.seam.old c.args.seam.new c.args.front.len c.requires.shared
     (λ p mark behind agrees.
     let least : c.loop-i.at ≤ p = least-agreeing _ _ _ _ _ _ _ _ _ _ _ _ c.loop-i.invariant.beside p mark behind agrees in
     omega arith)
@@ -156,14 +156,15 @@ returns-clause-marks c =
 
 pub returns-clause-stepped : goal.returns-clause-stepped
 returns-clause-stepped c =
-    AreStepped-end (trace_of c.args.revision.now.segments.now) c.args.revision.now.ops.now.ops (all_marks c.args.revision.now.segments.now) c.args.a c.args.b c.args.front.len c.in_ok-front-2.front.len c.args.meter.now _ (c.in_ok-front-2.ensures.there ∙ c.len.ensures)
-    (c.in_ok-front-2.ensures.stepped _ _ c.loop-i.invariant.stepped)
+    AreStepped-end (trace_of c.args.revision.now.segments.now) c.args.revision.now.ops.now.ops (all_marks c.args.revision.now.segments.now) c.args.shelf.now.chunks c.args.seam.old c.args.seam.new c.args.front.len c.in_ok-front-2.front.len c.args.meter.now _ (c.in_ok-front-2.ensures.there ∙ c.len.ensures)
+    (c.in_ok-front-2.ensures.stepped _ _ _ c.loop-i.invariant.stepped c.loop-i.invariant.searched.fewer)
 
 pub loop-i-init : goal.loop-i-init
 loop-i-init c = record {
-  beside = IsBeside-first c.args.revision.now.segments.now c.args.revision.now.ops.now.ops c.args.a c.args.b c.args.front.len c.args.meter.now c.last_from-first.result.0 c.last_from-first.result.1 c.args.front.segments.items c.args.front.end
+  beside = IsBeside-first c.args.revision.now.segments.now c.args.revision.now.ops.now.ops c.args.seam.old c.args.seam.new c.args.front.len c.args.meter.now c.last_from-first.result.0 c.last_from-first.result.1 c.args.front.segments.items c.args.front.end
       c.requires.revision.run.full c.last_from-first.ensures.within c.last_from-first.ensures.place c.last_from-first.ensures.before c.requires.front c.requires.order;
-  stepped = HaveStepped-none (trace_of c.args.revision.now.segments.now) c.args.revision.now.ops.now.ops (all_marks c.args.revision.now.segments.now) c.args.front.len c.args.meter.now;
+  stepped = HaveStepped-none (trace_of c.args.revision.now.segments.now) c.args.revision.now.ops.now.ops (all_marks c.args.revision.now.segments.now) c.args.shelf.now.chunks c.args.front.len c.args.meter.now;
+  searched = IsSearched-none c.args.shelf.now;
   never_less = omega arith;
   laid = AreLaid-none (all_marks c.args.revision.now.segments.now) (marks_from 0 c.args.front.segments.items) c.args.front.len;
 }
@@ -172,55 +173,58 @@ pub returns-in_err-front-2-clause-bound : goal.returns-in_err-front-2-clause-bou
 returns-in_err-front-2-clause-bound c =
     let e = place-end c.args.revision.now.segments.now c.loop-i.i c.loop-i.at c.loop-i-test.false (c.loop-i.auto.i-end c.last_from-first.ensures.within) c.loop-i.invariant.beside.place in
     let shared = c.requires.shared in
-    let long = ShareEnd-length (trace_of c.args.revision.now.segments.now) c.args.revision.now.ops.now.ops c.args.a c.args.b shared in
+    let long = ShareEnd-length (trace_of c.args.revision.now.segments.now) c.args.revision.now.ops.now.ops c.args.seam.old c.args.seam.new shared in
     bounded _ _ _ _ _ _ _ _ _ _ _ _ _ c.loop-i.invariant.beside shared (omega (arith, shared.old_within)) (omega (arith, long, shared.old_within, shared.within, c.loop-i.invariant.beside.rise, c.advance-2.ensures.rise))
 
 pub returns-clause-bound : goal.returns-clause-bound
 returns-clause-bound c =
     let e = place-end c.args.revision.now.segments.now c.loop-i.i c.loop-i.at c.loop-i-test.false (c.loop-i.auto.i-end c.last_from-first.ensures.within) c.loop-i.invariant.beside.place in
     let shared = c.requires.shared in
-    let long = ShareEnd-length (trace_of c.args.revision.now.segments.now) c.args.revision.now.ops.now.ops c.args.a c.args.b shared in
+    let long = ShareEnd-length (trace_of c.args.revision.now.segments.now) c.args.revision.now.ops.now.ops c.args.seam.old c.args.seam.new shared in
     bounded _ _ _ _ _ _ _ _ _ _ _ _ _ c.loop-i.invariant.beside shared (omega (arith, shared.old_within)) (omega (arith, long, shared.old_within, shared.within, c.loop-i.invariant.beside.rise, c.advance-2.ensures.rise))
 
 pub loop-i-preserved : goal.loop-i-preserved
 loop-i-preserved c =
     let old = c.args.revision.now.segments.now in
-    elim c.if-at-a.branch [
-      | then-at-a+in-Some+in_ok-front+in_ok-found+in_default-found w ↦
+    elim c.if-at-old.branch [
+      | then-at-old+in-Some+in_ok-front+in_ok-found+in_default-found w ↦
           let m : w.in-Some.mark.now ≡ end_from nothing_held (trace_of (take c.loop-i.i c.args.revision.now.segments.now)) = mark-is c.args.revision.now.segments.now c.loop-i.i c.index-old-i.result w.in-Some.mark.now c.requires.revision.run.replay c.loop-i-test.true c.index-old-i.is w.in-Some.ensures in
-          let there : w.in_ok-front.front.len ≡ c.loop-i.at - c.args.a + c.args.b = w.in_ok-front.ensures.there in
+          let there : w.in_ok-front.front.len ≡ c.loop-i.at - c.args.seam.old + c.args.seam.new = w.in_ok-front.ensures.there in
           let front = w.in_ok-front.ensures.front in
           let rise = w.advance.ensures.rise in
-          rw (w.front-is, w.meter-is, c.ops.ensures)
+          rw (w.front-is, w.meter-is, w.shelf-is, c.ops.ensures)
           (record {
-            beside = IsBeside-next c.args.revision.now.segments.now c.args.revision.now.ops.now.ops c.args.a c.args.b c.args.front.len c.args.meter.now c.loop-i.i c.loop-i.at c.loop-i.front.len c.loop-i.front.segments.items c.loop-i.front.end c.loop-i.meter
+            beside = IsBeside-next c.args.revision.now.segments.now c.args.revision.now.ops.now.ops c.args.seam.old c.args.seam.new c.args.front.len c.args.meter.now c.loop-i.i c.loop-i.at c.loop-i.front.len c.loop-i.front.segments.items c.loop-i.front.end c.loop-i.meter
                 w.in_ok-front.front.len w.in_ok-front.front.segments.items w.in_ok-front.front.end w.advance.new.meter c.index-old-i.result c.loop-i.invariant.beside c.loop-i-test.true c.index-old-i.is front (omega arith) (omega (arith, c.loop-i.invariant.beside.rise, rise))
                 (λ marked behind agrees.
-                let agree : Agree w.in_ok-front.front.end w.in-Some.mark.now = AgreesAt-there (trace_of c.args.revision.now.segments.now) c.args.revision.now.ops.now.ops c.args.a c.args.b c.loop-i.at w.in_ok-front.front.end w.in-Some.mark.now (front.state ∙ ap (λ x. end_from nothing_held (take x c.args.revision.now.ops.now.ops)) there) (m ∙ ap (end_from nothing_held) (trace_of-front c.args.revision.now.segments.now c.loop-i.i c.loop-i.at c.loop-i.invariant.beside.place)) agrees in
+                let agree : Agree w.in_ok-front.front.end w.in-Some.mark.now = AgreesAt-there (trace_of c.args.revision.now.segments.now) c.args.revision.now.ops.now.ops c.args.seam.old c.args.seam.new c.loop-i.at w.in_ok-front.front.end w.in-Some.mark.now (front.state ∙ ap (λ x. end_from nothing_held (take x c.args.revision.now.ops.now.ops)) there) (m ∙ ap (end_from nothing_held) (trace_of-front c.args.revision.now.segments.now c.loop-i.i c.loop-i.at c.loop-i.invariant.beside.place)) agrees in
                 let t : is_some w.in_ok-found.found ≡ true = w.in_ok-found.ensures.answer.1 agree in
                 let f : is_some w.in_ok-found.found ≡ false = ap is_some w.in_default-found.is in
                 cc);
-            stepped = w.in_ok-front.ensures.stepped _ _ c.loop-i.invariant.stepped;
+            stepped = w.in_ok-front.ensures.stepped _ _ _ c.loop-i.invariant.stepped c.loop-i.invariant.searched.fewer;
+            searched = IsSearched-next c.args.shelf.now c.loop-i.shelf _ c.loop-i.invariant.searched w.in_ok-front.ensures.searched;
             never_less = omega (arith, c.loop-i.invariant.never_less, w.advance.ensures.never_less);
             laid = w.in_ok-front.ensures.marks _ _ c.loop-i.invariant.laid;
           })
-      | then-at-a+in_default w ↦
-          rw (w.front-is, w.meter-is, c.ops.ensures)
+      | then-at-old+in_default w ↦
+          rw (w.front-is, w.meter-is, w.shelf-is, c.ops.ensures)
           (record {
-            beside = IsBeside-next c.args.revision.now.segments.now c.args.revision.now.ops.now.ops c.args.a c.args.b c.args.front.len c.args.meter.now c.loop-i.i c.loop-i.at c.loop-i.front.len c.loop-i.front.segments.items c.loop-i.front.end c.loop-i.meter
+            beside = IsBeside-next c.args.revision.now.segments.now c.args.revision.now.ops.now.ops c.args.seam.old c.args.seam.new c.args.front.len c.args.meter.now c.loop-i.i c.loop-i.at c.loop-i.front.len c.loop-i.front.segments.items c.loop-i.front.end c.loop-i.meter
                 c.loop-i.front.len c.loop-i.front.segments.items c.loop-i.front.end c.loop-i.meter c.index-old-i.result c.loop-i.invariant.beside c.loop-i-test.true c.index-old-i.is c.loop-i.invariant.beside.front c.loop-i.invariant.beside.order c.loop-i.invariant.beside.rise
                 (λ marked behind agrees. let f : is_some c.index-old-i.result.mark ≡ false = ap is_some (sym w.in_default.ensures) in cc);
             stepped = c.loop-i.invariant.stepped;
+            searched = c.loop-i.invariant.searched;
             never_less = c.loop-i.invariant.never_less;
             laid = c.loop-i.invariant.laid;
           })
-      | else-at-a w ↦
-          rw (w.front-is, w.meter-is, c.ops.ensures)
+      | else-at-old w ↦
+          rw (w.front-is, w.meter-is, w.shelf-is, c.ops.ensures)
           (record {
-            beside = IsBeside-next c.args.revision.now.segments.now c.args.revision.now.ops.now.ops c.args.a c.args.b c.args.front.len c.args.meter.now c.loop-i.i c.loop-i.at c.loop-i.front.len c.loop-i.front.segments.items c.loop-i.front.end c.loop-i.meter
+            beside = IsBeside-next c.args.revision.now.segments.now c.args.revision.now.ops.now.ops c.args.seam.old c.args.seam.new c.args.front.len c.args.meter.now c.loop-i.i c.loop-i.at c.loop-i.front.len c.loop-i.front.segments.items c.loop-i.front.end c.loop-i.meter
                 c.loop-i.front.len c.loop-i.front.segments.items c.loop-i.front.end c.loop-i.meter c.index-old-i.result c.loop-i.invariant.beside c.loop-i-test.true c.index-old-i.is c.loop-i.invariant.beside.front c.loop-i.invariant.beside.order c.loop-i.invariant.beside.rise
-                (λ marked behind agrees. let lt : c.loop-i.at < c.args.a = w.if-at-a.false in omega arith);
+                (λ marked behind agrees. let lt : c.loop-i.at < c.args.seam.old = w.if-at-old.false in omega arith);
             stepped = c.loop-i.invariant.stepped;
+            searched = c.loop-i.invariant.searched;
             never_less = c.loop-i.invariant.never_less;
             laid = c.loop-i.invariant.laid;
           })

@@ -21,17 +21,17 @@ converge-requires-clause-shared c =
 
 pub overflow_add-result : goal.overflow_add-result
 overflow_add-result c =
-    let marks = rw (c.in_ok-revision.ensures.segments, c.in_ok-revision.ensures.ops) at c.in_ok-segments.ensures.marks in
+    let marks = rw (c.in_ok-revision.ensures.segments, c.in_ok-revision.ensures.ops) at c.in_ok-replay.ensures.marks in
     let behind = marks.stop_is.behind in
-    let fits : c.in_ok-segments.stop ≤ length (trace_of c.args.segments.now) = all-within c.args.segments.now c.in_ok-segments.stop (length (trace_of c.args.segments.now)) marks.stop_is.mark (omega arith) in
+    let fits : c.in_ok-replay.stop ≤ length (trace_of c.args.segments.now) = all-within c.args.segments.now c.in_ok-replay.stop (length (trace_of c.args.segments.now)) marks.stop_is.mark (omega arith) in
     let base = ap length c.requires.base in
     omega (arith, c.base_len.ensures, c.len.ensures, c.requires.base_trace.few, c.requires.trace.few)
 
 pub returns-in_err-front-clause-bound : goal.returns-in_err-front-clause-bound
 returns-in_err-front-clause-bound c = bounded-none c.args.ops.now.base c.args.ops.now.ops _ _
 
-pub returns-in_err-segments-clause-bound : goal.returns-in_err-segments-clause-bound
-returns-in_err-segments-clause-bound c =
+pub returns-in_err-replay-clause-bound : goal.returns-in_err-replay-clause-bound
+returns-in_err-replay-clause-bound c =
     from-greatest (λ t r. StepsAtMost c.args.ops.now.base c.args.ops.now.ops (length c.args.ops.now.base - t) (length c.args.ops.now.ops - t) (all_marks c.args.segments.now) r c.args.meter.now c.converge.new.meter)
     c.args.ops.now.base c.args.ops.now.ops (all_marks c.args.segments.now) c.head-first.result c.tail-last.result c.in_ok-front.front.len
     (record { head_is = c.head-first.ensures; tail_is = c.tail-last.ensures })
@@ -50,18 +50,18 @@ returns-clause-bound c =
 
 pub returns-clause-stepped : goal.returns-clause-stepped
 returns-clause-stepped c =
-    from-greatest (λ t r. AreStepped c.args.ops.now.base c.args.ops.now.ops (length c.args.ops.now.base - t) (length c.args.ops.now.ops - t) (all_marks c.args.segments.now) r c.args.meter.now c.converge.new.meter)
+    from-greatest (λ t r. AreStepped c.args.ops.now.base c.args.ops.now.ops (length c.args.ops.now.base - t) (length c.args.ops.now.ops - t) (all_marks c.args.segments.now) c.args.shelf.now.chunks r c.args.meter.now c.converge.new.meter)
     c.args.ops.now.base c.args.ops.now.ops (all_marks c.args.segments.now) c.head-first.result c.tail-last.result c.in_ok-front.front.len
     (record { head_is = c.head-first.ensures; tail_is = c.tail-last.ensures })
     (rw c.in_ok-revision.ensures.segments at c.in_ok-front.ensures.kept).greatest
-    (subst (λ t. AreStepped t c.args.ops.now.ops (length t - c.tail-last.result) (length c.args.ops.now.ops - c.tail-last.result) (all_marks c.args.segments.now) c.in_ok-front.front.len c.args.meter.now c.converge.new.meter) (sym c.requires.base)
-    (rw (c.in_ok-revision.ensures.segments, c.in_ok-revision.ensures.ops, c.base_len.ensures, c.len.ensures, c.requires.base) at c.in_ok-segments.ensures.stepped))
+    (subst (λ t. AreStepped t c.args.ops.now.ops (length t - c.tail-last.result) (length c.args.ops.now.ops - c.tail-last.result) (all_marks c.args.segments.now) c.args.shelf.now.chunks c.in_ok-front.front.len c.args.meter.now c.converge.new.meter) (sym c.requires.base)
+    (rw (c.in_ok-revision.ensures.segments, c.in_ok-revision.ensures.ops, c.base_len.ensures, c.len.ensures, c.requires.base) at c.in_ok-replay.ensures.stepped))
 
 pub returns-clause-marks : goal.returns-clause-marks
 returns-clause-marks c =
     rw c.requires.base
-    (AreMarksAfter-restart c.args.segments.now c.in_ok-front.front.segments.items c.args.end.now c.in_ok-front.front.end c.args.ops.now.ops (all_marks c.in_ok-segments.segments.items) c.head-first.result c.tail-last.result _ c.in_ok-front.front.len c.in_ok-segments.stop _
+    (AreMarksAfter-restart c.args.segments.now c.in_ok-front.front.segments.items c.args.end.now c.in_ok-front.front.end c.args.ops.now.ops (all_marks c.in_ok-replay.replay.segments.items) c.head-first.result c.tail-last.result _ c.in_ok-front.front.len c.in_ok-replay.stop _
     c.requires.run (rw c.in_ok-revision.ensures.segments at c.in_ok-front.ensures.kept) (rw c.in_ok-revision.ensures.segments at c.in_ok-front.ensures.segments)
     (subst (λ t. AreShared t c.args.ops.now.ops c.head-first.result c.tail-last.result) c.requires.base (record { head_is = c.head-first.ensures; tail_is = c.tail-last.ensures }))
-    (rw (c.in_ok-revision.ensures.segments, c.in_ok-revision.ensures.ops, c.base_len.ensures, c.len.ensures, c.requires.base) at c.in_ok-segments.ensures.marks)
+    (rw (c.in_ok-revision.ensures.segments, c.in_ok-revision.ensures.ops, c.base_len.ensures, c.len.ensures, c.requires.base) at c.in_ok-replay.ensures.marks)
     (rw (c.base_len.ensures, c.len.ensures, c.requires.base) refl))
