@@ -3,6 +3,7 @@ use Rattle.std.specs.Prelude.{◌≡◌, ◌⊎◌, ℕ, List, Ok, refl}
 use Rattle.std.specs.Coded.{Coded, code_by, coded×, coded_ℕ, coded_list}
 use Rattle.trace_types.specs.Operation.{Operation}
 use Rattle.trace_types.specs.declared.edits.Edit.{Edit}
+use Rattle.op_step.specs.Chunk.{Chunk}
 use Rattle.run_engine.specs.RunView.{RunView}
 use Rattle.run_engine.specs.Bounds.{StepsAtMostFrom}
 use Rattle.trace_types.specs.contracts.ops.Op as op
@@ -58,9 +59,9 @@ pub record IsSettled (v : Version) (r : Request) (reply : Reply) (next : Version
 unfoldable pub ReplaysWithin : List Operation → List ℕ → List Edit → ℕ → ℕ → Type 0
 ReplaysWithin trace marks batch before after = (ops : List Operation) → edited_by trace batch ≡ Ok ops → StepsAtMostFrom trace ops marks before after
 
--- and by at least the operations that no old stretch covers
-unfoldable pub StepsAtLeast : List Operation → List ℕ → List Edit → ℕ → ℕ → Type 0
-StepsAtLeast trace marks batch before after = (ops : List Operation) → edited_by trace batch ≡ Ok ops → AreSteppedFrom trace ops marks before after
+-- and by at least the operations that neither an old stretch nor a chunk that was on the shelf covers
+unfoldable pub StepsAtLeast : List Operation → List ℕ → List (ℕ × Chunk) → List Edit → ℕ → ℕ → Type 0
+StepsAtLeast trace marks chunks batch before after = (ops : List Operation) → edited_by trace batch ≡ Ok ops → AreSteppedFrom trace ops marks chunks before after
 
 -- the next run is the one that stands, or that of an edit of its trace, with the checkpoints that such an edit leaves, and the shelf after it
 abbrev pub IsNextRun : List Operation → List ℕ → RunView → Shelf → Shelf → Type 0

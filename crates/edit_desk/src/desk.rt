@@ -145,7 +145,7 @@ impl Desk {
         ensures run { OnOk result (let next : RunView = record { trace = self.new.standing.trace; marks = self.new.marks } in IsNextRun self.old.standing.trace self.old.marks next self.old.shelf self.new.shelf) }
         ensures same_run { OnErr result (self.new.marks ≡ self.old.marks) }
         ensures bound { length self.old.standing.history < MAX_ENTRIES → request.base ≡ self.old.standing.version → ReplaysWithin self.old.standing.trace self.old.marks request.batch self.old.meter self.new.meter }
-        ensures stepped { OnOk result (length self.old.standing.history < MAX_ENTRIES → request.base ≡ self.old.standing.version → StepsAtLeast self.old.standing.trace self.old.marks request.batch self.old.meter self.new.meter) }
+        ensures stepped { OnOk result (length self.old.standing.history < MAX_ENTRIES → request.base ≡ self.old.standing.version → StepsAtLeast self.old.standing.trace self.old.marks self.old.shelf.chunks request.batch self.old.meter self.new.meter) }
         ensures full { MAX_ENTRIES ≤ length self.old.standing.history → self.new.meter ≡ self.old.meter }
         ensures stale { request.base ≢ self.old.standing.version → self.new.meter ≡ self.old.meter }
         ensures refused { IsErr (edited_by self.old.standing.trace request.batch) → self.new.meter ≡ self.old.meter }
@@ -177,7 +177,7 @@ impl Desk {
         ensures unchanged { self.new.standing ≡ self.old.standing }
         ensures same_run { self.new.marks ≡ self.old.marks }
         ensures bound { request.base ≡ self.old.standing.version → ReplaysWithin self.old.standing.trace self.old.marks request.batch self.old.meter self.new.meter }
-        ensures stepped { OnOk result (request.base ≡ self.old.standing.version → StepsAtLeast self.old.standing.trace self.old.marks request.batch self.old.meter self.new.meter) }
+        ensures stepped { OnOk result (request.base ≡ self.old.standing.version → StepsAtLeast self.old.standing.trace self.old.marks self.old.shelf.chunks request.batch self.old.meter self.new.meter) }
         ensures stale { request.base ≢ self.old.standing.version → self.new.meter ≡ self.old.meter }
         ensures refused { IsErr (edited_by self.old.standing.trace request.batch) → self.new.meter ≡ self.old.meter }
         ensures never_less { self.old.meter ≤ self.new.meter }
@@ -231,7 +231,7 @@ fn settle(
     ensures settled { IfOk result (λ r. IsSettled published.now request.now r.0 r.1) }
     ensures run { IfOk result (λ r. IsNextRun published.now.run.trace published.now.run.marks r.1.run shelf.old shelf.new) }
     ensures bound { request.now.base ≡ published.now.version → ReplaysWithin published.now.run.trace published.now.run.marks request.now.batch meter.old meter.new }
-    ensures stepped { OnOk result (request.now.base ≡ published.now.version → StepsAtLeast published.now.run.trace published.now.run.marks request.now.batch meter.old meter.new) }
+    ensures stepped { OnOk result (request.now.base ≡ published.now.version → StepsAtLeast published.now.run.trace published.now.run.marks shelf.old.chunks request.now.batch meter.old meter.new) }
     ensures stale { request.now.base ≢ published.now.version → meter.new ≡ meter.old }
     ensures refused { IsErr (edited_by published.now.run.trace request.now.batch) → meter.new ≡ meter.old }
     ensures never_less { meter.old ≤ meter.new }

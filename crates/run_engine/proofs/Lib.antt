@@ -8,6 +8,7 @@ mod StartLemmas
 mod SpanLemmas
 mod StretchLemmas
 mod PieceLemmas
+mod MemoLemmas
 mod PlaceLemmas
 mod RejoinLemmas
 mod ConvergeLemmas

@@ -63,6 +63,7 @@ pub fn old_stretch(
         segments,
         end: after,
         len,
+        fresh: Vec::new(alloc),
     }))
 }
 

@@ -10,7 +10,7 @@ unfolding StepsAtLeast
 returns-in_ok-next-in-Ok-clause-stepped c = λ _ ops e.
     let ok = c.in-Ok.ensures.trace in
     let same : c.in-Ok.run'.trace ≡ ops = cc in
-    subst (λ (os : List Operation). AreSteppedFrom c.args.published.now.run.trace os c.args.published.now.run.marks c.args.meter.now c.revised.new.meter) same c.in-Ok.ensures.stepped
+    subst (λ (os : List Operation). AreSteppedFrom c.args.published.now.run.trace os c.args.published.now.run.marks c.args.shelf.now.chunks c.args.meter.now c.revised.new.meter) same c.in-Ok.ensures.stepped
 
 pub returns-in_ok-share-in-Some-clause-stepped : goal.returns-in_ok-share-in-Some-clause-stepped
 unfolding StepsAtLeast
