@@ -87,7 +87,8 @@ fn carried(alloc: Global, heap: &mut Heap, op: &Op) -> Result<Outcome, AllocErro
 {
     let planned = plan(alloc, heap, op)?;
     see_kept(heap);
-    carry_out(alloc, heap, op.id(), planned)
+    let outcome = carry_out(alloc, heap, op.id(), planned)?;
+    Ok(outcome)
 }
 
 // Not inlined, so that a step has no room for a second heap.
