@@ -63,6 +63,7 @@ ReplaysWithin trace marks batch before after = (ops : List Operation) → edited
 unfoldable pub StepsAtLeast : List Operation → List ℕ → List (ℕ × Chunk) → List Edit → ℕ → ℕ → Type 0
 StepsAtLeast trace marks chunks batch before after = (ops : List Operation) → edited_by trace batch ≡ Ok ops → AreSteppedFrom trace ops marks chunks before after
 
--- the next run is the one that stands, or that of an edit of its trace, with the checkpoints that such an edit leaves, and the shelf after it
+-- the next run is the one that stands, with the shelf as it was, or that of an edit of its trace, with the checkpoints that such an edit
+-- leaves, and the shelf after it
 abbrev pub IsNextRun : List Operation → List ℕ → RunView → Shelf → Shelf → Type 0
-IsNextRun trace marks next shelf after = let now : RunView = record { trace = trace; marks = marks } in (next ≡ now) ⊎ AreMarksKept now next shelf after
+IsNextRun trace marks next shelf after = let now : RunView = record { trace = trace; marks = marks } in ((next ≡ now) × (after ≡ shelf)) ⊎ AreMarksKept now next shelf after

@@ -1,5 +1,5 @@
-//! How many checkpoints are kept.
-use crate::small_traces::{add, batch, op};
+//! How many checkpoints a desk keeps, and which stretches it steps no second time.
+use crate::small_traces::{add, batch, broken_cycle, op};
 use edit_desk::desk::Desk;
 use edit_desk::entries::Request;
 use edit_desk::kept::{KEPT_CHUNKS, KEPT_MARKS, KEPT_NAMES};
@@ -79,5 +79,35 @@ fn touched_checkpoints_stay(rt: HostRuntime) -> Result<(), Fail> {
     let marks = run.marks(alloc)?;
     let wanted = [0usize, 128, 129, 193, 257, 321, 385, 449, 513, 577, 641];
     assert!(rt; marks.as_slice() == wanted.as_slice());
+    Ok(())
+}
+
+// The first stretch without operation 8, with it again, and so once more: then both are known. Without operation 7 it has the name
+// of the first, and other operations.
+#[test]
+fn memo_by_content(rt: HostRuntime) -> Result<(), Fail> {
+    let alloc = rt.alloc();
+    let mut desk = Desk::open(alloc, broken_cycle(alloc)?)?;
+    for (turn, rise) in [63u64, 64, 0, 0, 63].iter().enumerate() {
+        let set = Kind::Set {
+            h: 0,
+            i: 0,
+            from: 4,
+        };
+        let edit = match turn {
+            0 | 2 => Edit::Remove { id: 8 },
+            1 | 3 => Edit::Insert {
+                after: 7,
+                op: op(8, set)?,
+            },
+            _ => Edit::Remove { id: 7 },
+        };
+        let base = turn as u32;
+        let before = desk.meter().count();
+        let batch = batch(alloc, edit)?;
+        let reply = desk.answer(alloc, 0, Request { base, batch })?;
+        assert_eq!(rt; reply, Reply::Accepted(base + 1));
+        assert_eq!(rt; desk.meter().count() - before, *rise);
+    }
     Ok(())
 }

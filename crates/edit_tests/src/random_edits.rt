@@ -1,8 +1,9 @@
-//! Random traces, in which objects come to hold each other, are edited again and again, each time after random checkpoints were given
-//! up: each run is what a replay from nothing gives.
+//! Random traces, in which objects come to hold each other, are edited again and again over a shelf, each time after random checkpoints
+//! were given up: each run is what a replay from nothing gives.
 ghost use Rattle.std.specs.Prelude.{◌<◌};
 
-use crate::small_traces::{add, batch, edited_alone, has_outcome, new, op_of};
+use crate::small_traces::{add, batch, has_outcome, new, op_of};
+use mark_shelf::MarkShelf;
 use op_step::meter::Meter;
 use op_step::replay::replay;
 use run_engine::run::Run;
@@ -13,11 +14,14 @@ use trace_types::kinds::{Field, Kind};
 use trace_types::ops::Op;
 use trace_types::trace::Trace;
 
-const TRACES: u32 = 50;
+const TRACES: u32 = 100;
 
-const EDITS: u32 = 6;
+const EDITS: u32 = 20;
 
 const OPS: u32 = 400;
+
+// The number of the operation that comes and goes.
+const TURNED: u32 = 999;
 
 // Numbers that follow from a seed.
 #[derive(Drop)]
@@ -75,6 +79,15 @@ fn rolled_edit(alloc: Global, dice: &mut Dice, id: u32) -> Result<Batch, Fail> {
     batch(alloc, edit)
 }
 
+// An operation comes at the front, or goes again: what is replayed then may be known.
+fn turned(alloc: Global, run: &Run) -> Result<Batch, Fail> {
+    if run.place(TURNED).is_some() {
+        return batch(alloc, Edit::Remove { id: TURNED });
+    }
+    let op = op_of(TURNED, 0, Kind::Counts { h: 0 })?;
+    batch(alloc, Edit::Insert { after: 0, op })
+}
+
 fn give_up_some(alloc: Global, run: &mut Run, dice: &mut Dice) -> Result<(), Fail> {
     let marks = run.marks(alloc)?;
     for mark in marks.as_slice() {
@@ -96,35 +109,47 @@ fn is_replay(alloc: Global, run: &Run) -> Result<bool, Fail> {
     Ok(run.end().same(&end) && outcomes.as_slice().len() == run.len())
 }
 
-// How many edits of one trace stop early though the ends differ.
-fn early_stops(alloc: Global, seed: u32) -> Result<u32, Fail> {
+// How many edits of one trace stop early though the ends differ, and how many step nothing.
+fn told(alloc: Global, seed: u32) -> Result<(u32, u32), Fail> {
     let mut dice = Dice { state: seed };
     let mut run = Run::load(alloc, &rolled_trace(alloc, &mut dice)?, &mut Meter::new())?;
+    let mut shelf = MarkShelf::new(alloc, 64, 32, 32)?;
     let mut early = 0u32;
+    let mut known = 0u32;
     for turn in 0..EDITS {
         give_up_some(alloc, &mut run, &mut dice)?;
-        let edits = rolled_edit(alloc, &mut dice, 1000 + turn)?;
+        let edits = match dice.roll(3) {
+            0 => turned(alloc, &run)?,
+            _ => rolled_edit(alloc, &mut dice, 1000 + turn)?,
+        };
         let mut meter = Meter::new();
         // an operation that went in an earlier turn can't be edited
-        if let Ok(edited) = edited_alone(&run, alloc, &edits, &mut meter) {
+        if let Ok(edited) = run.edited(alloc, &edits, &mut shelf, &mut meter) {
             if !is_replay(alloc, &edited)? {
                 return Err(Fail::from("another replay"));
             }
             if meter.count() <= 128 && !edited.end().same(run.end()) {
                 early = early.saturating_add(1);
             }
+            if meter.count() == 0 {
+                known = known.saturating_add(1);
+            }
             run = edited;
         }
     }
-    Ok(early)
+    Ok((early, known))
 }
 
 #[test]
 fn edited_runs_are_replays(rt: HostRuntime) -> Result<(), Fail> {
     let mut early = 0u32;
+    let mut known = 0u32;
     for seed in 0..TRACES {
-        early = early.saturating_add(early_stops(rt.alloc(), seed)?);
+        let (stopped, found) = told(rt.alloc(), seed)?;
+        early = early.saturating_add(stopped);
+        known = known.saturating_add(found);
     }
     assert!(rt; early > 0);
+    assert!(rt; known > 0);
     Ok(())
 }

@@ -155,7 +155,7 @@ fn cycle_without(alloc: Global, gone: u32, last: u32) -> Result<Trace, Fail> {
 }
 
 #[test]
-fn memo_by_content(rt: HostRuntime) -> Result<(), Fail> {
+fn chunk_by_content(rt: HostRuntime) -> Result<(), Fail> {
     let alloc = rt.alloc();
     let mut shelf = MarkShelf::new(alloc, 1, 8, 8)?;
     let without_8 = cycle_without(alloc, 8, 64)?;

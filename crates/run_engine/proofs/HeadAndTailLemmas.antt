@@ -8,6 +8,7 @@ use Rattle.trace_types.specs.Operation.{Operation}
 use Rattle.run_engine.specs.HeadAndTail.{ShareEnd, IsHead, IsTail, AreShared, AreAlike}
 use Rattle.run_engine.specs.Marks.{IsGreatest}
 use Rattle.run_engine.specs.Bounds.{StepsAtMostFrom}
+use Rattle.op_step.specs.Chunk.{Chunk}
 use Rattle.run_engine.specs.Steps.{AreSteppedFrom}
 use Rattle.run_engine.proofs.ListingLemmas.{around, take-shorter}
 
@@ -91,9 +92,9 @@ bound-as old old_is ops marks marks_are before after e f h =
     subst (λ o. StepsAtMostFrom o ops marks_are before after) e (subst (λ ms. StepsAtMostFrom old ops ms before after) f h)
 
 -- what is stepped, by other names
-pub stepped-as : (old old_is ops : List Operation) (marks marks_are : List ℕ) (before after : ℕ) → old ≡ old_is → marks ≡ marks_are → AreSteppedFrom old ops marks before after → AreSteppedFrom old_is ops marks_are before after
-stepped-as old old_is ops marks marks_are before after e f h =
-    subst (λ o. AreSteppedFrom o ops marks_are before after) e (subst (λ ms. AreSteppedFrom old ops ms before after) f h)
+pub stepped-as : (old old_is ops : List Operation) (marks marks_are : List ℕ) (chunks : List (ℕ × Chunk)) (before after : ℕ) → old ≡ old_is → marks ≡ marks_are → AreSteppedFrom old ops marks chunks before after → AreSteppedFrom old_is ops marks_are chunks before after
+stepped-as old old_is ops marks marks_are chunks before after e f h =
+    subst (λ o. AreSteppedFrom o ops marks_are chunks before after) e (subst (λ ms. AreSteppedFrom old ops ms chunks before after) f h)
 
 -- nothing was stepped
 pub bounded-none : (old ops : List Operation) (marks : List ℕ) (before : ℕ) → StepsAtMostFrom old ops marks before before

@@ -2,9 +2,8 @@
 use Rattle.std.proofs.Common.{◌≡◌, ℕ, ◌-◌, ◌^◌, ◌<◌, Bool, true, false, List, nat_eq, ◌∙◌, refl, ap, subst}
 use Rattle.std.specs.Prelude.{Contains, Option, Some, None, is_some, if◌then◌else◌}
 use Rattle.std.specs.Option.{option_map_or}
-use Rattle.std.specs.Map.{lookup, remove_entry}
+use Rattle.std.specs.Map.{lookup}
 use mathlib.Core.Logic.{⊎_elim}
-use Rattle.lru.specs.LruCache.{promoted}
 use Rattle.trace_types.specs.Operation.{Operation}
 use Rattle.ownership_model.specs.State.{State}
 use Rattle.op_step.specs.Chunk.{Chunk}
@@ -30,13 +29,13 @@ HasSameNames-remembered a b c k h r = ⊎_elim
     r
 
 -- a look-up changes no name of a checkpoint
-used-names : (s : Shelf) (n : ChunkName) (k : ℕ) (b : Bool) → HasSameNames s (if b then record s { chunks = promoted (nat_eq k) s.chunks } else record s { names = remove_entry (name_eq n) s.names })
-used-names s n k true = record { names = refl; room = refl }
-used-names s n k false = record { names = refl; room = refl }
+either-names : (s a b : Shelf) (t : Bool) → HasSameNames s a → HasSameNames s b → HasSameNames s (if t then a else b)
+either-names s a b true h k = h
+either-names s a b false h k = k
 
 sought-names : (s : Shelf) (n : ChunkName) (o : Option ℕ) → HasSameNames s (option_map_or (used s n) o s)
 sought-names s n None = record { names = refl; room = refl }
-sought-names s n (Some k) = used-names s n k (is_some (lookup (nat_eq k) s.chunks))
+sought-names s n (Some k) = either-names s _ _ (is_some (lookup (nat_eq k) s.chunks)) (record { names = refl; room = refl }) (record { names = refl; room = refl })
 
 pub IsSearched-sought : (s : Shelf) (n : ChunkName) → ((e : ℕ × Chunk) → Contains (sought s n).chunks e → Contains s.chunks e) → IsSearched s (sought s n)
 IsSearched-sought s n fewer = record { same_names = sought-names s n (lookup (name_eq n) s.names); fewer = fewer }

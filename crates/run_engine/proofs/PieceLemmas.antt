@@ -176,6 +176,14 @@ unused-slice_range ops heap at to distinct is =
     let first : AreUnused m (slice_range ops at to) = appends.unused_front m (slice_range ops at to) (drop (to - at) (drop at ops)) (subst (AreUnused m) (sym (take-append-drop (to - at) (drop at ops))) rest) in
     subst (λ n. AreUnused n (slice_range ops at to)) (sym is) first
 
+-- the operations up to a cut are the first of those that are left
+pub take-next : (ops next : List Operation) (at l to len : ℕ) → next ≡ slice_range ops at (at + l) → len ≡ length next → l ≤ to - at → to ≤ length ops → take len (slice_range ops at to) ≡ next
+take-next ops next at l to len is whole le within =
+    let cut : at + l - at ≡ l = omega arith in
+    let next_is : next ≡ take l (drop at ops) = is ∙ ap (λ n. take n (drop at ops)) cut in
+    let long : len ≡ l = omega (arith, whole ∙ ap length next_is, length-take l (drop at ops), length-drop at ops) in
+    take-shorter len (to - at) (drop at ops) (omega (arith, long)) ∙ ap (λ n. take n (drop at ops)) long ∙ sym next_is
+
 -- one segment is a piece
 pub IsPiece-one : (start end : State) (ops : List Operation) (outcomes : List Outcome) → 0 < length ops → outcomes ≡ outcomes_from start ops → end ≡ end_from start ops
     → IsPiece start ops (record { mark = Some start; ops = ops; outcomes = outcomes } ∷ []) end (length ops)

@@ -8,11 +8,11 @@ ghost use Rattle.run_engine.specs.RunView.{RunView};
 ghost use Rattle.run_engine.specs.GivenUp.{given_up, name_at, names_at, IsTouched};
 ghost use Rattle.run_engine.specs.Loaded.{is_gone, kept_below, loaded_view};
 
-use crate::piece::{Piece, STRIDE, joined};
+use crate::piece::{Piece, STRIDE, joined, replayed};
 use crate::seek::clear_mark;
 use mark_shelf::MarkShelf;
 use object_heap::heap::Heap;
-use op_step::chunk_run::{copy_ops, run_of};
+use op_step::chunk_run::copy_ops;
 use op_step::meter::Meter;
 use std::alloc::{AllocError, Global};
 use trace_types::ops::Op;
@@ -43,8 +43,8 @@ pub fn loaded(
         let i = front.segments.as_slice().len();
         let to = at + (ops.len() - at).min(STRIDE);
         let copies = copy_ops(alloc, &ops[at..to])?;
-        let chunk = run_of(alloc, &front.end, copies, meter)?;
-        front = joined(front, Piece::of(alloc, &chunk)?)?;
+        let piece = replayed(alloc, &front.end, copies, meter)?;
+        front = joined(front, piece)?;
         if is_gone(gone, at) {
             clear_mark(&mut front.segments, i);
         }

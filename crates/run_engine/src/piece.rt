@@ -66,7 +66,28 @@ pub fn joined(front: Piece, next: Piece) -> Result<Piece, AllocError>
     })
 }
 
-/// Steps all the operations: a piece with a fresh chunk.
+/// Steps all the operations: a piece, and the chunk is gone.
+pub fn replayed(
+    alloc: Global,
+    heap: &Heap,
+    ops: Vec<Op>,
+    meter: &mut Meter,
+) -> Result<Piece, AllocError>
+    requires some { 0 < length ops.items }
+    requires distinct { IsTrue (has_distinct_numbers ops.items) }
+    requires unused { AreUnused heap.now ops.items }
+    ensures piece { IfOk result (λ p. IsPiece heap.now ops.items p.segments.items p.end p.len) }
+    ensures whole { IfOk result (λ p. p.len ≡ length ops.items) }
+    ensures count { IfOk result (λ p. meter.new ≡ raised meter.old p.len) }
+    ensures never_less { meter.old ≤ meter.new }
+    ensures rise { meter.new ≤ meter.old + length ops.items }
+{
+    let chunk = run_of(alloc, heap, ops, meter)?;
+    let piece = Piece::of(alloc, &chunk)?;
+    Ok(piece)
+}
+
+/// As `replayed`, and the piece has the chunk.
 pub fn stepped(
     alloc: Global,
     heap: &Heap,

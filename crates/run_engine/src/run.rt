@@ -171,6 +171,7 @@ impl Run {
         ensures stepped { IfOk result (λ r. AreSteppedFrom self.now.trace r.run.trace self.now.marks shelf.old.chunks meter.old meter.new) }
         ensures searched { IsSearched shelf.old shelf.new }
         ensures refused { IsErr (edited_by self.now.trace batch.now) → meter.new ≡ meter.old }
+        ensures refused_shelf { IsErr (edited_by self.now.trace batch.now) → shelf.new ≡ shelf.old }
         ensures never_less { meter.old ≤ meter.new }
     {
         try_size(batch.len())?;

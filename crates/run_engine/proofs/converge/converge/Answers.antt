@@ -13,7 +13,7 @@ use Rattle.run_engine.proofs.SegmentLemmas.{length-trace_of-next, trace_of-appen
 use Rattle.run_engine.proofs.PieceLemmas.{mark-is, take-rest}
 use Rattle.run_engine.proofs.PlaceLemmas.{mark-there, place-within, trace_of-front}
 use Rattle.run_engine.proofs.ConvergeLemmas.{IsBeside-first, IsBeside-next, least-agreeing, bounded, ShareEnd-length, IsRunFrom-back, rest-shared, distinct-back, old-unused, new-unused, AgreesAt-here, AgreesAt-there, IsSpliced, IsSpliced-rest, IsSpliced-end}
-use Rattle.run_engine.proofs.converge.converge.Goals.{then-at-old+in-Some+in_ok-front+in_ok-found+in_default-found, then-at-old+in_default, else-at-old}
+use Rattle.run_engine.proofs.converge.converge.Goals.{then-at-seam+in-Some+in_ok-front+in_ok-found+in_default-found, then-at-seam+in_default, else-at-seam}
 use Rattle.run_engine.specs.NewMarks.{AreLaid, AreMarksOf}
 use Rattle.run_engine.proofs.MarksLemmas.{AreLaid-none, AreMarksOf-stop, AreMarksOf-end, all_marks-rest, IsReached-length}
 use Rattle.run_engine.specs.Bounds.{AgreesAt}
@@ -27,15 +27,15 @@ moved-within old ops a b at h le behind = omega (arith, ShareEnd-length old ops 
 
 pub advance-requires-clause-within : goal.advance-requires-clause-within
 advance-requires-clause-within c =
-    moved-within _ _ c.args.seam.old c.args.seam.new c.loop-i.at c.requires.shared (place-within c.args.revision.now.segments.now c.loop-i.i c.loop-i.at c.loop-i.invariant.beside.place) c.if-at-old.true
+    moved-within _ _ c.args.seam.old c.args.seam.new c.loop-i.at c.requires.shared (place-within c.args.revision.now.segments.now c.loop-i.i c.loop-i.at c.loop-i.invariant.beside.place) c.if-at-seam.true
+
+pub overflow_add-leg : goal.overflow_add-leg
+overflow_add-leg c =
+    let le : c.loop-i.at - c.args.seam.old + c.args.seam.new ≤ length c.args.revision.now.ops.now.ops = moved-within _ _ c.args.seam.old c.args.seam.new c.loop-i.at c.requires.shared (place-within c.args.revision.now.segments.now c.loop-i.i c.loop-i.at c.loop-i.invariant.beside.place) c.if-at-seam.true in
+    omega (arith, c.requires.trace.few)
 
 pub overflow_add-at : goal.overflow_add-at
 overflow_add-at c =
-    let le : c.loop-i.at - c.args.seam.old + c.args.seam.new ≤ length c.args.revision.now.ops.now.ops = moved-within _ _ c.args.seam.old c.args.seam.new c.loop-i.at c.requires.shared (place-within c.args.revision.now.segments.now c.loop-i.i c.loop-i.at c.loop-i.invariant.beside.place) c.if-at-old.true in
-    omega (arith, c.requires.trace.few)
-
-pub overflow_add-at-in-loop-i : goal.overflow_add-at-in-loop-i
-overflow_add-at-in-loop-i c =
     let next = length-trace_of-next c.args.revision.now.segments.now c.loop-i.i c.index-old-i.result c.loop-i-test.true c.index-old-i.is in
     let n = ap length c.ops.ensures in
     let le : length (trace_of (take (c.loop-i.i + 1) c.args.revision.now.segments.now)) ≤ length (trace_of c.args.revision.now.segments.now) = place-within c.args.revision.now.segments.now (c.loop-i.i + 1) _ refl in
@@ -43,19 +43,19 @@ overflow_add-at-in-loop-i c =
 
 pub returns-in_err-front-clause-bound : goal.returns-in_err-front-clause-bound
 returns-in_err-front-clause-bound c =
-    bounded _ _ _ _ _ _ _ _ _ _ _ _ _ c.loop-i.invariant.beside c.requires.shared c.if-at-old.true (omega (arith, c.loop-i.invariant.beside.rise, c.advance.ensures.rise))
+    bounded _ _ _ _ _ _ _ _ _ _ _ _ _ c.loop-i.invariant.beside c.requires.shared c.if-at-seam.true (omega (arith, c.loop-i.invariant.beside.rise, c.advance.ensures.rise))
 
 pub returns-in_err-found-clause-bound : goal.returns-in_err-found-clause-bound
 returns-in_err-found-clause-bound c =
-    bounded _ _ _ _ _ _ _ _ _ _ _ _ _ c.loop-i.invariant.beside c.requires.shared c.if-at-old.true (omega (arith, c.loop-i.invariant.beside.rise, c.advance.ensures.rise))
+    bounded _ _ _ _ _ _ _ _ _ _ _ _ _ c.loop-i.invariant.beside c.requires.shared c.if-at-seam.true (omega (arith, c.loop-i.invariant.beside.rise, c.advance.ensures.rise))
 
 pub returns-in_err-spliced-clause-bound : goal.returns-in_err-spliced-clause-bound
 returns-in_err-spliced-clause-bound c =
-    bounded _ _ _ _ _ _ _ _ _ _ _ _ _ c.loop-i.invariant.beside c.requires.shared c.if-at-old.true (omega (arith, c.loop-i.invariant.beside.rise, c.advance.ensures.rise))
+    bounded _ _ _ _ _ _ _ _ _ _ _ _ _ c.loop-i.invariant.beside c.requires.shared c.if-at-seam.true (omega (arith, c.loop-i.invariant.beside.rise, c.advance.ensures.rise))
 
 pub returns-in-Some-found-clause-bound : goal.returns-in-Some-found-clause-bound
 returns-in-Some-found-clause-bound c =
-    bounded _ _ _ _ _ _ _ _ _ _ _ _ _ c.loop-i.invariant.beside c.requires.shared c.if-at-old.true (omega (arith, c.loop-i.invariant.beside.rise, c.advance.ensures.rise))
+    bounded _ _ _ _ _ _ _ _ _ _ _ _ _ c.loop-i.invariant.beside c.requires.shared c.if-at-seam.true (omega (arith, c.loop-i.invariant.beside.rise, c.advance.ensures.rise))
 
 pub rejoined-requires-clause-run : goal.rejoined-requires-clause-run
 rejoined-requires-clause-run c =
@@ -78,7 +78,7 @@ pub rejoined-requires-clause-unused : goal.rejoined-requires-clause-unused
 rejoined-requires-clause-unused c =
     rw (take-rest c.loop-i.i c.args.revision.now.segments.now)
     (new-unused c.args.revision.now.ops.now.ops c.in_ok-front.front.len c.in_ok-front.front.segments.items (drop c.loop-i.i c.args.revision.now.segments.now) c.in_ok-front.front.end c.in_ok-front.ensures.front c.requires.trace.distinct
-    (back c.args.revision.now.segments.now c.args.revision.now.ops.now.ops c.args.seam.old c.args.seam.new c.loop-i.i c.loop-i.at c.in_ok-front.front.len c.requires.shared c.loop-i.invariant.beside.place c.if-at-old.true c.in_ok-front.ensures.there))
+    (back c.args.revision.now.segments.now c.args.revision.now.ops.now.ops c.args.seam.old c.args.seam.new c.loop-i.i c.loop-i.at c.in_ok-front.front.len c.requires.shared c.loop-i.invariant.beside.place c.if-at-seam.true c.in_ok-front.ensures.there))
 
 -- where the old run goes on it has the operations that are left
 rest-is : (c : goal.Joined-seen-7) → trace_of c.in-Some-found.rest.items ≡ trace_of (drop c.loop-i.i c.args.revision.now.segments.now)
@@ -90,7 +90,7 @@ spliced : (c : goal.Joined-seen-7) → IsSpliced c.args.revision.now.ops.now.ops
 spliced c =
     let run : IsRunFrom c.in_ok-front.front.end c.in-Some-found.rest.items c.in-Some-found.end = rw c.in-Some-found.is at c.in_ok-found.ensures.run in
     IsSpliced-rest c.args.revision.now.ops.now.ops c.in_ok-front.front.len c.in_ok-front.front.segments.items c.in-Some-found.rest.items c.in_ok-front.front.end c.in-Some-found.end c.in_ok-front.ensures.front
-    (rest-is c ∙ back c.args.revision.now.segments.now c.args.revision.now.ops.now.ops c.args.seam.old c.args.seam.new c.loop-i.i c.loop-i.at c.in_ok-front.front.len c.requires.shared c.loop-i.invariant.beside.place c.if-at-old.true c.in_ok-front.ensures.there)
+    (rest-is c ∙ back c.args.revision.now.segments.now c.args.revision.now.ops.now.ops c.args.seam.old c.args.seam.new c.loop-i.i c.loop-i.at c.in_ok-front.front.len c.requires.shared c.loop-i.invariant.beside.place c.if-at-seam.true c.in_ok-front.ensures.there)
     run
 
 -- the heaps agree where the replay stops
@@ -128,7 +128,7 @@ returns-in-Some-found-clause-marks c =
     trace_of-append front (drop c.loop-i.i old) ∙ ap (λ t. trace_of front ++ t) (sym (rest-is c)) ∙ sym (trace_of-append front c.in-Some-found.rest.items) ∙ (spliced c).trace in
     rw (c.in_ok-spliced.ensures.segments, alike)
     (AreMarksOf-stop c.args.revision.now.segments.now c.in_ok-front.front.segments.items c.args.revision.now.ops.now.ops (marks_from 0 c.args.front.segments.items) c.args.seam.old c.args.seam.new c.loop-i.i c.loop-i.at c.args.front.len c.index-old-i.result
-    c.requires.revision.run.full c.requires.shared c.loop-i-test.true c.index-old-i.is c.in-Some.mark.now (sym c.in-Some.ensures) c.loop-i.invariant.beside.place c.if-at-old.true
+    c.requires.revision.run.full c.requires.shared c.loop-i-test.true c.index-old-i.is c.in-Some.mark.now (sym c.in-Some.ensures) c.loop-i.invariant.beside.place c.if-at-seam.true
     (agreed c) (least-agreeing _ _ _ _ _ _ _ _ _ _ _ _ c.loop-i.invariant.beside)
     (IsReached-length _ _ _ _ c.in_ok-front.ensures.front ∙ there) trace laid)
 
@@ -136,7 +136,7 @@ pub returns-in-Some-found-clause-stepped : goal.returns-in-Some-found-clause-ste
 returns-in-Some-found-clause-stepped c =
     AreStepped-stop (trace_of c.args.revision.now.segments.now) c.args.revision.now.ops.now.ops (all_marks c.args.revision.now.segments.now) c.args.shelf.now.chunks c.args.seam.old c.args.seam.new c.args.front.len c.in_ok-front.front.len c.loop-i.at c.args.meter.now _ c.in_ok-front.ensures.there
     (mark-there c.args.revision.now.segments.now c.loop-i.i c.loop-i.at c.index-old-i.result c.in-Some.mark.now c.loop-i-test.true c.index-old-i.is (sym c.in-Some.ensures) c.loop-i.invariant.beside.place)
-    c.if-at-old.true (agreed c) (c.in_ok-front.ensures.stepped _ _ _ c.loop-i.invariant.stepped c.loop-i.invariant.searched.fewer)
+    c.if-at-seam.true (agreed c) (c.in_ok-front.ensures.stepped _ _ _ c.loop-i.invariant.stepped c.loop-i.invariant.searched.fewer)
 
 place-end : (old : List SegmentView) (i at : ℕ) → length old ≤ i → i ≤ length old → length (trace_of (take i old)) ≡ at → at ≡ length (trace_of old)
 place-end old i at ge le e = let n : i ≡ length old = omega arith in sym e ∙ ap (λ j. length (trace_of (take j old))) n ∙ ap (λ ss. length (trace_of ss)) (take-length old)
@@ -186,8 +186,8 @@ returns-clause-bound c =
 pub loop-i-preserved : goal.loop-i-preserved
 loop-i-preserved c =
     let old = c.args.revision.now.segments.now in
-    elim c.if-at-old.branch [
-      | then-at-old+in-Some+in_ok-front+in_ok-found+in_default-found w ↦
+    elim c.if-at-seam.branch [
+      | then-at-seam+in-Some+in_ok-front+in_ok-found+in_default-found w ↦
           let m : w.in-Some.mark.now ≡ end_from nothing_held (trace_of (take c.loop-i.i c.args.revision.now.segments.now)) = mark-is c.args.revision.now.segments.now c.loop-i.i c.index-old-i.result w.in-Some.mark.now c.requires.revision.run.replay c.loop-i-test.true c.index-old-i.is w.in-Some.ensures in
           let there : w.in_ok-front.front.len ≡ c.loop-i.at - c.args.seam.old + c.args.seam.new = w.in_ok-front.ensures.there in
           let front = w.in_ok-front.ensures.front in
@@ -206,7 +206,7 @@ loop-i-preserved c =
             never_less = omega (arith, c.loop-i.invariant.never_less, w.advance.ensures.never_less);
             laid = w.in_ok-front.ensures.marks _ _ c.loop-i.invariant.laid;
           })
-      | then-at-old+in_default w ↦
+      | then-at-seam+in_default w ↦
           rw (w.front-is, w.meter-is, w.shelf-is, c.ops.ensures)
           (record {
             beside = IsBeside-next c.args.revision.now.segments.now c.args.revision.now.ops.now.ops c.args.seam.old c.args.seam.new c.args.front.len c.args.meter.now c.loop-i.i c.loop-i.at c.loop-i.front.len c.loop-i.front.segments.items c.loop-i.front.end c.loop-i.meter
@@ -217,12 +217,12 @@ loop-i-preserved c =
             never_less = c.loop-i.invariant.never_less;
             laid = c.loop-i.invariant.laid;
           })
-      | else-at-old w ↦
+      | else-at-seam w ↦
           rw (w.front-is, w.meter-is, w.shelf-is, c.ops.ensures)
           (record {
             beside = IsBeside-next c.args.revision.now.segments.now c.args.revision.now.ops.now.ops c.args.seam.old c.args.seam.new c.args.front.len c.args.meter.now c.loop-i.i c.loop-i.at c.loop-i.front.len c.loop-i.front.segments.items c.loop-i.front.end c.loop-i.meter
                 c.loop-i.front.len c.loop-i.front.segments.items c.loop-i.front.end c.loop-i.meter c.index-old-i.result c.loop-i.invariant.beside c.loop-i-test.true c.index-old-i.is c.loop-i.invariant.beside.front c.loop-i.invariant.beside.order c.loop-i.invariant.beside.rise
-                (λ marked behind agrees. let lt : c.loop-i.at < c.args.seam.old = w.if-at-old.false in omega arith);
+                (λ marked behind agrees. let lt : c.loop-i.at < c.args.seam.old = w.if-at-seam.false in omega arith);
             stepped = c.loop-i.invariant.stepped;
             searched = c.loop-i.invariant.searched;
             never_less = c.loop-i.invariant.never_less;

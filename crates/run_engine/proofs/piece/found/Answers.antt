@@ -7,5 +7,11 @@ returns-clause-there c =
     IsAmong-found c.args.shelf.now.chunks c.in-Some.chunk c.args.heap.now c.args.ops.now c.in-Some.ensures.start c.in-Some.ensures.ops
     (c.finds_what_was_there.ensures.there c.args.shelf.now (name_of c.args.ops.now) c.in-Some.chunk c.in-Some.ensures.named)
 
+pub returns-in_default-clause-searched : goal.returns-in_default-clause-searched
+returns-in_default-clause-searched c = rw c.find.ensures.shelf (IsSearched-sought c.args.shelf.now (name_of c.args.ops.now) (c.finds_what_was_there.ensures.fewer c.args.shelf.now (name_of c.args.ops.now)))
+
+pub returns-in_err-piece-clause-searched : goal.returns-in_err-piece-clause-searched
+returns-in_err-piece-clause-searched c = rw c.find.ensures.shelf (IsSearched-sought c.args.shelf.now (name_of c.args.ops.now) (c.finds_what_was_there.ensures.fewer c.args.shelf.now (name_of c.args.ops.now)))
+
 pub returns-clause-searched : goal.returns-clause-searched
-returns-clause-searched c = rw c.in-Some.ensures.shelf (IsSearched-sought c.args.shelf.now (name_of c.args.ops.now) (c.finds_what_was_there.ensures.fewer c.args.shelf.now (name_of c.args.ops.now)))
+returns-clause-searched c = rw c.find.ensures.shelf (IsSearched-sought c.args.shelf.now (name_of c.args.ops.now) (c.finds_what_was_there.ensures.fewer c.args.shelf.now (name_of c.args.ops.now)))
