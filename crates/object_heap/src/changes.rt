@@ -16,10 +16,8 @@ use crate::counters::{
 };
 use crate::draft::Draft;
 use crate::objects::Objects;
-use crate::scopes::Scopes;
 use share_tree::ShareTree;
 use std::alloc::{AllocError, Global};
-use std::mem::replace;
 use trace_types::sequence::Sequence;
 use trace_types::slots::{Change, Entry, Holding, Slot};
 
@@ -92,7 +90,7 @@ impl Draft {
         ensures { OnOk result (self.new ≡ record self.old { scopes = kept_or_entered (map.get self.old.handles handle) label handle self.old.scopes }) }
     {
         if self.handles.get(handle).is_none() {
-            self.scopes = replace(&mut self.scopes, Scopes::empty()).enter(alloc, label, handle)?;
+            self.scopes.enter(alloc, label, handle)?;
         }
         Ok(())
     }
@@ -103,7 +101,7 @@ impl Draft {
         ensures { OnOk result (Changes self.old self.new (change.EndHandle handle)) }
     {
         let_go_handle(alloc, &mut self.counts, &self.handles, handle)?;
-        self.scopes = replace(&mut self.scopes, Scopes::empty()).leave(alloc, handle)?;
+        self.scopes.leave(alloc, handle)?;
         self.handles.remove(alloc, handle)
     }
 

@@ -1,5 +1,6 @@
 //! The scopes of threads, linked through two trees.
-ghost use Rattle.std.specs.Prelude.{◌≡◌, ◌↔◌, [], IfOk, OnOk, IsTrue};
+ghost use Rattle.std.specs.Prelude.{◌≡◌, ◌↔◌, [], Some, None, IfOk, OnOk, IsTrue};
+ghost use Rattle.std.specs.FinMap as map;
 ghost use Rattle.ownership_model.specs.Scopes.{scope_of, entered, left, times_in};
 ghost use Rattle.object_heap.specs.Links.{first_of, earlier_in, relinked_later, relinked_earlier, last_without};
 
@@ -75,44 +76,80 @@ impl Scopes {
         }
     }
 
-    /// The scopes, where a handle that stands in none has entered that of the label.
-    pub fn enter(self, alloc: Global, label: u32, handle: u32) -> Result<Scopes, AllocError>
-        requires { times_in handle self ≡ 0 }
-        ensures { IfOk result (λ s. s ≡ entered label handle self) }
+    /// A handle that stands in no scope enters that of the label. Where memory runs out no handle stands in any.
+    pub fn enter(&mut self, alloc: Global, label: u32, handle: u32) -> Result<(), AllocError>
+        requires { times_in handle self.old ≡ 0 }
+        ensures { OnOk result (self.new ≡ entered label handle self.old) }
     {
-        let Scopes {
-            mut places,
-            mut last,
-        } = self;
-        let earlier = last.get(label).copied();
-        set_later(alloc, &mut places, earlier, Some(handle))?;
-        let place = Place {
-            label,
-            earlier,
-            later: None,
-        };
-        places.insert(alloc, handle, place)?;
-        last.insert(alloc, label, handle)?;
-        Ok(Scopes { places, last })
+        if let Err(error) = link(alloc, &mut self.places, &mut self.last, label, handle) {
+            clear(&mut self.places, &mut self.last);
+            return Err(error);
+        }
+        Ok(())
     }
 
-    /// The scopes, where a handle has left its own, if it stood in one.
-    pub fn leave(self, alloc: Global, handle: u32) -> Result<Scopes, AllocError>
-        ensures { IfOk result (λ s. s ≡ left handle self) }
+    /// A handle leaves its own scope, if it stands in one. Where memory runs out no handle stands in any.
+    pub fn leave(&mut self, alloc: Global, handle: u32) -> Result<(), AllocError>
+        ensures { OnOk result (self.new ≡ left handle self.old) }
     {
-        let Scopes {
-            mut places,
-            mut last,
-        } = self;
-        let Some(place) = places.get(handle).copied() else {
-            return Ok(Scopes { places, last });
+        let Some(place) = self.places.get(handle).copied() else {
+            return Ok(());
         };
-        places.remove(alloc, handle)?;
-        set_later(alloc, &mut places, place.earlier, place.later)?;
-        set_earlier(alloc, &mut places, place.later, place.earlier)?;
-        set_last(alloc, &mut last, place)?;
-        Ok(Scopes { places, last })
+        if let Err(error) = unlink(alloc, &mut self.places, &mut self.last, handle, place) {
+            clear(&mut self.places, &mut self.last);
+            return Err(error);
+        }
+        Ok(())
     }
+}
+
+// Nothing is linked any more.
+#[inline(never)]
+fn clear(places: &mut ShareTree<Place>, last: &mut ShareTree<u32>)
+    ensures places { places.new ≡ map.empty }
+    ensures last { last.new ≡ map.empty }
+{
+    *places = ShareTree::empty();
+    *last = ShareTree::empty();
+}
+
+// The handle is the last of the label's scope.
+fn link(
+    alloc: Global,
+    places: &mut ShareTree<Place>,
+    last: &mut ShareTree<u32>,
+    label: u32,
+    handle: u32,
+) -> Result<(), AllocError>
+    ensures places { OnOk result (places.new ≡ map.insert (relinked_later places.old (map.get last.old label) (Some handle)) handle (record { label = label; earlier = map.get last.old label; later = None })) }
+    ensures last { OnOk result (last.new ≡ map.insert last.old label handle) }
+{
+    let earlier = last.get(label).copied();
+    set_later(alloc, places, earlier, Some(handle))?;
+    let place = Place {
+        label,
+        earlier,
+        later: None,
+    };
+    places.insert(alloc, handle, place)?;
+    last.insert(alloc, label, handle)
+}
+
+// The handle of this place stands in no scope any more, and its neighbours are each other's.
+fn unlink(
+    alloc: Global,
+    places: &mut ShareTree<Place>,
+    last: &mut ShareTree<u32>,
+    handle: u32,
+    place: Place,
+) -> Result<(), AllocError>
+    ensures places { OnOk result (places.new ≡ relinked_earlier (relinked_later (map.remove places.old handle) place.earlier place.later) place.later place.earlier) }
+    ensures last { OnOk result (last.new ≡ last_without last.old place.label place.earlier place.later) }
+{
+    places.remove(alloc, handle)?;
+    set_later(alloc, places, place.earlier, place.later)?;
+    set_earlier(alloc, places, place.later, place.earlier)?;
+    set_last(alloc, last, place)
 }
 
 // The handle, if there is one, has another neighbour after it.

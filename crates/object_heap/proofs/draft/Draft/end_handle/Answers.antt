@@ -1,6 +1,4 @@
-use Rattle.std.proofs.Common.{refl, ap, ◌∙◌, List}
-use Rattle.trace_types.specs.declared.slots.Scoped.{Scoped}
-use Rattle.ownership_model.specs.Scopes.{left}
+use Rattle.std.proofs.Common.{refl}
 use Rattle.trace_types.specs.declared.slots.Change.TheVariants.{EndHandle}
 use Rattle.object_heap.specs.declared.draft.Draft.{Draft}
 use Rattle.object_heap.specs.Counted.{state_of}
@@ -16,7 +14,7 @@ let_go_handle-requires c =
 pub returns : goal.returns
 returns c =
     let old = c.args.self.now in
-    let new : Draft = record { handles = c.remove.new.self; cells = old.cells; objects = old.objects; counts = c.let_go_handle.new.counts; scopes = c.in_ok-self.field-0 } in
+    let new : Draft = record { handles = c.remove.new.self; cells = old.cells; objects = old.objects; counts = c.let_go_handle.new.counts; scopes = c.leave.new.self } in
     on_ok c.remove.result c.remove.ensures.ok (λ is.
     changes old.counts old.counts (state_of old) (EndHandle c.args.handle) c.requires.can c.requires.counted (no_more old.counts (gained (EndHandle c.args.handle)) (λ w. refl)) old new refl c.in_ok-let_go_handle.ensures
-    (λ i. record { handles = is i; cells = old.cells; objects = old.objects; scopes = (c.in_ok-self.ensures ∙ ap (λ (ss : List Scoped). left c.args.handle ss) c.replace.ensures.value) i }))
+    (λ i. record { handles = is i; cells = old.cells; objects = old.objects; scopes = c.in_ok-leave.ensures i }))
