@@ -85,7 +85,7 @@ kept-other gone n at f = stay-all (λ p. not (is_gone gone p)) is_multiple at (r
 with-end : (at n : ℕ) (ms : List ℕ) → at < n → without at (ms ++ n ∷ []) ≡ without at ms ++ n ∷ []
 with-end at n ms lt = filter-append (λ q. not (nat_eq q at)) ms (n ∷ []) ∙ ap (λ b. without at ms ++ cond (not b) (n ∷ []) []) (ne_eqb n at (λ e. omega arith))
 
-given-up-at : (trace : List Operation) (marks : List ℕ) (name place : ℕ) (b : Bool) → place_of name trace ≡ Some place → nat_lt (place + 1) (length trace) ≡ b → given_up trace marks name ≡ cond b (without (place + 1) marks) marks
+pub given-up-at : (trace : List Operation) (marks : List ℕ) (name place : ℕ) (b : Bool) → place_of name trace ≡ Some place → nat_lt (place + 1) (length trace) ≡ b → given_up trace marks name ≡ cond b (without (place + 1) marks) marks
 given-up-at trace marks name place b is inner =
     ap (λ o. option_map_or (λ i. if nat_lt (i + 1) (length trace) then without (i + 1) marks else marks) o marks) is ∙ ap (λ c. cond c (without (place + 1) marks) marks) inner
 

@@ -20,3 +20,5 @@ mod GiveUpLemmas
 mod TouchLemmas
 mod NameLemmas
 mod GoneLemmas
+mod ClearedLemmas
+mod AnsweredLemmas

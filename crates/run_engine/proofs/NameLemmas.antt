@@ -25,7 +25,7 @@ slice_get-front (x ∷ xs) ys zero h = refl
 slice_get-front (x ∷ xs) ys (suc j) h = slice_get-front xs ys j (omega arith)
 
 -- the last operation of a part names the checkpoint behind it
-last-name : (xs ys zs : List Operation) → 0 < length ys → name_at (xs ++ (ys ++ zs)) (length xs + length ys) ≡ option_map (λ (op : Operation). op.id) (slice_get ys (length ys - 1))
+pub last-name : (xs ys zs : List Operation) → 0 < length ys → name_at (xs ++ (ys ++ zs)) (length xs + length ys) ≡ option_map (λ (op : Operation). op.id) (slice_get ys (length ys - 1))
 last-name xs ys zs some =
     let place : length xs + length ys - 1 ≡ length xs + (length ys - 1) = omega arith in
     name_at-behind (xs ++ (ys ++ zs)) (length xs + length ys) (omega arith)

@@ -35,7 +35,7 @@ alone id n o ops d e =
     nowhere id n ops (ap (λ k. is_taken k ops) (sym same) ∙ untrue (is_taken o.id ops) (left (not (is_taken o.id ops)) (has_distinct_numbers ops) d))
 
 -- a place is within the list
-within : (id n q : ℕ) (ops : List Operation) → position_from (λ o. o.id == id) n ops ≡ Some q → (n ≤ q) × (q < n + length ops)
+pub within : (id n q : ℕ) (ops : List Operation) → position_from (λ o. o.id == id) n ops ≡ Some q → (n ≤ q) × (q < n + length ops)
 within id n q [] e = absurd cc
 within id n q (o ∷ ops) e = by_test (o.id == id) (within id (n + 1) q ops) e
   where

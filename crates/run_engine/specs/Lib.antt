@@ -13,5 +13,6 @@ pub mod NewMarks
 pub mod Memo
 pub mod Steps
 pub mod GivenUp
+pub mod Cleared
 pub mod Loaded
 pub mod Revision

@@ -1,12 +1,16 @@
 //! The names of checkpoints: each is the number of the operation before it.
-ghost use Rattle.std.specs.Prelude.{◌≡◌, ◌-◌, ◌≤◌, ◌++◌, ◌&&◌, IfOk, OnOk, length, nat_le, slice_get, option_map, option_to_list};
-ghost use Rattle.trace_types.specs.Operation.{Operation};
+ghost use Rattle.std.specs.Prelude.{◌≡◌, ◌==◌, ◌≤◌, ◌++◌, ◌&&◌, ℕ, None, IfOk, OnOk, length, nat_le, option_to_list};
+ghost use Rattle.std.specs.List.{list_any};
+ghost use Rattle.std.specs.Ordering.{nat_cmp};
+ghost use Rattle.std.specs.BTreeSet.{contains};
 ghost use Rattle.trace_types.specs.Trace.{place_of};
 ghost use Rattle.run_engine.specs.Segments.{trace_of, all_marks, AreFull};
 ghost use Rattle.run_engine.specs.GivenUp.{names_at, between};
+ghost use Rattle.run_engine.specs.Cleared.{is_named, cleared_if, last_name, cleared};
 
 use crate::segment::Segment;
 use std::alloc::{AllocError, Global};
+use std::collections::BTreeSet;
 use trace_types::limits::MAX_OPS;
 use trace_types::ops::Op;
 
@@ -37,7 +41,7 @@ pub fn names_between(
 
 // The number of the last operation.
 fn last_id(ops: &[Op]) -> Option<u32>
-    ensures { result ≡ option_map (λ (op : Operation). op.id) (slice_get ops.now (length ops.now - 1)) }
+    ensures { result ≡ last_name ops.now }
 {
     let op = ops.last()?;
     Some(op.id())
@@ -50,14 +54,55 @@ fn is_due(is_marked: bool, from: usize, at: usize, to: usize) -> bool
     is_marked && from <= at && at <= to
 }
 
-// Adds a name, if there is one.
-fn push_name(names: &mut Vec<u32>, name: Option<u32>) -> Result<(), AllocError>
+/// Adds a name, if there is one.
+pub fn push_name(names: &mut Vec<u32>, name: Option<u32>) -> Result<(), AllocError>
     ensures { OnOk result (names.new.items ≡ names.old.items ++ option_to_list name) }
 {
     if let Some(id) = name {
         names.push(id)?;
     }
     Ok(())
+}
+
+/// A set of names.
+pub fn set_of(alloc: Global, names: &[u32]) -> Result<BTreeSet<u32>, AllocError>
+    ensures { IfOk result (λ s. (id : ℕ) → contains nat_cmp s id ≡ list_any (λ name. id == name) names.now) }
+{
+    let mut set = BTreeSet::new(alloc);
+    for name in names {
+        set.insert(*name)?;
+    }
+    Ok(set)
+}
+
+/// Gives up the checkpoints whose names are in the set, in one pass.
+pub fn clear_named(segments: &mut Vec<Segment>, names: &BTreeSet<u32>)
+    ensures { segments.new.items ≡ cleared (contains nat_cmp names.now) None segments.old.items }
+{
+    let mut before = None;
+    for segment in segments.iter_mut() {
+        clear_if(segment, is_among(before, names));
+        before = last_id(segment.ops());
+    }
+}
+
+// Whether there is a name, and it is in the set.
+fn is_among(name: Option<u32>, names: &BTreeSet<u32>) -> bool
+    ensures { result ≡ is_named (contains nat_cmp names.now) name }
+{
+    match name {
+        None => false,
+        Some(id) => names.contains(&id),
+    }
+}
+
+// Gives up a segment's checkpoint where it is to go.
+fn clear_if(segment: &mut Segment, goes: bool)
+    ensures { segment.new ≡ cleared_if goes segment.old }
+{
+    if goes {
+        let _ = segment.clear_mark();
+    }
 }
 
 /// Where the operation with this number stands, from 0.

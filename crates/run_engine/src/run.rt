@@ -1,5 +1,5 @@
 //! A run of a trace.
-ghost use Rattle.std.specs.Prelude.{◌≡◌, ◌+◌, ◌<◌, ◌≤◌, OnOk, OnErr, List, Contains, length, slice_get, take, IfOk, IfErr, IfSome, IsTrue, IsErr, ◌↔◌, if◌then◌else◌, Ok, Err};
+ghost use Rattle.std.specs.Prelude.{◌≡◌, ◌+◌, ◌<◌, ◌≤◌, OnOk, OnErr, List, Contains, length, slice_get, take, fold, IfOk, IfErr, IfSome, IsTrue, IsErr, ◌↔◌, if◌then◌else◌, Ok, Err};
 ghost use Rattle.std.specs.Option.{option_copied};
 ghost use Rattle.trace_types.specs.Operation.{Operation};
 ghost use Rattle.trace_types.specs.Stretches.{ops_of, outcomes_of};
@@ -13,7 +13,7 @@ ghost use Rattle.run_engine.specs.Segments.{without, IsInner};
 ghost use Rattle.run_engine.specs.Marks.{load_marks};
 ghost use Rattle.run_engine.specs.Bounds.{StepsAtMostFrom};
 ghost use Rattle.run_engine.specs.NewMarks.{AreMarksAfter};
-ghost use Rattle.run_engine.specs.GivenUp.{names_at, between, IsTouched, AreMarksKept};
+ghost use Rattle.run_engine.specs.GivenUp.{given_up, names_at, between, IsTouched, AreMarksKept};
 ghost use Rattle.run_engine.specs.RunView.{RunView};
 ghost use Rattle.run_engine.specs.Memo.{IsSearched};
 ghost use Rattle.run_engine.specs.Steps.{AreRising, AreSteppedFrom};
@@ -23,7 +23,7 @@ use crate::edits::{copied, edited, try_size};
 use crate::faults::RunFault;
 use crate::listing::Listing;
 use crate::loading::{given_up_in, loaded};
-use crate::names::{names_between, place_at};
+use crate::names::{clear_named, names_between, place_at, set_of};
 use crate::restart::{Redone, resumed};
 use crate::seek::{clear_mark, op_at, outcome_at, segment_at};
 use crate::segment::Segment;
@@ -198,8 +198,14 @@ impl Run {
         ensures searched { IsSearched shelf.old shelf.new }
         ensures never_less { meter.old ≤ meter.new }
     {
-        let Redone { replay, from, to } =
-            resumed(alloc, &self.segments, &self.end, ops, shelf, meter)?;
+        let Redone { replay, from, to } = resumed(
+            alloc,
+            &self.segments,
+            &self.end,
+            ops,
+            shelf,
+            meter,
+        )?;
         let run = Run {
             segments: replay.segments,
             end: replay.end,
@@ -227,6 +233,16 @@ impl Run {
                 clear_mark(&mut self.segments, i)
             }
         }
+    }
+
+    // Gives up the inner checkpoints with these names, in one pass.
+    pub(crate) fn give_up_named(&mut self, alloc: Global, names: &[u32]) -> Result<(), AllocError>
+        ensures trace { OnOk result (self.new.trace ≡ self.old.trace) }
+        ensures marks { OnOk result (self.new.marks ≡ fold (given_up self.old.trace) self.old.marks names.now) }
+    {
+        let set = set_of(alloc, names)?;
+        clear_named(&mut self.segments, &set);
+        Ok(())
     }
 
     /// How many operations the trace has.

@@ -1,16 +1,17 @@
 //! What a shelf keeps of a run: its chunks are remembered, the names of its checkpoints touched, and those are given up for which there is
 //! no room.
-ghost use Rattle.std.specs.Prelude.{◌≡◌, ◌∷◌, [], OnOk, OnErr};
+ghost use Rattle.std.specs.Prelude.{OnOk, IfOk};
 ghost use Rattle.run_engine.specs.Memo.{HasSameNames};
-ghost use Rattle.run_engine.specs.GivenUp.{given_up, names_at, between, IsTouched};
+ghost use Rattle.run_engine.specs.GivenUp.{names_at, between, AreTouches, IsTouched};
 
+use crate::names::push_name;
 use crate::run::Run;
 use mark_shelf::MarkShelf;
 use op_step::chunk_run::ChunkRun;
 use std::alloc::{AllocError, Global};
 
-/// Touches the names of the inner checkpoints from one position to another, in order, and gives up each checkpoint whose name is
-/// answered.
+/// Touches the names of the inner checkpoints from one position to another, in order, and gives up the checkpoints whose names are
+/// answered, in one pass over the run. Where memory runs out, the shelf may have been touched.
 pub fn touch_between(
     alloc: Global,
     run: &mut Run,
@@ -19,11 +20,10 @@ pub fn touch_between(
     shelf: &mut MarkShelf,
 ) -> Result<(), AllocError>
     ensures touched { OnOk result (IsTouched run.old run.new shelf.old shelf.new (names_at run.old.trace (between from to run.old.marks))) }
-    ensures unchanged { OnErr result (shelf.new ≡ shelf.old) }
 {
     let names = run.names_between(alloc, from, to)?;
-    touch_all(run, shelf, &names);
-    Ok(())
+    let gone = touch_all(alloc, shelf, &names)?;
+    run.give_up_named(alloc, &gone)
 }
 
 /// Has the shelf remember chunks.
@@ -35,33 +35,13 @@ pub fn remember_all(shelf: &mut MarkShelf, chunks: Vec<ChunkRun>)
     }
 }
 
-// Touches names in turn, and gives up each checkpoint whose name is answered.
-fn touch_all(run: &mut Run, shelf: &mut MarkShelf, names: &[u32])
-    ensures { IsTouched run.old run.new shelf.old shelf.new names.now }
+// Touches names in turn, and gives those that are answered, in order.
+fn touch_all(alloc: Global, shelf: &mut MarkShelf, names: &[u32]) -> Result<Vec<u32>, AllocError>
+    ensures { IfOk result (λ gone. AreTouches shelf.old names.now gone.items shelf.new) }
 {
+    let mut gone = Vec::new(alloc);
     for name in names {
-        touch_one(run, shelf, *name);
+        push_name(&mut gone, shelf.touch(*name))?;
     }
-}
-
-// Touches one name, and gives up the checkpoint whose name is answered.
-fn touch_one(run: &mut Run, shelf: &mut MarkShelf, name: u32)
-    ensures { IsTouched run.old run.new shelf.old shelf.new (name ∷ []) }
-{
-    if let Some(gone) = shelf.touch(name) {
-        give_up_named(run, gone);
-    }
-}
-
-// Gives up the inner checkpoint right behind the operation with this number, if there is one.
-fn give_up_named(run: &mut Run, name: u32)
-    ensures trace { run.new.trace ≡ run.old.trace }
-    ensures marks { run.new.marks ≡ given_up run.old.trace run.old.marks name }
-{
-    let len = run.len();
-    if let Some(place) = run.place(name) {
-        if place + 1 < len {
-            run.give_up(place + 1);
-        }
-    }
+    Ok(gone)
 }
