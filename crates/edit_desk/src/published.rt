@@ -19,6 +19,7 @@ use std::marker::Model;
 use std::sync::Arc;
 use trace_reader::write_trace;
 use trace_types::edits::Batch;
+use trace_types::limits::MAX_EDITS;
 
 /// A version of the trace, with its run. A share of it has the same run, which is not copied.
 #[derive(Drop)]
@@ -83,7 +84,7 @@ pub(crate) fn revised(
     ensures marks { IfOk result (λ r. AreMarksKept published.now.run r shelf.old shelf.new) }
     ensures fault { IfErr result (IsFaultOf (edited_by published.now.run.trace batch.now)) }
     ensures empty { length batch.now ≡ 0 → result ≡ Err EmptyBatch }
-    ensures too_many { 64 < length batch.now → result ≡ Err TooManyEdits }
+    ensures too_many { MAX_EDITS < length batch.now → result ≡ Err TooManyEdits }
     ensures bound { ReplaysWithin published.now.run.trace published.now.run.marks batch.now meter.old meter.new }
     ensures stepped { IfOk result (λ r. AreSteppedFrom published.now.run.trace r.trace published.now.run.marks shelf.old.chunks meter.old meter.new) }
     ensures refused { IsErr (edited_by published.now.run.trace batch.now) → meter.new ≡ meter.old }
@@ -105,7 +106,7 @@ pub fn what_if(
     ensures marks { IfOk result (λ r. (after : Shelf) × AreMarksKept published.now.run r (empty_shelf KEPT_MARKS 1 1) after) }
     ensures fault { IfErr result (IsFaultOf (edited_by published.now.run.trace batch.now)) }
     ensures empty { length batch.now ≡ 0 → result ≡ Err EmptyBatch }
-    ensures too_many { 64 < length batch.now → result ≡ Err TooManyEdits }
+    ensures too_many { MAX_EDITS < length batch.now → result ≡ Err TooManyEdits }
     ensures bound { ReplaysWithin published.now.run.trace published.now.run.marks batch.now meter.old meter.new }
     ensures stepped { IfOk result (λ r. AreSteppedFrom published.now.run.trace r.trace published.now.run.marks [] meter.old meter.new) }
     ensures refused { IsErr (edited_by published.now.run.trace batch.now) → meter.new ≡ meter.old }

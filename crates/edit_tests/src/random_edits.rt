@@ -80,8 +80,8 @@ fn rolled_edit(alloc: Global, dice: &mut Dice, id: u32) -> Result<Batch, Fail> {
 }
 
 // An operation comes at the front, or goes again: what is replayed then may be known.
-fn turned(alloc: Global, run: &Run) -> Result<Batch, Fail> {
-    if run.place(TURNED).is_some() {
+fn turned(alloc: Global, is_there: bool) -> Result<Batch, Fail> {
+    if is_there {
         return batch(alloc, Edit::Remove { id: TURNED });
     }
     let op = op_of(TURNED, 0, Kind::Counts { h: 0 })?;
@@ -116,11 +116,14 @@ fn told(alloc: Global, seed: u32) -> Result<(u32, u32), Fail> {
     let mut shelf = MarkShelf::new(alloc, 64, 32, 32)?;
     let mut early = 0u32;
     let mut known = 0u32;
+    let mut is_there = false;
     for turn in 0..EDITS {
         give_up_some(alloc, &mut run, &mut dice)?;
-        let edits = match dice.roll(3) {
-            0 => turned(alloc, &run)?,
-            _ => rolled_edit(alloc, &mut dice, 1000 + turn)?,
+        let turns = dice.roll(3) == 0;
+        let edits = if turns {
+            turned(alloc, is_there)?
+        } else {
+            rolled_edit(alloc, &mut dice, 1000 + turn)?
         };
         let mut meter = Meter::new();
         // an operation that went in an earlier turn can't be edited
@@ -134,6 +137,7 @@ fn told(alloc: Global, seed: u32) -> Result<(u32, u32), Fail> {
             if meter.count() == 0 {
                 known = known.saturating_add(1);
             }
+            is_there = is_there != turns;
             run = edited;
         }
     }

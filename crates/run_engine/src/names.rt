@@ -3,7 +3,6 @@ ghost use Rattle.std.specs.Prelude.{◌≡◌, ◌==◌, ◌≤◌, ◌++◌, �
 ghost use Rattle.std.specs.List.{list_any};
 ghost use Rattle.std.specs.Ordering.{nat_cmp};
 ghost use Rattle.std.specs.BTreeSet.{contains};
-ghost use Rattle.trace_types.specs.Trace.{place_of};
 ghost use Rattle.run_engine.specs.Segments.{trace_of, all_marks, AreFull};
 ghost use Rattle.run_engine.specs.GivenUp.{names_at, between};
 ghost use Rattle.run_engine.specs.Cleared.{is_named, cleared_if, last_name, cleared};
@@ -103,19 +102,4 @@ fn clear_if(segment: &mut Segment, goes: bool)
     if goes {
         let _ = segment.clear_mark();
     }
-}
-
-/// Where the operation with this number stands, from 0.
-pub fn place_at(segments: &[Segment], id: u32) -> Option<usize>
-    requires { length (trace_of segments.now) ≤ MAX_OPS }
-    ensures { result ≡ place_of id (trace_of segments.now) }
-{
-    let mut at = 0;
-    for segment in segments {
-        if let Some(place) = segment.part().place(id) {
-            return Some(at + place);
-        }
-        at += segment.ops().len();
-    }
-    None
 }

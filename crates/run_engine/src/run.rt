@@ -1,9 +1,9 @@
 //! A run of a trace.
-ghost use Rattle.std.specs.Prelude.{◌≡◌, ◌+◌, ◌<◌, ◌≤◌, OnOk, OnErr, List, Contains, length, slice_get, take, fold, IfOk, IfErr, IfSome, IsTrue, IsErr, ◌↔◌, if◌then◌else◌, Ok, Err};
+ghost use Rattle.std.specs.Prelude.{◌≡◌, ◌+◌, ◌<◌, ◌≤◌, OnOk, List, Contains, length, slice_get, take, fold, IfOk, IfErr, IsTrue, IsErr, ◌↔◌, if◌then◌else◌, Ok, Err};
 ghost use Rattle.std.specs.Option.{option_copied};
 ghost use Rattle.trace_types.specs.Operation.{Operation};
 ghost use Rattle.trace_types.specs.Stretches.{ops_of, outcomes_of};
-ghost use Rattle.trace_types.specs.Trace.{IsTrace, place_of};
+ghost use Rattle.trace_types.specs.Trace.{IsTrace};
 ghost use Rattle.ownership_model.specs.State.{nothing_held};
 ghost use Rattle.ownership_model.specs.Step.{end_from, outcomes_from};
 ghost use Rattle.op_step.specs.Meter.{raised};
@@ -23,7 +23,7 @@ use crate::edits::{copied, edited, try_size};
 use crate::faults::RunFault;
 use crate::listing::Listing;
 use crate::loading::{given_up_in, loaded};
-use crate::names::{clear_named, names_between, place_at, set_of};
+use crate::names::{clear_named, names_between, set_of};
 use crate::restart::{Redone, resumed};
 use crate::seek::{clear_mark, op_at, outcome_at, segment_at};
 use crate::segment::Segment;
@@ -257,14 +257,6 @@ impl Run {
         ensures { option_copied result ≡ slice_get self.now.trace place }
     {
         op_at(&self.segments, place)
-    }
-
-    /// Where the operation with this number stands, from 0.
-    pub fn place(&self, id: u32) -> Option<usize>
-        ensures value { result ≡ place_of id self.now.trace }
-        ensures within { IfSome result (λ place. place < length self.now.trace) }
-    {
-        place_at(&self.segments, id)
     }
 
     // The names of the inner checkpoints from one position to another.
