@@ -1,7 +1,7 @@
 //! Where the replay of an edited trace stops: at a checkpoint where the heaps agree, and at no other.
 use crate::small_traces::{
-    add, add_cycle, add_pairs, are_marks, batch, broken_cycle, counts, did, edited_alone, has_outcome,
-    new, op, two,
+    add, add_cycle, add_pairs, are_marks, batch, broken_cycle, counts, did, edited_alone,
+    has_outcome, new, op, two,
 };
 use leak_report::leaks::find_leaks;
 use object_heap::heap::Heap;
@@ -54,7 +54,12 @@ fn leak_after_edit(rt: HostRuntime) -> Result<(), Fail> {
     let dropped = did(alloc, 11, Answer::Done, counts(2, 0, 0), &gone)?;
     assert!(rt; has_outcome(&run, 10, &dropped));
     let mut meter = Meter::new();
-    let edited = edited_alone(&run, alloc, &batch(alloc, Edit::Remove { id: 8 })?, &mut meter)?;
+    let edited = edited_alone(
+        &run,
+        alloc,
+        &batch(alloc, Edit::Remove { id: 8 })?,
+        &mut meter,
+    )?;
     assert_eq!(rt; meter.count(), 63);
     assert_eq!(rt; edited.len(), 1010);
     assert!(rt; are_marks(alloc, &edited, &[0], 63, 1010)?);
@@ -128,7 +133,12 @@ fn weak_count_differs(rt: HostRuntime) -> Result<(), Fail> {
         )
     );
     let mut meter = Meter::new();
-    let edited = edited_alone(&run, alloc, &batch(alloc, Edit::Remove { id: 10 })?, &mut meter)?;
+    let edited = edited_alone(
+        &run,
+        alloc,
+        &batch(alloc, Edit::Remove { id: 10 })?,
+        &mut meter,
+    )?;
     assert!(rt; meter.count() <= 1013);
     assert!(rt;
         has_outcome(
@@ -172,7 +182,12 @@ fn husk_or_alive(rt: HostRuntime) -> Result<(), Fail> {
         )
     );
     let mut meter = Meter::new();
-    let edited = edited_alone(&run, alloc, &batch(alloc, Edit::Remove { id: 5 })?, &mut meter)?;
+    let edited = edited_alone(
+        &run,
+        alloc,
+        &batch(alloc, Edit::Remove { id: 5 })?,
+        &mut meter,
+    )?;
     assert!(rt; meter.count() <= 1007);
     let skipped = Outcome {
         id: 6,
@@ -227,7 +242,12 @@ fn remove_and_reinsert(rt: HostRuntime) -> Result<(), Fail> {
     let alloc = rt.alloc();
     let run = Run::load(alloc, &broken_cycle(alloc)?, &mut Meter::new())?;
     let mut meter = Meter::new();
-    let first = edited_alone(&run, alloc, &batch(alloc, Edit::Remove { id: 7 })?, &mut meter)?;
+    let first = edited_alone(
+        &run,
+        alloc,
+        &batch(alloc, Edit::Remove { id: 7 })?,
+        &mut meter,
+    )?;
     assert_eq!(rt; meter.count(), 63);
     assert!(rt; is_leaked_pair(alloc, first.end(), 1, 2)?);
     let skipped = Outcome {

@@ -25,8 +25,9 @@ fn reported_with(
         id: changed.id(),
         op: changed,
     };
-    let edited = edited_alone(&run, alloc, &batch(alloc, edit)?, meter)
-        .map_err(|_| Fail::from("a refusal"))?;
+    let edited = edited_alone(&run, alloc, &batch(alloc, edit)?, meter).map_err(|_| Fail::from(
+        "a refusal",
+    ))?;
     let shown = report_of_stretches(alloc, edited.stretches(alloc)?, edited.end())?;
     Ok(text_of(alloc, &shown)?)
 }

@@ -123,7 +123,8 @@ impl Run {
     /// by the operations stepped, and where memory runs out by at most those up to the stop.
     ///
     /// In the end the shelf remembers each chunk that was stepped, and is touched with the names of the inner checkpoints from the
-    /// restart to the stop: each checkpoint is given up whose name it answers. A refusal of the edits leaves the shelf as it was.
+    /// restart to the stop: each checkpoint is given up whose name it answers. A refusal of the edits leaves the shelf as it was. Where
+    /// memory runs out, the shelf may have been touched.
     pub fn edited(
         &self,
         alloc: Global,
