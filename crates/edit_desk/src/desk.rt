@@ -147,8 +147,11 @@ impl Desk {
         ensures bound { length self.old.standing.history < MAX_ENTRIES → request.base ≡ self.old.standing.version → ReplaysWithin self.old.standing.trace self.old.marks request.batch self.old.meter self.new.meter }
         ensures stepped { OnOk result (length self.old.standing.history < MAX_ENTRIES → request.base ≡ self.old.standing.version → StepsAtLeast self.old.standing.trace self.old.marks self.old.shelf.chunks request.batch self.old.meter self.new.meter) }
         ensures full { MAX_ENTRIES ≤ length self.old.standing.history → self.new.meter ≡ self.old.meter }
+        ensures full_shelf { MAX_ENTRIES ≤ length self.old.standing.history → self.new.shelf ≡ self.old.shelf }
         ensures stale { request.base ≢ self.old.standing.version → self.new.meter ≡ self.old.meter }
         ensures refused { IsErr (edited_by self.old.standing.trace request.batch) → self.new.meter ≡ self.old.meter }
+        ensures stale_shelf { request.base ≢ self.old.standing.version → self.new.shelf ≡ self.old.shelf }
+        ensures refused_shelf { IsErr (edited_by self.old.standing.trace request.batch) → self.new.shelf ≡ self.old.shelf }
         ensures never_less { self.old.meter ≤ self.new.meter }
     {
         if self.history.len() >= MAX_ENTRIES {
@@ -180,6 +183,8 @@ impl Desk {
         ensures stepped { OnOk result (request.base ≡ self.old.standing.version → StepsAtLeast self.old.standing.trace self.old.marks self.old.shelf.chunks request.batch self.old.meter self.new.meter) }
         ensures stale { request.base ≢ self.old.standing.version → self.new.meter ≡ self.old.meter }
         ensures refused { IsErr (edited_by self.old.standing.trace request.batch) → self.new.meter ≡ self.old.meter }
+        ensures stale_shelf { request.base ≢ self.old.standing.version → self.new.shelf ≡ self.old.shelf }
+        ensures refused_shelf { IsErr (edited_by self.old.standing.trace request.batch) → self.new.shelf ≡ self.old.shelf }
         ensures never_less { self.old.meter ≤ self.new.meter }
     {
         let (reply, next) = settle(
@@ -234,6 +239,8 @@ fn settle(
     ensures stepped { OnOk result (request.now.base ≡ published.now.version → StepsAtLeast published.now.run.trace published.now.run.marks shelf.old.chunks request.now.batch meter.old meter.new) }
     ensures stale { request.now.base ≢ published.now.version → meter.new ≡ meter.old }
     ensures refused { IsErr (edited_by published.now.run.trace request.now.batch) → meter.new ≡ meter.old }
+    ensures stale_shelf { request.now.base ≢ published.now.version → shelf.new ≡ shelf.old }
+    ensures refused_shelf { IsErr (edited_by published.now.run.trace request.now.batch) → shelf.new ≡ shelf.old }
     ensures never_less { meter.old ≤ meter.new }
 {
     let version = published.version();

@@ -54,6 +54,24 @@ fn shelf(rt: HostRuntime) -> Result<(), Fail> {
     Ok(())
 }
 
+// What there is room for stays: two checkpoints and two chunks.
+#[test]
+fn shelf_keeps(rt: HostRuntime) -> Result<(), Fail> {
+    let alloc = rt.alloc();
+    let mut shelf = MarkShelf::new(alloc, 2, 2, 2)?;
+    let a = null(alloc, 1, 0)?;
+    let b = null(alloc, 2, 0)?;
+    shelf.remember(chunk(alloc, &a)?);
+    shelf.remember(chunk(alloc, &b)?);
+    for name in [5u32, 6, 5, 6].iter() {
+        assert_eq!(rt; shelf.touch(*name), None);
+        assert!(rt; finds(&mut shelf, &a));
+        assert!(rt; finds(&mut shelf, &b));
+    }
+    assert_eq!(rt; shelf.touch(7), Some(5));
+    Ok(())
+}
+
 #[test]
 fn other_start_or_operations(rt: HostRuntime) -> Result<(), Fail> {
     let alloc = rt.alloc();

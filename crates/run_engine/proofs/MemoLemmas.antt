@@ -9,42 +9,42 @@ use Rattle.ownership_model.specs.State.{State}
 use Rattle.op_step.specs.Chunk.{Chunk}
 use Rattle.mark_shelf.specs.Shelf.{Shelf, Remembers, remembered, used, sought, name_eq}
 use Rattle.mark_shelf.specs.declared.names.ChunkName.{ChunkName}
-use Rattle.run_engine.specs.Memo.{IsAmong, HasSameNames, IsSearched}
+use Rattle.run_engine.specs.Memo.{IsAmong, HasSameMarks, IsSearched}
 
 pub IsAmong-found : (chunks : List (ℕ × Chunk)) (c : Chunk) (start : State) (ops : List Operation) → c.start ≡ start → c.ops ≡ ops → (k : ℕ) × Contains chunks (k, c) → IsAmong chunks start ops
 IsAmong-found chunks c start ops begins goes h =
     let same : c ≡ record { start = start; ops = ops } = λ i. record { start = begins i; ops = goes i } in
     (h.0, subst (λ (d : Chunk). Contains chunks (h.0, d)) same h.1)
 
-pub HasSameNames-none : (s : Shelf) → HasSameNames s s
-HasSameNames-none s = record { names = refl; room = refl }
+pub HasSameMarks-none : (s : Shelf) → HasSameMarks s s
+HasSameMarks-none s = record { marks = refl; most_marks = refl; most_chunks = refl; most_names = refl }
 
-pub HasSameNames-next : (a b c : Shelf) → HasSameNames a b → HasSameNames b c → HasSameNames a c
-HasSameNames-next a b c h k = record { names = k.names ∙ h.names; room = k.room ∙ h.room }
+pub HasSameMarks-next : (a b c : Shelf) → HasSameMarks a b → HasSameMarks b c → HasSameMarks a c
+HasSameMarks-next a b c h k = record { marks = k.marks ∙ h.marks; most_marks = k.most_marks ∙ h.most_marks; most_chunks = k.most_chunks ∙ h.most_chunks; most_names = k.most_names ∙ h.most_names }
 
-pub HasSameNames-remembered : (a b c : Shelf) (k : Chunk) → HasSameNames a b → Remembers b k c → HasSameNames a c
-HasSameNames-remembered a b c k h r = ⊎_elim
-    (λ (t : (b.next < 2 ^ 64 - 1) × (c ≡ remembered b k)). record { names = ap (λ (s : Shelf). s.marks) t.1 ∙ h.names; room = ap (λ (s : Shelf). s.most_marks) t.1 ∙ h.room })
-    (λ (t : c ≡ b). record { names = ap (λ (s : Shelf). s.marks) t ∙ h.names; room = ap (λ (s : Shelf). s.most_marks) t ∙ h.room })
+pub HasSameMarks-remembered : (a b c : Shelf) (k : Chunk) → HasSameMarks a b → Remembers b k c → HasSameMarks a c
+HasSameMarks-remembered a b c k h r = ⊎_elim
+    (λ (t : (b.next < 2 ^ 64 - 1) × (c ≡ remembered b k)). record { marks = ap (λ (s : Shelf). s.marks) t.1 ∙ h.marks; most_marks = ap (λ (s : Shelf). s.most_marks) t.1 ∙ h.most_marks; most_chunks = ap (λ (s : Shelf). s.most_chunks) t.1 ∙ h.most_chunks; most_names = ap (λ (s : Shelf). s.most_names) t.1 ∙ h.most_names })
+    (λ (t : c ≡ b). record { marks = ap (λ (s : Shelf). s.marks) t ∙ h.marks; most_marks = ap (λ (s : Shelf). s.most_marks) t ∙ h.most_marks; most_chunks = ap (λ (s : Shelf). s.most_chunks) t ∙ h.most_chunks; most_names = ap (λ (s : Shelf). s.most_names) t ∙ h.most_names })
     r
 
--- a look-up changes no name of a checkpoint
-either-names : (s a b : Shelf) (t : Bool) → HasSameNames s a → HasSameNames s b → HasSameNames s (if t then a else b)
-either-names s a b true h k = h
-either-names s a b false h k = k
+-- a look-up changes no name of a checkpoint, and no room
+either : (s a b : Shelf) (t : Bool) → HasSameMarks s a → HasSameMarks s b → HasSameMarks s (if t then a else b)
+either s a b true h k = h
+either s a b false h k = k
 
-sought-names : (s : Shelf) (n : ChunkName) (o : Option ℕ) → HasSameNames s (option_map_or (used s n) o s)
-sought-names s n None = record { names = refl; room = refl }
-sought-names s n (Some k) = either-names s _ _ (is_some (lookup (nat_eq k) s.chunks)) (record { names = refl; room = refl }) (record { names = refl; room = refl })
+sought-marks : (s : Shelf) (n : ChunkName) (o : Option ℕ) → HasSameMarks s (option_map_or (used s n) o s)
+sought-marks s n None = record { marks = refl; most_marks = refl; most_chunks = refl; most_names = refl }
+sought-marks s n (Some k) = either s _ _ (is_some (lookup (nat_eq k) s.chunks)) (record { marks = refl; most_marks = refl; most_chunks = refl; most_names = refl }) (record { marks = refl; most_marks = refl; most_chunks = refl; most_names = refl })
 
 pub IsSearched-sought : (s : Shelf) (n : ChunkName) → ((e : ℕ × Chunk) → Contains (sought s n).chunks e → Contains s.chunks e) → IsSearched s (sought s n)
-IsSearched-sought s n fewer = record { same_names = sought-names s n (lookup (name_eq n) s.names); fewer = fewer }
+IsSearched-sought s n fewer = record { same_marks = sought-marks s n (lookup (name_eq n) s.names); fewer = fewer }
 
 pub IsSearched-none : (s : Shelf) → IsSearched s s
-IsSearched-none s = record { same_names = record { names = refl; room = refl }; fewer = λ e h. h }
+IsSearched-none s = record { same_marks = record { marks = refl; most_marks = refl; most_chunks = refl; most_names = refl }; fewer = λ e h. h }
 
 pub IsSearched-next : (a b c : Shelf) → IsSearched a b → IsSearched b c → IsSearched a c
 IsSearched-next a b c h k = record {
-  same_names = HasSameNames-next a b c h.same_names k.same_names;
+  same_marks = HasSameMarks-next a b c h.same_marks k.same_marks;
   fewer = λ e m. h.fewer e (k.fewer e m);
 }

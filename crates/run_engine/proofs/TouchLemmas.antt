@@ -6,7 +6,7 @@ use Rattle.trace_types.specs.Operation.{Operation}
 use Rattle.mark_shelf.specs.Shelf.{Shelf, Touches}
 use Rattle.run_engine.specs.RunView.{RunView}
 use Rattle.run_engine.specs.NewMarks.{AreMarksAfter}
-use Rattle.run_engine.specs.Memo.{HasSameNames}
+use Rattle.run_engine.specs.Memo.{HasSameMarks}
 use Rattle.run_engine.specs.GivenUp.{AreTouches, given_up, names_at, between, IsTouched, AreMarksKept}
 
 given_up-append : (trace : List Operation) (marks more less : List ℕ) → fold (given_up trace) marks (more ++ less) ≡ fold (given_up trace) (fold (given_up trace) marks more) less
@@ -39,10 +39,10 @@ AreTouches-next a b c names i gone all answer lt h touch is =
     (AreTouches-append a b c (take i names) (get_or names i 0 ∷ []) gone (option_to_list answer) h (answer, c, [], touch, (refl, refl), sym (append-nil (option_to_list answer)))))
 
 -- the checkpoints of an edited trace after the touches
-pub AreMarksKept-touched : (old all new : RunView) (shelf mid after : Shelf) (from to : ℕ) → HasSameNames shelf mid → AreMarksAfter old all from to → IsTouched all new mid after (names_at all.trace (between from to all.marks)) → AreMarksKept old new shelf after
+pub AreMarksKept-touched : (old all new : RunView) (shelf mid after : Shelf) (from to : ℕ) → HasSameMarks shelf mid → AreMarksAfter old all from to → IsTouched all new mid after (names_at all.trace (between from to all.marks)) → AreMarksKept old new shelf after
 AreMarksKept-touched old all new shelf mid after from to same marks h = record {
-  between_them = mid;
-  same_names = same;
+  middle = mid;
+  same_marks = same;
   all = all.marks;
   from = from;
   to = to;

@@ -7,7 +7,7 @@ use Rattle.mark_shelf.specs.Shelf.{Shelf, Touches}
 use Rattle.run_engine.specs.RunView.{RunView}
 use Rattle.run_engine.specs.Segments.{without}
 use Rattle.run_engine.specs.NewMarks.{AreMarksAfter}
-use Rattle.run_engine.specs.Memo.{HasSameNames}
+use Rattle.run_engine.specs.Memo.{HasSameMarks}
 
 -- touches of these names in turn, and the names that they answered
 abbrev pub AreTouches : Shelf → List ℕ → List ℕ → Shelf → Type 0
@@ -34,18 +34,18 @@ name_at trace (suc i) = option_map (λ (op : Operation). op.id) (slice_get trace
 abbrev pub names_at : List Operation → List ℕ → List ℕ
 names_at trace marks = filter_map (name_at trace) (filter (λ p. nat_lt p (length trace)) marks)
 
--- the checkpoints from one position to another
+-- the checkpoints from one position to another, at both ends too
 abbrev pub between : ℕ → ℕ → List ℕ → List ℕ
 between from to marks = filter (λ p. nat_le from p && nat_le p to) marks
 
 -- the checkpoints of the run of an edited trace, with a shelf before and after: of all that the replay leaves, those are given up whose names
--- are answered as the shelf, which has looked for chunks and remembered others, is touched with the names of the restart, of the new ones in
--- order, and so of the stop
+-- are answered as the shelf, which was searched for chunks and remembers others, is touched with the names of the restart and then of the
+-- new ones in order, the stop among them, where these are inner
 pub record AreMarksKept (old new : RunView) (shelf after : Shelf) : Type 0 where
   pub all : List ℕ
   pub from : ℕ
   pub to : ℕ
-  pub between_them : Shelf
-  pub same_names : HasSameNames shelf between_them
+  pub middle : Shelf
+  pub same_marks : HasSameMarks shelf middle
   pub replayed : AreMarksAfter old (record { trace = new.trace; marks = all }) from to
-  pub touched : IsTouched (record { trace = new.trace; marks = all }) new between_them after (names_at new.trace (between from to all))
+  pub touched : IsTouched (record { trace = new.trace; marks = all }) new middle after (names_at new.trace (between from to all))

@@ -13,12 +13,14 @@ IsAmong chunks start ops = (number : ℕ) × Contains chunks (number, record { s
 abbrev pub AreSome : List (ℕ × Chunk) → List (ℕ × Chunk) → Type 0
 AreSome some all = (e : ℕ × Chunk) → Contains some e → Contains all e
 
--- the names of checkpoints that a shelf has, and how many it has room for, are still those of another
-pub record HasSameNames (old new : Shelf) : Type 0 where
-  pub names : new.marks ≡ old.marks
-  pub room : new.most_marks ≡ old.most_marks
+-- a shelf has the same names of checkpoints as before, and as much room
+pub record HasSameMarks (old new : Shelf) : Type 0 where
+  pub marks : new.marks ≡ old.marks
+  pub most_marks : new.most_marks ≡ old.most_marks
+  pub most_chunks : new.most_chunks ≡ old.most_chunks
+  pub most_names : new.most_names ≡ old.most_names
 
 -- a shelf after look-ups of chunks: the names of checkpoints stay, and no chunk is new
 pub record IsSearched (old new : Shelf) : Type 0 where
-  pub same_names : HasSameNames old new
+  pub same_marks : HasSameMarks old new
   pub fewer : AreSome new.chunks old.chunks

@@ -1,7 +1,7 @@
 //! What a shelf keeps of a run: its chunks are remembered, the names of its checkpoints touched, and those are given up for which there is
 //! no room.
 ghost use Rattle.std.specs.Prelude.{OnOk, IfOk};
-ghost use Rattle.run_engine.specs.Memo.{HasSameNames};
+ghost use Rattle.run_engine.specs.Memo.{HasSameMarks};
 ghost use Rattle.run_engine.specs.GivenUp.{names_at, between, AreTouches, IsTouched};
 
 use crate::names::push_name;
@@ -28,7 +28,7 @@ pub fn touch_between(
 
 /// Has the shelf remember chunks.
 pub fn remember_all(shelf: &mut MarkShelf, chunks: Vec<ChunkRun>)
-    ensures { HasSameNames shelf.old shelf.new }
+    ensures { HasSameMarks shelf.old shelf.new }
 {
     for chunk in chunks {
         shelf.remember(chunk);
