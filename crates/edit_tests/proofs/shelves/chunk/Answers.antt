@@ -6,5 +6,5 @@ use Rattle.edit_tests.proofs.shelves.chunk.Goals as goal
 
 -- nothing stands where nothing is held
 pub run-requires-clause-unused : goal.run-requires-clause-unused
-run-requires-clause-unused g c =
+run-requires-clause-unused c =
     subst (λ (m : State). AreUnused m c.as_slice.result.now) (sym c.empty-start.ensures) (soundness.unused c.as_slice.result.now)
