@@ -1,14 +1,8 @@
-//! Tests of agreement, shelves, runs, edits and the desk, through what those crates promise.
+//! Tests of runs, edits and the desk, through what those crates promise.
 #![tactic(auto)]
 
 #[cfg(test)]
-mod agreeing;
-#[cfg(test)]
-mod chains;
-#[cfg(test)]
 mod desk;
-#[cfg(test)]
-mod exchanges;
 #[cfg(test)]
 mod kept;
 #[cfg(test)]
@@ -21,7 +15,5 @@ mod random_edits;
 mod relabelled;
 #[cfg(test)]
 mod runs;
-#[cfg(test)]
-mod shelves;
 #[cfg(test)]
 mod small_traces;

@@ -8,7 +8,7 @@ use Rattle.ownership_model.specs.Laws.{ReplayAlike, StopsLater}
 use Rattle.ownership_model.specs.Patch.{Remains, patched, AreThere}
 use Rattle.ownership_model.proofs.LawsHold.{patches}
 use Rattle.agreement.specs.Agreement.{AreRemains, is_apart}
-use Rattle.edit_tests.proofs.exchanges.kept_as_new.Goals as goal
+use Rattle.agreement_tests.proofs.exchanges.kept_as_new.Goals as goal
 
 -- nothing was replayed since they agreed
 stops : (new old : State) (x : Remains) → ReplayAlike (is_apart new old) new old x → StopsLater new old x [] []

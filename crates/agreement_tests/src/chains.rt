@@ -1,5 +1,4 @@
 //! Two replays compared as a chain of objects grows that differs deep down.
-use crate::small_traces::{add, new};
 use agreement::agree::agree;
 use agreement::search::{Meeting, meet};
 use agreement::trail::Trail;
@@ -9,8 +8,22 @@ use op_step::replay::replay;
 use std::alloc::Global;
 use std::test::Fail;
 use trace_types::kinds::{Field, Kind};
+use trace_types::ops::Op;
 use trace_types::sequence::Sequence;
 use trace_types::trace::Trace;
+
+fn add(trace: &mut Trace, id: u32, kind: Kind) -> Result<(), Fail> {
+    let op = Op::make(id, 0, kind).map_err(|_| Fail::from("limits"))?;
+    trace.push(op).map_err(|_| Fail::from("refused"))?;
+    Ok(())
+}
+
+fn new(alloc: Global, to: u32, fields: &[Field]) -> Result<Kind, Fail> {
+    Ok(Kind::New {
+        to,
+        fields: Sequence::from_vec(Vec::from_slice(alloc, fields)?),
+    })
+}
 
 // A chain of objects, each with the one made before it in a field. The third may have an empty field more. Numbers may rise or
 // fall along the chain. At its end it may be dropped, and there may be an object that names itself.

@@ -2,7 +2,7 @@ use Rattle.std.proofs.Common.{sym, subst}
 use Rattle.ownership_model.specs.State.{State}
 use Rattle.ownership_model.specs.Step.{AreUnused}
 use Rattle.ownership_model.proofs.LawsHold.{soundness}
-use Rattle.edit_tests.proofs.shelves.chunk.Goals as goal
+use Rattle.agreement_tests.proofs.shelves.chunk.Goals as goal
 
 -- nothing stands where nothing is held
 pub run-requires-clause-unused : goal.run-requires-clause-unused

@@ -8,7 +8,7 @@ use Rattle.ownership_model.specs.Laws.{ReplayAlike}
 use Rattle.ownership_model.specs.Patch.{Remains, patched}
 use Rattle.ownership_model.proofs.LawsHold.{patches}
 use Rattle.agreement.specs.Agreement.{AreRemains, is_apart}
-use Rattle.edit_tests.proofs.exchanges.kept_as_last.Goals as goal
+use Rattle.agreement_tests.proofs.exchanges.kept_as_last.Goals as goal
 
 -- nothing was replayed since they agreed
 pub patched-requires-clause-sound : goal.patched-requires-clause-sound

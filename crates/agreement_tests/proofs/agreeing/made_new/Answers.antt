@@ -6,7 +6,7 @@ use Rattle.ownership_model.specs.Laws.{ReplayAlike}
 use Rattle.ownership_model.specs.Patch.{Remains}
 use Rattle.ownership_model.proofs.LawsHold.{patches}
 use Rattle.agreement.specs.Agreement.{AreRemains, is_apart}
-use Rattle.edit_tests.proofs.agreeing.made_new.Goals as goal
+use Rattle.agreement_tests.proofs.agreeing.made_new.Goals as goal
 
 -- nothing was replayed since they agreed
 pub patch-requires-clause-sound : goal.patch-requires-clause-sound

@@ -1,0 +1,11 @@
+//! Tests of agreement and shelves, through what those crates promise.
+#![tactic(auto)]
+
+#[cfg(test)]
+mod agreeing;
+#[cfg(test)]
+mod chains;
+#[cfg(test)]
+mod exchanges;
+#[cfg(test)]
+mod shelves;
