@@ -1,9 +1,12 @@
 -- The pieces of a canonical line make the line.
-use Rattle.std.proofs.Common.{◌≡◌, ℕ, List, [], ◌∷◌, ◌++◌, Bool, true, false, Some, None, refl, sym, ap, ap₂, ◌∙◌, codes, decimal, append_assoc}
+use Rattle.std.proofs.Common.{◌≡◌, ℕ, List, [], ◌∷◌, ◌++◌, Bool, true, false, Option, Some, None, refl, sym, ap, ap₂, ◌∙◌, codes, decimal, append_assoc}
+use Rattle.std.specs.List.{AllByRecursion}
 use Rattle.json.specs.Print.{quoted}
-use Rattle.serde_json.specs.Data.{Data, Members, member, string}
+use Rattle.serde_json.specs.Data.{Data, Members, member, no_members, array, string}
 use Rattle.serde_json.specs.Written.{compact_text, items_text, members_text, comma_if}
 use Rattle.serde_json.proofs.OnLiterals.{serde_json_on_literals}
+use Rattle.trace_types.specs.Members.{Value, members, value_of}
+use Rattle.trace_types.specs.Members as table
 use Rattle.trace_types.specs.Names.{name_text, name_of_kind}
 use Rattle.trace_types.specs.Operation.{Operation}
 use Rattle.trace_types.specs.declared.names.OpName.{OpName}
@@ -11,9 +14,8 @@ use Rattle.trace_types.specs.declared.names.OpName.TheVariants as name
 use Rattle.trace_types.specs.declared.kinds.Field.{Field}
 use Rattle.trace_types.specs.declared.kinds.Field.TheVariants.{Held, Null, Me}
 use Rattle.trace_types.specs.declared.kinds.Kind.{Kind}
-use Rattle.trace_types.specs.declared.kinds.Kind.TheVariants as kind
-use Rattle.trace_reader.specs.Writing.{natural, number_member, field_data, fields_data, members_before, members_after, members_of, line_of}
-use Rattle.trace_reader.specs.LineText.{number_text, field_text, elements_text, fields_text, text_before, text_after, text_between, line_text}
+use Rattle.trace_reader.specs.Writing.{natural, number_member, field_data, fields_data, with_value, with_members, members_before, members_after, members_of, line_of}
+use Rattle.trace_reader.specs.LineText.{names_before, text_ahead, text_behind, field_text, elements_text, fields_text, value_text, text_if, texts_ahead, text_before, text_after, text_between, line_text}
 
 -- ---- the fields
 
@@ -27,81 +29,86 @@ elements_text-is : (later : Bool) (fields : List Field) → items_text later (fi
 elements_text-is later [] = refl
 elements_text-is later (field ∷ fields) = ap (λ more. comma_if later ++ more) (ap₂ (λ one others. one ++ others) (field_text-is field) (elements_text-is true fields))
 
-fields_join : (fields : List Field) (rest : List ℕ) → codes "\"fields\":[" ++ (items_text false (fields_data fields) ++ 44 ∷ rest) ≡ fields_text fields ++ rest
-fields_join fields rest =
-    ap (λ x. codes "\"fields\":[" ++ x) (ap (λ x. x ++ 44 ∷ rest) (elements_text-is false fields) ∙ sym (append_assoc (elements_text false fields) (44 ∷ []) rest))
+fields_text-is : (fields : List Field) → compact_text (array (fields_data fields)) ≡ fields_text fields
+fields_text-is fields = ap (λ x. 91 ∷ x) (elements_text-is false fields)
 
 -- ---- the members before `id`
 
-number_join : (text : List ℕ) (n : ℕ) (rest : List ℕ) → (34 ∷ (text ++ 34 ∷ [])) ++ 58 ∷ (decimal n ++ 44 ∷ rest) ≡ number_text text n ++ rest
-unfolding number_text
-number_join text n rest =
-    ap (λ x. 34 ∷ x) (
-    append_assoc text (34 ∷ []) (58 ∷ (decimal n ++ 44 ∷ rest))
-    ∙ sym (append_assoc text (34 ∷ 58 ∷ []) (decimal n ++ 44 ∷ rest))
-    ∙ sym (append_assoc (text ++ 34 ∷ 58 ∷ []) (decimal n) (44 ∷ rest))
-    ∙ sym (append_assoc ((text ++ 34 ∷ 58 ∷ []) ++ decimal n) (44 ∷ []) rest)
+-- a name is quoted as it is
+abbrev IsPlain : List ℕ → Type 0
+IsPlain name = quoted name ≡ 34 ∷ (name ++ 34 ∷ [])
+
+-- there are members, so that a comma stands before them where others stand before
+abbrev AreSome : Members → Type 0
+AreSome ms = members_text true ms ≡ 44 ∷ members_text false ms
+
+-- a member in front of others
+ahead : (name value : List ℕ) (ms : Members) → IsPlain name → AreSome ms → quoted name ++ 58 ∷ (value ++ members_text true ms) ≡ text_ahead name value ++ members_text false ms
+unfolding text_ahead
+ahead name value ms plain some =
+    ap (λ q. q ++ 58 ∷ (value ++ members_text true ms)) plain
+    ∙ ap (λ x. (34 ∷ (name ++ 34 ∷ [])) ++ 58 ∷ (value ++ x)) some
+    ∙ ap (λ x. 34 ∷ x) (
+    append_assoc name (34 ∷ []) (58 ∷ (value ++ 44 ∷ members_text false ms))
+    ∙ sym (append_assoc name (34 ∷ 58 ∷ []) (value ++ 44 ∷ members_text false ms))
+    ∙ sym (append_assoc (name ++ 34 ∷ 58 ∷ []) value (44 ∷ members_text false ms))
+    ∙ sym (append_assoc ((name ++ 34 ∷ 58 ∷ []) ++ value) (44 ∷ []) (members_text false ms))
     )
 
-chained : (first more rest tail : List ℕ) → tail ≡ more ++ rest → first ++ tail ≡ (first ++ more) ++ rest
-chained first more rest tail e = ap (λ x. first ++ x) e ∙ sym (append_assoc first more rest)
+some_with : (name : List ℕ) (v : Option Value) (ms : Members) → AreSome ms → AreSome (with_value name v ms)
+some_with name None ms some = some
+some_with name (Some (table.PerhapsHandle None)) ms some = some
+some_with name (Some (table.PerhapsHandle (Some h))) ms some = refl
+some_with name (Some (table.Handle h)) ms some = refl
+some_with name (Some (table.Cell c)) ms some = refl
+some_with name (Some (table.Index i)) ms some = refl
+some_with name (Some (table.Fields fields)) ms some = refl
+some_with name (Some (table.CyclicFields fields)) ms some = refl
+
+one : (name : List ℕ) (v : Option Value) (ms : Members) → IsPlain name → AreSome ms → members_text false (with_value name v ms) ≡ text_if (text_ahead name) (value_text v) ++ members_text false ms
+one name None ms plain some = refl
+one name (Some (table.PerhapsHandle None)) ms plain some = refl
+one name (Some (table.PerhapsHandle (Some h))) ms plain some = ahead name (decimal h) ms plain some
+one name (Some (table.Handle h)) ms plain some = ahead name (decimal h) ms plain some
+one name (Some (table.Cell c)) ms plain some = ahead name (decimal c) ms plain some
+one name (Some (table.Index i)) ms plain some = ahead name (decimal i) ms plain some
+one name (Some (table.Fields fields)) ms plain some = ap (λ x. quoted name ++ 58 ∷ (x ++ members_text true ms)) (fields_text-is fields) ∙ ahead name (fields_text fields) ms plain some
+one name (Some (table.CyclicFields fields)) ms plain some = ap (λ x. quoted name ++ 58 ∷ (x ++ members_text true ms)) (fields_text-is fields) ∙ ahead name (fields_text fields) ms plain some
+
+more : (names : List (List ℕ)) (k : Kind) (ms : Members) → AllByRecursion IsPlain names → AreSome ms
+    → AreSome (with_members names k ms) × (members_text false (with_members names k ms) ≡ texts_ahead names k ++ members_text false ms)
+more [] k ms plain some = (some, refl)
+more (name ∷ names) k ms plain some =
+    let rest = more names k ms plain.1 some in
+    let v = value_of name (members k) in (
+      some_with name v (with_members names k ms) rest.0,
+      one name v (with_members names k ms) plain.0 rest.0
+          ∙ ap (λ x. text_if (text_ahead name) (value_text v) ++ x) rest.1
+          ∙ sym (append_assoc (text_if (text_ahead name) (value_text v)) (texts_ahead names k) (members_text false ms)),
+    )
+
+are_plain : AllByRecursion IsPlain names_before
+unfolding serde_json_on_literals
+are_plain = (refl, (refl, (refl, (refl, (refl, (refl, (refl, (refl, (refl, tt)))))))))
 
 before : (k : Kind) (key : List ℕ) (value : Data) (others : Members) → members_text false (members_before k (member key value others)) ≡ text_before k ++ members_text false (member key value others)
-unfolding serde_json_on_literals
-before (kind.New to fields) key value others = fields_join fields (members_text false (member key value others))
-before (kind.NewCyclic to fields) key value others = fields_join fields (members_text false (member key value others))
-before (kind.NewFrom from to) key value others = number_join (codes "from") from (members_text false (member key value others))
-before (kind.WeakNew to) key value others = refl
-before (kind.Null to) key value others = refl
-before (kind.Clone from to) key value others = number_join (codes "from") from (members_text false (member key value others))
-before (kind.Drop h) key value others = number_join (codes "h") h (members_text false (member key value others))
-before (kind.Downgrade from to) key value others = number_join (codes "from") from (members_text false (member key value others))
-before (kind.Upgrade from to) key value others = number_join (codes "from") from (members_text false (member key value others))
-before (kind.TryUnwrap h) key value others = number_join (codes "h") h (members_text false (member key value others))
-before (kind.IntoInner h) key value others = number_join (codes "h") h (members_text false (member key value others))
-before (kind.GetMut h) key value others = number_join (codes "h") h (members_text false (member key value others))
-before (kind.MakeMut h) key value others = number_join (codes "h") h (members_text false (member key value others))
-before (kind.Counts h) key value others = number_join (codes "h") h (members_text false (member key value others))
-before (kind.PtrEq a b) key value others = number_join (codes "a") a (members_text false (number_member (codes "b") b (member key value others))) ∙ chained (number_text (codes "a") a) (number_text (codes "b") b) (members_text false (member key value others)) (members_text false (number_member (codes "b") b (member key value others))) (number_join (codes "b") b (members_text false (member key value others)))
-before (kind.Set h i from) key value others = number_join (codes "from") from (members_text false (number_member (codes "h") h (number_member (codes "i") i (member key value others)))) ∙ chained (number_text (codes "from") from) (number_text (codes "h") h) (members_text false (number_member (codes "i") i (member key value others))) (members_text false (number_member (codes "h") h (number_member (codes "i") i (member key value others)))) (number_join (codes "h") h (members_text false (number_member (codes "i") i (member key value others)))) ∙ chained (number_text (codes "from") from ++ number_text (codes "h") h) (number_text (codes "i") i) (members_text false (member key value others)) (members_text false (number_member (codes "i") i (member key value others))) (number_join (codes "i") i (members_text false (member key value others)))
-before (kind.Take h i to) key value others = number_join (codes "h") h (members_text false (number_member (codes "i") i (member key value others))) ∙ chained (number_text (codes "h") h) (number_text (codes "i") i) (members_text false (member key value others)) (members_text false (number_member (codes "i") i (member key value others))) (number_join (codes "i") i (members_text false (member key value others)))
-before (kind.Get h i to) key value others = number_join (codes "h") h (members_text false (number_member (codes "i") i (member key value others))) ∙ chained (number_text (codes "h") h) (number_text (codes "i") i) (members_text false (member key value others)) (members_text false (number_member (codes "i") i (member key value others))) (number_join (codes "i") i (members_text false (member key value others)))
-before (kind.CellNew c from) key value others = number_join (codes "c") c (members_text false (number_member (codes "from") from (member key value others))) ∙ chained (number_text (codes "c") c) (number_text (codes "from") from) (members_text false (member key value others)) (members_text false (number_member (codes "from") from (member key value others))) (number_join (codes "from") from (members_text false (member key value others)))
-before (kind.CellLoad c to) key value others = number_join (codes "c") c (members_text false (member key value others))
-before (kind.CellSwap c from to) key value others = number_join (codes "c") c (members_text false (number_member (codes "from") from (member key value others))) ∙ chained (number_text (codes "c") c) (number_text (codes "from") from) (members_text false (member key value others)) (members_text false (number_member (codes "from") from (member key value others))) (number_join (codes "from") from (members_text false (member key value others)))
-before (kind.CellCas c expected desired) key value others = number_join (codes "c") c (members_text false (number_member (codes "desired") desired (number_member (codes "expected") expected (member key value others)))) ∙ chained (number_text (codes "c") c) (number_text (codes "desired") desired) (members_text false (number_member (codes "expected") expected (member key value others))) (members_text false (number_member (codes "desired") desired (number_member (codes "expected") expected (member key value others)))) (number_join (codes "desired") desired (members_text false (number_member (codes "expected") expected (member key value others)))) ∙ chained (number_text (codes "c") c ++ number_text (codes "desired") desired) (number_text (codes "expected") expected) (members_text false (member key value others)) (members_text false (number_member (codes "expected") expected (member key value others))) (number_join (codes "expected") expected (members_text false (member key value others)))
-before (kind.CellDrop c) key value others = number_join (codes "c") c (members_text false (member key value others))
-before kind.ScopeEnd key value others = refl
+before k key value others = (more names_before k (member key value others) are_plain refl).1
 
 -- ---- those after `t`
 
-after : (k : Kind) → members_text true (members_after k) ≡ text_after k ++ codes "}"
+last : (v : Option Value) → members_text true (with_value (codes "to") v no_members) ≡ text_if (text_behind (codes "to")) (value_text v) ++ codes "}"
 unfolding serde_json_on_literals
-after (kind.New to fields) = refl
-after (kind.NewCyclic to fields) = refl
-after (kind.NewFrom from to) = refl
-after (kind.WeakNew to) = refl
-after (kind.Null to) = refl
-after (kind.Clone from to) = refl
-after (kind.Drop h) = refl
-after (kind.Downgrade from to) = refl
-after (kind.Upgrade from to) = refl
-after (kind.TryUnwrap h) = refl
-after (kind.IntoInner h) = refl
-after (kind.GetMut h) = refl
-after (kind.MakeMut h) = refl
-after (kind.Counts h) = refl
-after (kind.PtrEq a b) = refl
-after (kind.Set h i from) = refl
-after (kind.Take h i to) = refl
-after (kind.Get h i to) = refl
-after (kind.CellNew c from) = refl
-after (kind.CellLoad c to) = refl
-after (kind.CellSwap c from (Some to)) = refl
-after (kind.CellSwap c from None) = refl
-after (kind.CellCas c expected desired) = refl
-after (kind.CellDrop c) = refl
-after kind.ScopeEnd = refl
+last None = refl
+last (Some (table.PerhapsHandle None)) = refl
+last (Some (table.PerhapsHandle (Some h))) = refl
+last (Some (table.Handle h)) = refl
+last (Some (table.Cell c)) = refl
+last (Some (table.Index i)) = refl
+last (Some (table.Fields fields)) = ap (λ x. codes ",\"to\":" ++ (x ++ codes "}")) (fields_text-is fields)
+last (Some (table.CyclicFields fields)) = ap (λ x. codes ",\"to\":" ++ (x ++ codes "}")) (fields_text-is fields)
+
+after : (k : Kind) → members_text true (members_after k) ≡ text_after k ++ codes "}"
+after k = last (value_of (codes "to") (members k))
 
 -- ---- those of every operation
 

@@ -1,16 +1,19 @@
 -- The canonical line of an operation reads as the operation.
-use Rattle.std.proofs.Common.{◌≡◌, ℕ, suc, ◌^◌, ◌≤◌, ◌<◌, List, [], ◌∷◌, ◌++◌, length, Bool, true, false, ◌&&◌, nat_le, Some, None, Ok, refl, sym, ap, ◌∙◌, arith, append-nil, append_assoc, le-leb, leb-true}
+use Rattle.std.proofs.Common.{◌≡◌, ℕ, suc, ◌^◌, ◌≤◌, ◌<◌, List, [], ◌∷◌, ◌++◌, length, Bool, true, false, ◌&&◌, nat_le, if◌then◌else◌, codes, Option, Some, None, Ok, refl, sym, ap, ◌∙◌, arith, append-nil, append_assoc, le-leb, leb-true}
 use Rattle.std.specs.List.{list_all}
+use Rattle.std.specs.Str.{bytes_eq}
 use Rattle.std.specs.Option.{option_map}
 use Rattle.json.specs.Tree as tree
 use Rattle.json.proofs.Printed.Decimals.{IsNumber-decimal}
-use Rattle.serde_json.specs.Data.{Data, number}
+use Rattle.serde_json.specs.Data.{Data, number, string, Members, no_members, member}
 use Rattle.serde_json.specs.Events.{items_len}
 use Rattle.serde_json.specs.Read.{read, of_json, of_items, max_depth}
-use Rattle.serde_json.specs.Written.{outline, items_outline}
+use Rattle.serde_json.specs.Written.{outline, items_outline, members_outline}
 use Rattle.serde_json.proofs.Numbers.{number_of-decimal}
-use Rattle.trace_types.specs.Limits.{is_name, is_index, is_field, is_cyclic_field, is_kind, is_within_limits}
-use Rattle.trace_types.specs.Names.{name_of}
+use Rattle.trace_types.specs.Limits.{is_name, is_index, is_field, is_cyclic_field, is_within, are_members, is_kind, is_within_limits}
+use Rattle.trace_types.specs.Members.{Member, Value}
+use Rattle.trace_types.specs.Members as table
+use Rattle.trace_types.specs.Names.{name_of, name_text, name_of_kind}
 use Rattle.trace_types.specs.Operation.{Operation}
 use Rattle.trace_types.specs.declared.kinds.Field.{Field}
 use Rattle.trace_types.specs.declared.kinds.Field.TheVariants.{Held, Null, Me}
@@ -19,8 +22,9 @@ use Rattle.trace_types.specs.declared.kinds.Kind.TheVariants as kind
 use Rattle.trace_types.specs.declared.limits.TheConstants.{MAX_NAME, MAX_ID, MAX_THREAD, MAX_FIELDS, MAX_INDEX}
 use Rattle.trace_reader.specs.Members.{◌>>=◌, within, field_test, fields_from, number_at, perhaps_handle_at, text_at, fields_at}
 use Rattle.trace_reader.specs.Kinds.{one_at, two_at, three_at, field_at, made_at, swap_at}
+use Rattle.trace_reader.specs.LineText.{names_before}
 use Rattle.trace_reader.specs.Reading.{read_op, members_of_op, kind_at}
-use Rattle.trace_reader.specs.Writing.{natural, fields_data, members_of, data_of, line_of}
+use Rattle.trace_reader.specs.Writing.{natural, number_member, fields_data, with_value, with_members, members_after, members_of, data_of, line_of}
 use Rattle.trace_reader.proofs.ReadBack.{read-compact_text}
 
 pub both : (a b : Bool) → (a && b) ≡ true → (a ≡ true) × (b ≡ true)
@@ -67,91 +71,67 @@ fields_depth (Me ∷ fields) = rw (fields_depth fields)
 abbrev value_of : ℕ → ℕ → Kind → Data
 value_of id t k = data_of (record { id = id; thread = t; kind = k })
 
+-- the value, if there is one, is within its limits
+abbrev fits : Option Value → Bool
+fits None = true
+fits (Some v) = is_within v
+
+fits_if : (b : Bool) (v : Value) (other : Option Value) → is_within v ≡ true → fits other ≡ true → fits (if b then Some v else other) ≡ true
+fits_if true v other h k = h
+fits_if false v other h k = k
+
+-- so is the member of each name
+fits_at : (name : List ℕ) (ms : List Member) → are_members ms ≡ true → fits (table.value_of name ms) ≡ true
+fits_at name [] h = refl
+fits_at name (m ∷ []) h = fits_if (bytes_eq m.name name) m.value None h refl
+fits_at name (m ∷ (n ∷ ms)) h = let p = both (is_within m.value) _ h in fits_if (bytes_eq m.name name) m.value (table.value_of name (n ∷ ms)) p.0 (fits_at name (n ∷ ms) p.1)
+
+-- all numbers of the members are written as numbers
+abbrev AreNumbers : Members → Type 0
+AreNumbers ms = tree.MembersHaveNumbers (members_outline ms)
+
+number_with : (name : List ℕ) (v : Option Value) (ms : Members) → fits v ≡ true → AreNumbers ms → AreNumbers (with_value name v ms)
+number_with name None ms h k = k
+number_with name (Some (table.Handle n)) ms h k = (IsNumber-decimal n (name_fits n h), k)
+number_with name (Some (table.PerhapsHandle None)) ms h k = k
+number_with name (Some (table.PerhapsHandle (Some n))) ms h k = (IsNumber-decimal n (name_fits n h), k)
+number_with name (Some (table.Cell n)) ms h k = (IsNumber-decimal n (name_fits n h), k)
+number_with name (Some (table.Index n)) ms h k = (IsNumber-decimal n (index_fits n h), k)
+number_with name (Some (table.Fields fields)) ms h k = let p = both (nat_le (length fields) MAX_FIELDS) _ h in (fields_fit fields (are_cyclic fields p.1), k)
+number_with name (Some (table.CyclicFields fields)) ms h k = let p = both (nat_le (length fields) MAX_FIELDS) _ h in (fields_fit fields p.1, k)
+
+numbers_with : (names : List (List ℕ)) (k : Kind) (ms : Members) → is_kind k ≡ true → AreNumbers ms → AreNumbers (with_members names k ms)
+numbers_with [] k ms h numbers = numbers
+numbers_with (name ∷ names) k ms h numbers = number_with name (table.value_of name (table.members k)) (with_members names k ms) (fits_at name (table.members k) h) (numbers_with names k ms h numbers)
+
 op_numbers : (id t : ℕ) (k : Kind) → id < 2 ^ 64 → t < 2 ^ 64 → is_kind k ≡ true → tree.HasNumbers (outline (value_of id t k))
 unfolding members_of
-op_numbers id t (kind.New to fields) low few fits =
-    let p = both (is_name to) _ fits in let q = both (nat_le (length fields) MAX_FIELDS) _ p.1 in
-    (fields_fit fields (are_cyclic fields q.1), (IsNumber-decimal id low, (tt, (IsNumber-decimal t few, (IsNumber-decimal to (name_fits to p.0), tt)))))
-op_numbers id t (kind.NewCyclic to fields) low few fits =
-    let p = both (is_name to) _ fits in let q = both (nat_le (length fields) MAX_FIELDS) _ p.1 in
-    (fields_fit fields q.1, (IsNumber-decimal id low, (tt, (IsNumber-decimal t few, (IsNumber-decimal to (name_fits to p.0), tt)))))
-op_numbers id t (kind.NewFrom from to) low few fits =
-    let p = both (is_name from) _ fits in
-    (IsNumber-decimal from (name_fits from p.0), (IsNumber-decimal id low, (tt, (IsNumber-decimal t few, (IsNumber-decimal to (name_fits to p.1), tt)))))
-op_numbers id t (kind.WeakNew to) low few fits = (IsNumber-decimal id low, (tt, (IsNumber-decimal t few, (IsNumber-decimal to (name_fits to fits), tt))))
-op_numbers id t (kind.Null to) low few fits = (IsNumber-decimal id low, (tt, (IsNumber-decimal t few, (IsNumber-decimal to (name_fits to fits), tt))))
-op_numbers id t (kind.Clone from to) low few fits =
-    let p = both (is_name from) _ fits in
-    (IsNumber-decimal from (name_fits from p.0), (IsNumber-decimal id low, (tt, (IsNumber-decimal t few, (IsNumber-decimal to (name_fits to p.1), tt)))))
-op_numbers id t (kind.Drop h) low few fits = (IsNumber-decimal h (name_fits h fits), (IsNumber-decimal id low, (tt, (IsNumber-decimal t few, tt))))
-op_numbers id t (kind.Downgrade from to) low few fits =
-    let p = both (is_name from) _ fits in
-    (IsNumber-decimal from (name_fits from p.0), (IsNumber-decimal id low, (tt, (IsNumber-decimal t few, (IsNumber-decimal to (name_fits to p.1), tt)))))
-op_numbers id t (kind.Upgrade from to) low few fits =
-    let p = both (is_name from) _ fits in
-    (IsNumber-decimal from (name_fits from p.0), (IsNumber-decimal id low, (tt, (IsNumber-decimal t few, (IsNumber-decimal to (name_fits to p.1), tt)))))
-op_numbers id t (kind.TryUnwrap h) low few fits = (IsNumber-decimal h (name_fits h fits), (IsNumber-decimal id low, (tt, (IsNumber-decimal t few, tt))))
-op_numbers id t (kind.IntoInner h) low few fits = (IsNumber-decimal h (name_fits h fits), (IsNumber-decimal id low, (tt, (IsNumber-decimal t few, tt))))
-op_numbers id t (kind.GetMut h) low few fits = (IsNumber-decimal h (name_fits h fits), (IsNumber-decimal id low, (tt, (IsNumber-decimal t few, tt))))
-op_numbers id t (kind.MakeMut h) low few fits = (IsNumber-decimal h (name_fits h fits), (IsNumber-decimal id low, (tt, (IsNumber-decimal t few, tt))))
-op_numbers id t (kind.Counts h) low few fits = (IsNumber-decimal h (name_fits h fits), (IsNumber-decimal id low, (tt, (IsNumber-decimal t few, tt))))
-op_numbers id t (kind.PtrEq a b) low few fits =
-    let p = both (is_name a) _ fits in
-    (IsNumber-decimal a (name_fits a p.0), (IsNumber-decimal b (name_fits b p.1), (IsNumber-decimal id low, (tt, (IsNumber-decimal t few, tt)))))
-op_numbers id t (kind.Set h i from) low few fits =
-    let p = both (is_name h) _ fits in let q = both (is_index i) _ p.1 in
-    (IsNumber-decimal from (name_fits from q.1), (IsNumber-decimal h (name_fits h p.0), (IsNumber-decimal i (index_fits i q.0), (IsNumber-decimal id low, (tt, (IsNumber-decimal t few, tt))))))
-op_numbers id t (kind.Take h i to) low few fits =
-    let p = both (is_name h) _ fits in let q = both (is_index i) _ p.1 in
-    (IsNumber-decimal h (name_fits h p.0), (IsNumber-decimal i (index_fits i q.0), (IsNumber-decimal id low, (tt, (IsNumber-decimal t few, (IsNumber-decimal to (name_fits to q.1), tt))))))
-op_numbers id t (kind.Get h i to) low few fits =
-    let p = both (is_name h) _ fits in let q = both (is_index i) _ p.1 in
-    (IsNumber-decimal h (name_fits h p.0), (IsNumber-decimal i (index_fits i q.0), (IsNumber-decimal id low, (tt, (IsNumber-decimal t few, (IsNumber-decimal to (name_fits to q.1), tt))))))
-op_numbers id t (kind.CellNew c from) low few fits =
-    let p = both (is_name c) _ fits in
-    (IsNumber-decimal c (name_fits c p.0), (IsNumber-decimal from (name_fits from p.1), (IsNumber-decimal id low, (tt, (IsNumber-decimal t few, tt)))))
-op_numbers id t (kind.CellLoad c to) low few fits =
-    let p = both (is_name c) _ fits in
-    (IsNumber-decimal c (name_fits c p.0), (IsNumber-decimal id low, (tt, (IsNumber-decimal t few, (IsNumber-decimal to (name_fits to p.1), tt)))))
-op_numbers id t (kind.CellSwap c from (Some to)) low few fits =
-    let p = both (is_name c) _ fits in let q = both (is_name from) _ p.1 in
-    (IsNumber-decimal c (name_fits c p.0), (IsNumber-decimal from (name_fits from q.0), (IsNumber-decimal id low, (tt, (IsNumber-decimal t few, (IsNumber-decimal to (name_fits to q.1), tt))))))
-op_numbers id t (kind.CellSwap c from None) low few fits =
-    let p = both (is_name c) _ fits in let q = both (is_name from) _ p.1 in
-    (IsNumber-decimal c (name_fits c p.0), (IsNumber-decimal from (name_fits from q.0), (IsNumber-decimal id low, (tt, (IsNumber-decimal t few, tt)))))
-op_numbers id t (kind.CellCas c expected desired) low few fits =
-    let p = both (is_name c) _ fits in let q = both (is_name expected) _ p.1 in
-    (IsNumber-decimal c (name_fits c p.0), (IsNumber-decimal desired (name_fits desired q.1), (IsNumber-decimal expected (name_fits expected q.0), (IsNumber-decimal id low, (tt, (IsNumber-decimal t few, tt))))))
-op_numbers id t (kind.CellDrop c) low few fits = (IsNumber-decimal c (name_fits c fits), (IsNumber-decimal id low, (tt, (IsNumber-decimal t few, tt))))
-op_numbers id t kind.ScopeEnd low few fits = (IsNumber-decimal id low, (tt, (IsNumber-decimal t few, tt)))
+op_numbers id t k low few h = numbers_with names_before k _ h (IsNumber-decimal id low, (tt, (IsNumber-decimal t few, numbers_with (codes "to" ∷ []) k no_members h tt)))
+
+-- no member has a value deeper than an array of numbers
+abbrev AreFlat : Members → Type 0
+AreFlat ms = tree.members_depth (members_outline ms) ≤ 1
+
+flat_with : (name : List ℕ) (v : Option Value) (ms : Members) → AreFlat ms → AreFlat (with_value name v ms)
+flat_with name None ms h = h
+flat_with name (Some (table.Handle n)) ms h = omega (arith, h)
+flat_with name (Some (table.PerhapsHandle None)) ms h = h
+flat_with name (Some (table.PerhapsHandle (Some n))) ms h = omega (arith, h)
+flat_with name (Some (table.Cell n)) ms h = omega (arith, h)
+flat_with name (Some (table.Index n)) ms h = omega (arith, h)
+flat_with name (Some (table.Fields fields)) ms h = rw (fields_depth fields) (omega (arith, h))
+flat_with name (Some (table.CyclicFields fields)) ms h = rw (fields_depth fields) (omega (arith, h))
+
+flats_with : (names : List (List ℕ)) (k : Kind) (ms : Members) → AreFlat ms → AreFlat (with_members names k ms)
+flats_with [] k ms h = h
+flats_with (name ∷ names) k ms h = flat_with name (table.value_of name (table.members k)) (with_members names k ms) (flats_with names k ms h)
 
 op_depth : (id t : ℕ) (k : Kind) → tree.depth (outline (value_of id t k)) ≤ max_depth
 unfolding members_of
-op_depth id t (kind.New to fields) = rw (fields_depth fields) (omega arith)
-op_depth id t (kind.NewCyclic to fields) = rw (fields_depth fields) (omega arith)
-op_depth id t (kind.NewFrom from to) = omega arith
-op_depth id t (kind.WeakNew to) = omega arith
-op_depth id t (kind.Null to) = omega arith
-op_depth id t (kind.Clone from to) = omega arith
-op_depth id t (kind.Drop h) = omega arith
-op_depth id t (kind.Downgrade from to) = omega arith
-op_depth id t (kind.Upgrade from to) = omega arith
-op_depth id t (kind.TryUnwrap h) = omega arith
-op_depth id t (kind.IntoInner h) = omega arith
-op_depth id t (kind.GetMut h) = omega arith
-op_depth id t (kind.MakeMut h) = omega arith
-op_depth id t (kind.Counts h) = omega arith
-op_depth id t (kind.PtrEq a b) = omega arith
-op_depth id t (kind.Set h i from) = omega arith
-op_depth id t (kind.Take h i to) = omega arith
-op_depth id t (kind.Get h i to) = omega arith
-op_depth id t (kind.CellNew c from) = omega arith
-op_depth id t (kind.CellLoad c to) = omega arith
-op_depth id t (kind.CellSwap c from (Some to)) = omega arith
-op_depth id t (kind.CellSwap c from None) = omega arith
-op_depth id t (kind.CellCas c expected desired) = omega arith
-op_depth id t (kind.CellDrop c) = omega arith
-op_depth id t kind.ScopeEnd = omega arith
+op_depth id t k =
+    let after = flats_with (codes "to" ∷ []) k no_members (omega arith) in
+    let all = flats_with names_before k (number_member (codes "id") id (member (codes "op") (string (name_text (name_of_kind k))) (number_member (codes "t") t (members_after k)))) (omega (arith, after)) in
+    omega (arith, all)
 
 op_back : (id t : ℕ) (k : Kind) → id < 2 ^ 64 → t < 2 ^ 64 → is_kind k ≡ true → of_json (outline (value_of id t k)) ≡ Some (value_of id t k)
 unfolding members_of

@@ -1,16 +1,23 @@
 -- The pieces of a canonical line, as they are written: `Writing` says what the line is.
 use Rattle.std.specs.Prelude.{ℕ, List, [], ◌∷◌, ◌++◌, codes, decimal, Bool, true, false, Option, Some, None}
+use Rattle.std.specs.List.{flat_map}
+use Rattle.std.specs.Option.{option_map}
 use Rattle.serde_json.specs.Written.{comma_if}
+use Rattle.trace_types.specs.Members.{Value}
+use Rattle.trace_types.specs.Members as table
 use Rattle.trace_types.specs.Names.{name_text, name_of_kind}
 use Rattle.trace_types.specs.Operation.{Operation}
 use Rattle.trace_types.specs.declared.kinds.Field.{Field}
 use Rattle.trace_types.specs.declared.kinds.Field.TheVariants.{Held, Null, Me}
 use Rattle.trace_types.specs.declared.kinds.Kind.{Kind}
-use Rattle.trace_types.specs.declared.kinds.Kind.TheVariants as kind
 
--- a member that is a number, with the comma after it
-unfoldable pub number_text : List ℕ → ℕ → List ℕ
-number_text name n = codes "\"" ++ name ++ codes "\":" ++ decimal n ++ codes ","
+-- a member in front of others: `"from":3,`
+unfoldable pub text_ahead : List ℕ → List ℕ → List ℕ
+text_ahead name value = codes "\"" ++ name ++ codes "\":" ++ value ++ codes ","
+
+-- a member behind others: `,"to":3`
+abbrev pub text_behind : List ℕ → List ℕ → List ℕ
+text_behind name value = codes ",\"" ++ name ++ codes "\":" ++ value
 
 -- an element of `fields`: `3`, `null` or `"me"`
 abbrev pub field_text : Field → List ℕ
@@ -23,72 +30,48 @@ abbrev pub elements_text : Bool → List Field → List ℕ
 elements_text later [] = codes "]"
 elements_text later (field ∷ fields) = comma_if later ++ (field_text field ++ elements_text true fields)
 
--- the member `fields`, with the comma after it: `"fields":[3,null],`
+-- the elements as an array: `[3,null]`
 abbrev pub fields_text : List Field → List ℕ
-fields_text fields = codes "\"fields\":[" ++ elements_text false fields ++ codes ","
+fields_text fields = codes "[" ++ elements_text false fields
 
--- the member `to`, with the comma before it: `,"to":3`
-abbrev pub to_text : ℕ → List ℕ
-to_text to = codes ",\"to\":" ++ decimal to
+-- the value of a member, where one is written
+abbrev pub value_text : Option Value → Option (List ℕ)
+value_text None = None
+value_text (Some (table.Handle h)) = Some (decimal h)
+value_text (Some (table.PerhapsHandle h)) = option_map decimal h
+value_text (Some (table.Cell c)) = Some (decimal c)
+value_text (Some (table.Index i)) = Some (decimal i)
+value_text (Some (table.Fields fields)) = Some (fields_text fields)
+value_text (Some (table.CyclicFields fields)) = Some (fields_text fields)
 
--- the same, and nothing where `to` is left out
-abbrev pub perhaps_to_text : Option ℕ → List ℕ
-perhaps_to_text None = []
-perhaps_to_text (Some to) = to_text to
+-- the text of a value, if one is written
+abbrev pub text_if : (List ℕ → List ℕ) → Option (List ℕ) → List ℕ
+text_if text None = []
+text_if text (Some value) = text value
+
+-- the value of the member of that name, where one is written
+abbrev pub value_at : List ℕ → Kind → Option (List ℕ)
+value_at name k = value_text (table.value_of name (table.members k))
+
+-- the names that come before `id`, in the order of their bytes
+abbrev pub names_before : List (List ℕ)
+names_before = codes "a" ∷ codes "b" ∷ codes "c" ∷ codes "desired" ∷ codes "expected" ∷ codes "fields" ∷ codes "from" ∷ codes "h" ∷ codes "i" ∷ []
+
+-- the members of these names, in front of others
+abbrev pub texts_ahead : List (List ℕ) → Kind → List ℕ
+texts_ahead names k = flat_map (λ name. text_if (text_ahead name) (value_at name k)) names
 
 -- the members before `id`
 abbrev pub text_before : Kind → List ℕ
-text_before (kind.New to fields) = fields_text fields
-text_before (kind.NewCyclic to fields) = fields_text fields
-text_before (kind.NewFrom from to) = number_text (codes "from") from
-text_before (kind.WeakNew to) = []
-text_before (kind.Null to) = []
-text_before (kind.Clone from to) = number_text (codes "from") from
-text_before (kind.Drop h) = number_text (codes "h") h
-text_before (kind.Downgrade from to) = number_text (codes "from") from
-text_before (kind.Upgrade from to) = number_text (codes "from") from
-text_before (kind.TryUnwrap h) = number_text (codes "h") h
-text_before (kind.IntoInner h) = number_text (codes "h") h
-text_before (kind.GetMut h) = number_text (codes "h") h
-text_before (kind.MakeMut h) = number_text (codes "h") h
-text_before (kind.Counts h) = number_text (codes "h") h
-text_before (kind.PtrEq a b) = number_text (codes "a") a ++ number_text (codes "b") b
-text_before (kind.Set h i from) = number_text (codes "from") from ++ number_text (codes "h") h ++ number_text (codes "i") i
-text_before (kind.Take h i to) = number_text (codes "h") h ++ number_text (codes "i") i
-text_before (kind.Get h i to) = number_text (codes "h") h ++ number_text (codes "i") i
-text_before (kind.CellNew c from) = number_text (codes "c") c ++ number_text (codes "from") from
-text_before (kind.CellLoad c to) = number_text (codes "c") c
-text_before (kind.CellSwap c from to) = number_text (codes "c") c ++ number_text (codes "from") from
-text_before (kind.CellCas c expected desired) = number_text (codes "c") c ++ number_text (codes "desired") desired ++ number_text (codes "expected") expected
-text_before (kind.CellDrop c) = number_text (codes "c") c
-text_before kind.ScopeEnd = []
+text_before k = texts_ahead names_before k
+
+-- the member `to`, behind others
+abbrev pub to_text : Option (List ℕ) → List ℕ
+to_text value = text_if (text_behind (codes "to")) value
 
 -- the members after `t`
 abbrev pub text_after : Kind → List ℕ
-text_after (kind.New to fields) = to_text to
-text_after (kind.NewCyclic to fields) = to_text to
-text_after (kind.NewFrom from to) = to_text to
-text_after (kind.WeakNew to) = to_text to
-text_after (kind.Null to) = to_text to
-text_after (kind.Clone from to) = to_text to
-text_after (kind.Drop h) = []
-text_after (kind.Downgrade from to) = to_text to
-text_after (kind.Upgrade from to) = to_text to
-text_after (kind.TryUnwrap h) = []
-text_after (kind.IntoInner h) = []
-text_after (kind.GetMut h) = []
-text_after (kind.MakeMut h) = []
-text_after (kind.Counts h) = []
-text_after (kind.PtrEq a b) = []
-text_after (kind.Set h i from) = []
-text_after (kind.Take h i to) = to_text to
-text_after (kind.Get h i to) = to_text to
-text_after (kind.CellNew c from) = []
-text_after (kind.CellLoad c to) = to_text to
-text_after (kind.CellSwap c from to) = perhaps_to_text to
-text_after (kind.CellCas c expected desired) = []
-text_after (kind.CellDrop c) = []
-text_after kind.ScopeEnd = []
+text_after k = to_text (value_at (codes "to") k)
 
 -- the members of every operation
 abbrev pub text_between : Operation → List ℕ

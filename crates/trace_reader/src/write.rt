@@ -1,5 +1,6 @@
 //! The canonical lines of operations: member names in the order of their bytes, no spaces.
-ghost use Rattle.std.specs.Prelude.{◌≡◌, ◌++◌, ◌∷◌, [], List, Ok, IfOk, OnOk, IsTrue, false, decimal, string_bytes};
+ghost use Rattle.std.specs.Prelude.{◌≡◌, ◌++◌, ◌∷◌, [], List, Some, Ok, IfOk, OnOk, IsTrue, false, codes, decimal, string_bytes};
+ghost use Rattle.std.specs.Option.{option_map};
 ghost use Rattle.std.specs.List.{list_all};
 ghost use Rattle.serde_json.specs.Written.{comma_if};
 ghost use Rattle.trace_types.specs.Limits.{is_within_limits};
@@ -7,7 +8,7 @@ ghost use Rattle.trace_types.specs.Operation.{Operation};
 ghost use Rattle.trace_types.specs.Trace.{IsTrace};
 ghost use Rattle.trace_reader.specs.Reading.{read_trace};
 ghost use Rattle.trace_reader.specs.Writing.{line_of, lines_text, op_of_line};
-ghost use Rattle.trace_reader.specs.LineText.{number_text, field_text, elements_text, fields_text, to_text, perhaps_to_text, text_before, text_after, text_between, line_text};
+ghost use Rattle.trace_reader.specs.LineText.{text_ahead, field_text, elements_text, fields_text, to_text, text_before, text_after, text_between, line_text};
 
 use std::alloc::{AllocError, Global};
 use std::fmt::Write;
@@ -180,23 +181,23 @@ fn push_after(text: &mut String, kind: &Kind) -> Result<(), AllocError>
     }
 }
 
-#[tactic(auto, unfolding(crate::specs::LineText::number_text))]
+#[tactic(auto, unfolding(crate::specs::LineText::text_ahead))]
 fn push_number(text: &mut String, name: &str, n: u32) -> Result<(), AllocError>
-    ensures { OnOk result (string_bytes text.new ≡ string_bytes text.old ++ number_text name.now n) }
+    ensures { OnOk result (string_bytes text.new ≡ string_bytes text.old ++ text_ahead name.now (decimal n)) }
 {
     write!(text, "\"{name}\":{n},")?;
     Ok(())
 }
 
 fn push_to(text: &mut String, to: u32) -> Result<(), AllocError>
-    ensures { OnOk result (string_bytes text.new ≡ string_bytes text.old ++ to_text to) }
+    ensures { OnOk result (string_bytes text.new ≡ string_bytes text.old ++ to_text (Some (decimal to))) }
 {
     write!(text, ",\"to\":{to}")?;
     Ok(())
 }
 
 fn push_perhaps_to(text: &mut String, to: Option<u32>) -> Result<(), AllocError>
-    ensures { OnOk result (string_bytes text.new ≡ string_bytes text.old ++ perhaps_to_text to) }
+    ensures { OnOk result (string_bytes text.new ≡ string_bytes text.old ++ to_text (option_map decimal to)) }
 {
     match to {
         Some(to) => push_to(text, to),
@@ -204,8 +205,9 @@ fn push_perhaps_to(text: &mut String, to: Option<u32>) -> Result<(), AllocError>
     }
 }
 
+#[tactic(auto, unfolding(crate::specs::LineText::text_ahead))]
 fn push_fields(text: &mut String, fields: &[Field]) -> Result<(), AllocError>
-    ensures { OnOk result (string_bytes text.new ≡ string_bytes text.old ++ fields_text fields.now) }
+    ensures { OnOk result (string_bytes text.new ≡ string_bytes text.old ++ text_ahead (codes "fields") (fields_text fields.now)) }
 {
     text.push_str("\"fields\":[")?;
     push_elements(text, fields)?;
