@@ -1,5 +1,5 @@
 //! How many checkpoints a desk keeps, and which stretches it steps no second time.
-use crate::small_traces::{add, batch, broken_cycle, op};
+use crate::small_traces::{add, add_pairs, batch, broken_cycle, new, op};
 use edit_desk::desk::Desk;
 use edit_desk::entries::Request;
 use edit_desk::kept::{KEPT_CHUNKS, KEPT_MARKS, KEPT_NAMES};
@@ -79,6 +79,33 @@ fn touched_checkpoints_stay(rt: HostRuntime) -> Result<(), Fail> {
     let marks = run.marks(alloc)?;
     let wanted = [0usize, 128, 129, 193, 257, 321, 385, 449, 513, 577, 641];
     assert!(rt; marks.as_slice() == wanted.as_slice());
+    Ok(())
+}
+
+// The shelf has room for one checkpoint, so that from the second edit on the one at 64 is given up at once. The chunk that begins there
+// was stepped by the first edit, and serves the third.
+#[test]
+fn chunk_behind_a_checkpoint_given_up(rt: HostRuntime) -> Result<(), Fail> {
+    let alloc = rt.alloc();
+    let mut trace = Trace::new(alloc);
+    add(&mut trace, 1, new(alloc, 0, &[])?)?;
+    add_pairs(alloc, &mut trace, 2, 192)?;
+    let mut shelf = MarkShelf::new(alloc, 1, 8, 8)?;
+    let mut run = Run::load_kept(alloc, &trace, &mut shelf, &mut Meter::new())?;
+    for (turn, rise) in [192u64, 192, 128].iter().enumerate() {
+        let kind = match turn {
+            1 => new(alloc, 0, &[])?,
+            _ => Kind::Null { to: 0 },
+        };
+        let edit = Edit::Change {
+            id: 1,
+            op: op(1, kind)?,
+        };
+        let mut meter = Meter::new();
+        run = run.edited(alloc, &batch(alloc, edit)?, &mut shelf, &mut meter)?;
+        assert_eq!(rt; meter.count(), *rise);
+    }
+    assert_eq!(rt; run.marks(alloc)?.as_slice().len(), 2);
     Ok(())
 }
 

@@ -22,3 +22,5 @@ mod NameLemmas
 mod GoneLemmas
 mod ClearedLemmas
 mod AnsweredLemmas
+mod OnwardLemmas
+mod LeftLemmas

@@ -9,10 +9,10 @@ use Rattle.std.proofs.lemmas.List.Elements.{Contains-append_cases, Contains-appe
 use Rattle.ownership_model.specs.State.{State}
 use Rattle.trace_types.specs.Operation.{Operation}
 use Rattle.run_engine.specs.SegmentView.{SegmentView}
-use Rattle.run_engine.specs.Segments.{ops_of, trace_of, mark_here, marks_from, all_marks, AreFull, BeginsMarked, IsRun, IsRestart, IsReached, IsPiece}
-use Rattle.run_engine.specs.HeadAndTail.{ShareEnd, AreShared}
+use Rattle.run_engine.specs.Segments.{ops_of, trace_of, mark_here, marks_from, all_marks, AreFull, BeginsMarked, IsRun, IsReached}
+use Rattle.run_engine.specs.HeadAndTail.{ShareEnd}
 use Rattle.run_engine.specs.Bounds.{AgreesAt}
-use Rattle.run_engine.specs.NewMarks.{IsGap, AreNeighbours, LeadTo, AreLaid, AreMarksOf, AreMarksAfter}
+use Rattle.run_engine.specs.NewMarks.{IsGap, AreNeighbours, LeadTo, AreLaid, AreMarksOf}
 use Rattle.run_engine.proofs.SegmentLemmas.{marks_from-append, length-trace_of-next}
 use Rattle.run_engine.proofs.ListingLemmas.{around}
 use Rattle.run_engine.proofs.PieceLemmas.{AreFull-front, AreFull-back, mark-is}
@@ -24,36 +24,22 @@ use Rattle.run_engine.proofs.PlaceLemmas.{marks-at, mark-there, end-mark, all-wi
 use Rattle.run_engine.proofs.ConvergeLemmas.{ShareEnd-length}
 
 -- a test that no position passes, and one that each passes
-none-pass : (test : ℕ → Bool) (ps : List ℕ) → ((p : ℕ) → Contains ps p → test p ≡ false) → filter test ps ≡ []
+pub none-pass : (test : ℕ → Bool) (ps : List ℕ) → ((p : ℕ) → Contains ps p → test p ≡ false) → filter test ps ≡ []
 none-pass test [] h = refl
 none-pass test (p ∷ ps) h =
     ap (λ b. cond b (p ∷ filter test ps) (filter test ps)) (h p (zero, omega arith, refl)) ∙ none-pass test ps (λ q k. h q (Contains-append_right (p ∷ []) ps q k))
 
-all-pass : (test : ℕ → Bool) (ps : List ℕ) → ((p : ℕ) → Contains ps p → test p ≡ true) → filter test ps ≡ ps
+pub all-pass : (test : ℕ → Bool) (ps : List ℕ) → ((p : ℕ) → Contains ps p → test p ≡ true) → filter test ps ≡ ps
 all-pass test [] h = refl
 all-pass test (p ∷ ps) h =
     ap (λ b. cond b (p ∷ filter test ps) (filter test ps)) (h p (zero, omega arith, refl)) ∙ ap (λ qs. p ∷ qs) (all-pass test ps (λ q k. h q (Contains-append_right (p ∷ []) ps q k)))
 
-LeadTo-append : (old : List ℕ) (r : ℕ) (fresh : List ℕ) (at len : ℕ) → LeadTo old r fresh at → IsGap old len → LeadTo old r (fresh ++ (at + len) ∷ []) (at + len)
+pub LeadTo-append : (old : List ℕ) (r : ℕ) (fresh : List ℕ) (at len : ℕ) → LeadTo old r fresh at → IsGap old len → LeadTo old r (fresh ++ (at + len) ∷ []) (at + len)
 LeadTo-append old r [] at len h gap = let e : at + len - r ≡ len = omega (arith, h) in (subst (IsGap old) (sym e) gap, refl)
 LeadTo-append old r (p ∷ ps) at len h gap = (h.0, LeadTo-append old p ps at len h.1 gap)
 
 pub AreLaid-none : (old kept : List ℕ) (r : ℕ) → AreLaid old kept r r kept
 AreLaid-none old kept r = record { fresh = []; laid = refl; lead = refl }
-
-pub AreLaid-next : (ops rest : List Operation) (old kept : List ℕ) (r at len : ℕ) (segments more : List SegmentView) (heap end : State)
-    → IsReached ops at segments heap → IsPiece heap rest more end len → IsGap old len → AreLaid old kept r at (marks_from 0 segments) → AreLaid old kept r (at + len) (marks_from 0 (segments ++ more))
-AreLaid-next ops rest old kept r at len segments more heap end h piece gap laid =
-    let within = h.within in
-    let long : length (trace_of segments) ≡ at = ap length h.trace ∙ omega (arith, length-take at ops) in
-    let place : 0 + length (trace_of segments) ≡ at = omega arith in
-    record {
-      fresh = laid.fresh ++ (at + len) ∷ [];
-      laid = ap (λ ps. ps ++ (at + len) ∷ [])
-          (marks_from-append 0 segments more ∙ ap (λ ps. marks_from 0 segments ++ ps) (piece.marks (0 + length (trace_of segments)) ∙ ap (λ p. p ∷ []) place) ∙ laid.laid)
-          ∙ append_assoc kept (r ∷ laid.fresh) ((at + len) ∷ []);
-      lead = LeadTo-append old r laid.fresh at len laid.lead gap;
-    }
 
 -- segments that begin elsewhere
 pub marks_from-moved : (a b at : ℕ) (segments : List SegmentView) → a ≤ at → marks_from (at - a + b) segments ≡ map (λ p. p - a + b) (marks_from at segments)
@@ -73,7 +59,7 @@ after-least at n segments p fits h =
     ⊎_elim (λ x. marks_from-least at segments p x) (λ x. let e : n ≡ p = Contains-one n p x in omega arith) (Contains-append_cases (marks_from at segments) (n ∷ []) p h)
 
 -- those behind the checkpoint of the segment i, which begins at `at`
-above-stop : (old : List SegmentView) (i at : ℕ) (s : SegmentView) (m : State) → AreFull old → i < length old → s ≡ get_or old i s → s.mark ≡ Some m → length (trace_of (take i old)) ≡ at
+pub above-stop : (old : List SegmentView) (i at : ℕ) (s : SegmentView) (m : State) → AreFull old → i < length old → s ≡ get_or old i s → s.mark ≡ Some m → length (trace_of (take i old)) ≡ at
     → filter (λ p. nat_lt at p) (all_marks old) ≡ marks_from (at + length (ops_of s)) (drop (i + 1) old) ++ length (trace_of old) ∷ []
 above-stop old i at s m full lt is mark place =
     let n : ℕ = length (trace_of old) in
@@ -92,16 +78,18 @@ above-stop old i at s m full lt is mark place =
     ∙ all-pass test later (λ p k. let least : at + length (ops_of s) ≤ p = after-least (at + length (ops_of s)) n (drop (i + 1) old) p fits k in let less : at < p = omega arith in lt-ltb at p less)
 
 -- none is behind the end
-above-end : (old : List SegmentView) → filter (λ p. nat_lt (length (trace_of old)) p) (all_marks old) ≡ []
+pub above-end : (old : List SegmentView) → filter (λ p. nat_lt (length (trace_of old)) p) (all_marks old) ≡ []
 above-end old = none-pass (λ p. nat_lt (length (trace_of old)) p) (all_marks old) (λ p k. le-ltb (length (trace_of old)) p (all-within old p (length (trace_of old)) k (omega arith)))
 
--- after a stop at the segment i, which begins at `at`
-pub AreMarksOf-stop : (old segments : List SegmentView) (ops : List Operation) (kept : List ℕ) (a b i at r : ℕ) (s : SegmentView)
+-- the checkpoints from a stop at `at` on, in the edited trace
+abbrev pub from-stop : List SegmentView → ℕ → ℕ → ℕ → List ℕ
+from-stop old a b at = (at - a + b) ∷ map (λ p. p - a + b) (filter (λ p. nat_lt at p) (all_marks old))
+
+-- where the old run goes on at the segment i, which begins at `at`
+pub all_marks-stop : (old segments : List SegmentView) (ops : List Operation) (a b i at : ℕ) (s : SegmentView)
     → AreFull old → ShareEnd (trace_of old) ops a b → i < length old → s ≡ get_or old i s → (m : State) → s.mark ≡ Some m → length (trace_of (take i old)) ≡ at → a ≤ at
-    → AgreesAt (trace_of old) ops a b at → ((p : ℕ) → Contains (all_marks old) p → a ≤ p → AgreesAt (trace_of old) ops a b p → at ≤ p)
-    → length (trace_of segments) ≡ at - a + b → trace_of (segments ++ drop i old) ≡ ops → AreLaid (all_marks old) kept r (at - a + b) (marks_from 0 segments)
-    → AreMarksOf (trace_of old) ops kept (all_marks old) (all_marks (segments ++ drop i old)) r a b at
-AreMarksOf-stop old segments ops kept a b i at r s full shared lt is m mark place behind agrees first long trace laid =
+    → length (trace_of segments) ≡ at - a + b → trace_of (segments ++ drop i old) ≡ ops → all_marks (segments ++ drop i old) ≡ marks_from 0 segments ++ from-stop old a b at
+all_marks-stop old segments ops a b i at s full shared lt is m mark place behind long trace =
     let n : ℕ = length (trace_of old) in
     let later : List ℕ = marks_from (at + length (ops_of s)) (drop (i + 1) old) ++ n ∷ [] in
     let moved : List ℕ → List ℕ = map (λ p. p - a + b) in
@@ -111,19 +99,25 @@ AreMarksOf-stop old segments ops kept a b i at r s full shared lt is m mark plac
     let fits : at ≤ n = place-within old i at place in
     let across = ShareEnd-length (trace_of old) ops a b shared in
     let last : length (trace_of (segments ++ drop i old)) ≡ n - a + b = ap length trace ∙ omega (arith, shared.old_within, shared.within) in
+    ap (λ l. marks_from 0 (segments ++ drop i old) ++ l ∷ []) last
+    ∙ ap (λ ps. ps ++ (n - a + b) ∷ []) (marks_from-append 0 segments (drop i old) ∙ ap (λ p. marks_from 0 segments ++ marks_from p (drop i old)) zero_front)
+    ∙ append_assoc (marks_from 0 segments) (marks_from (at - a + b) (drop i old)) ((n - a + b) ∷ [])
+    ∙ ap (λ ps. marks_from 0 segments ++ (ps ++ (n - a + b) ∷ [])) (marks_from-moved a b at (drop i old) behind)
+    ∙ ap (λ ps. marks_from 0 segments ++ ps) (sym (map-append (λ p. p - a + b) (marks_from at (drop i old)) (n ∷ [])) ∙ ap moved list)
+    ∙ ap (λ ps. marks_from 0 segments ++ (at - a + b) ∷ moved ps) (sym (above-stop old i at s m full lt is mark place))
+
+-- after a stop at the segment i, which begins at `at`
+unfoldable pub AreMarksOf-stop : (old : List SegmentView) (ops : List Operation) (kept all : List ℕ) (a b i at r : ℕ) (s : SegmentView)
+    → i < length old → s ≡ get_or old i s → (m : State) → s.mark ≡ Some m → length (trace_of (take i old)) ≡ at → a ≤ at
+    → AgreesAt (trace_of old) ops a b at → ((p : ℕ) → Contains (all_marks old) p → a ≤ p → AgreesAt (trace_of old) ops a b p → at ≤ p)
+    → AreLaid (all_marks old) kept r (at - a + b) all → AreMarksOf (trace_of old) ops kept (all_marks old) (all ++ from-stop old a b at) r a b at
+AreMarksOf-stop old ops kept all a b i at r s lt is m mark place behind agrees first laid =
+    let later : List ℕ = map (λ p. p - a + b) (filter (λ p. nat_lt at p) (all_marks old)) in
     record {
       fresh = laid.fresh;
       stop_is = record { mark = mark-there old i at s m lt is mark place; behind = behind; agrees = inl agrees; first = first };
       lead = laid.lead;
-      new_is = ap (λ l. marks_from 0 (segments ++ drop i old) ++ l ∷ []) last
-          ∙ ap (λ ps. ps ++ (n - a + b) ∷ []) (marks_from-append 0 segments (drop i old) ∙ ap (λ p. marks_from 0 segments ++ marks_from p (drop i old)) zero_front)
-          ∙ append_assoc (marks_from 0 segments) (marks_from (at - a + b) (drop i old)) ((n - a + b) ∷ [])
-          ∙ ap (λ ps. marks_from 0 segments ++ (ps ++ (n - a + b) ∷ [])) (marks_from-moved a b at (drop i old) behind)
-          ∙ ap (λ ps. marks_from 0 segments ++ ps) (sym (map-append (λ p. p - a + b) (marks_from at (drop i old)) (n ∷ [])) ∙ ap moved list)
-          ∙ sym (append_assoc (marks_from 0 segments) ((at - a + b) ∷ []) (moved later))
-          ∙ ap (λ ps. ps ++ moved later) laid.laid
-          ∙ append_assoc kept (r ∷ laid.fresh) (moved later)
-          ∙ ap (λ ps. kept ++ r ∷ (laid.fresh ++ moved ps)) (sym (above-stop old i at s m full lt is mark place));
+      new_is = sym (append_assoc all ((at - a + b) ∷ []) later) ∙ ap (λ ps. ps ++ later) laid.laid ∙ append_assoc kept (r ∷ laid.fresh) later;
     }
 
 -- segments with the operations and checkpoints of others, behind a front
@@ -135,10 +129,10 @@ all_marks-rest segments a b trace marks =
     ∙ ap (λ t. marks_from 0 (segments ++ b) ++ length t ∷ []) whole
 
 -- with no stop
-pub AreMarksOf-end : (old segments : List SegmentView) (ops : List Operation) (kept : List ℕ) (a b r : ℕ)
+unfoldable pub AreMarksOf-end : (old : List SegmentView) (ops : List Operation) (kept all : List ℕ) (a b r : ℕ)
     → ShareEnd (trace_of old) ops a b → ((p : ℕ) → Contains (all_marks old) p → a ≤ p → AgreesAt (trace_of old) ops a b p → length (trace_of old) ≤ p)
-    → trace_of segments ≡ ops → AreLaid (all_marks old) kept r (length ops) (marks_from 0 segments) → AreMarksOf (trace_of old) ops kept (all_marks old) (all_marks segments) r a b (length (trace_of old))
-AreMarksOf-end old segments ops kept a b r shared first trace laid =
+    → AreLaid (all_marks old) kept r (length ops) all → AreMarksOf (trace_of old) ops kept (all_marks old) (all ++ length ops ∷ []) r a b (length (trace_of old))
+AreMarksOf-end old ops kept all a b r shared first laid =
     let n : ℕ = length (trace_of old) in
     let moved : List ℕ → List ℕ = map (λ p. p - a + b) in
     let across = ShareEnd-length (trace_of old) ops a b shared in
@@ -147,15 +141,14 @@ AreMarksOf-end old segments ops kept a b r shared first trace laid =
       fresh = laid.fresh;
       stop_is = record { mark = end-mark old; behind = shared.old_within; agrees = inr refl; first = first };
       lead = subst (LeadTo (all_marks old) r laid.fresh) last laid.lead;
-      new_is = ap (λ l. marks_from 0 segments ++ l ∷ []) (ap length trace) ∙ laid.laid
-          ∙ ap (λ ps. kept ++ r ∷ ps) (sym (append-nil laid.fresh)) ∙ ap (λ ps. kept ++ r ∷ (laid.fresh ++ moved ps)) (sym (above-end old));
+      new_is = laid.laid ∙ ap (λ ps. kept ++ r ∷ ps) (sym (append-nil laid.fresh)) ∙ ap (λ ps. kept ++ r ∷ (laid.fresh ++ moved ps)) (sym (above-end old));
     }
 
 pub IsReached-length : (ops : List Operation) (at : ℕ) (segments : List SegmentView) (heap : State) → IsReached ops at segments heap → length (trace_of segments) ≡ at
 IsReached-length ops at segments heap h = let within = h.within in ap length h.trace ∙ omega (arith, length-take at ops)
 
 -- the checkpoints before the restart, where the segment i begins
-below-restart : (segments : List SegmentView) (i at : ℕ) → AreFull segments → length (trace_of (take i segments)) ≡ at → filter (λ p. nat_lt p at) (all_marks segments) ≡ marks_from 0 (take i segments)
+pub below-restart : (segments : List SegmentView) (i at : ℕ) → AreFull segments → length (trace_of (take i segments)) ≡ at → filter (λ p. nat_lt p at) (all_marks segments) ≡ marks_from 0 (take i segments)
 below-restart segments i at full stands =
     let n : ℕ = length (trace_of segments) in
     let test : ℕ → Bool = λ p. nat_lt p at in
@@ -172,22 +165,6 @@ below-restart segments i at full stands =
     (λ p k. let before : p < 0 + length (trace_of (take i segments)) = marks_from-below 0 (take i segments) p front k in let less : p < at = omega arith in lt-ltb p at less))
     ∙ ap (λ ps. marks_from 0 (take i segments) ++ ps) (none-pass test rest (λ p k. le-ltb p at (after-least at n (drop i segments) p fits k)))
     ∙ append-nil (marks_from 0 (take i segments))
-
-pub AreMarksAfter-restart : (segments front : List SegmentView) (end heap : State) (ops : List Operation) (new : List ℕ) (head tail i at stop to : ℕ)
-    → IsRun segments end → IsRestart segments head i at heap → front ≡ take i segments → AreShared (trace_of segments) ops head tail
-    → AreMarksOf (trace_of segments) ops (marks_from 0 front) (all_marks segments) new at (length (trace_of segments) - tail) (length ops - tail) stop
-    → to ≡ stop - (length (trace_of segments) - tail) + (length ops - tail)
-    → AreMarksAfter (record { trace = trace_of segments; marks = all_marks segments }) (record { trace = ops; marks = new }) at to
-AreMarksAfter-restart segments front end heap ops new head tail i at stop to run h is shared marks there = record {
-  head = head;
-  tail = tail;
-  stop = stop;
-  shared = shared;
-  restart = h.greatest;
-  marks = subst (λ kept. AreMarksOf (trace_of segments) ops kept (all_marks segments) new at (length (trace_of segments) - tail) (length ops - tail) stop)
-      (ap (marks_from 0) is ∙ sym (below-restart segments i at run.full h.place)) marks;
-  to_is = there;
-}
 
 abbrev pub first-mark : (at : ℕ) (c : List SegmentView) → BeginsMarked c → List ℕ
 first-mark at [] h = []

@@ -9,7 +9,7 @@ use Rattle.trace_types.specs.Operation.{Operation}
 use Rattle.run_engine.specs.SegmentView.{SegmentView}
 use Rattle.trace_types.specs.declared.outcomes.Outcome.{Outcome}
 use Rattle.ownership_model.specs.Step.{end_from, outcomes_from, AreUnused}
-use Rattle.run_engine.specs.Segments.{ops_of, trace_of, mark_here, marks_from, IsSegmentFrom, AreReplayFrom, AreFull, BeginsMarked, IsRun, IsReached, IsPiece}
+use Rattle.run_engine.specs.Segments.{ops_of, trace_of, mark_here, marks_from, bare_segment, IsSegmentFrom, AreReplayFrom, AreFull, BeginsMarked, IsRun, IsReached, IsPiece}
 use Rattle.trace_types.specs.Trace.{has_distinct_numbers}
 use Rattle.ownership_model.proofs.LawsHold.{appends, soundness}
 use Rattle.run_engine.proofs.ListingLemmas.{around, take-shorter}
@@ -199,3 +199,38 @@ IsPiece-one start end ops outcomes some out is =
       state = is ∙ ap (end_from start) (sym whole);
       marks = λ at. refl;
     }
+
+-- behind some operations a replay goes on by a segment with no checkpoint
+pub IsReached-bare : (ops next : List Operation) (at : ℕ) (segments : List SegmentView) (heap : State) → IsReached ops at segments heap → 0 < at → at + length next ≤ length ops → 0 < length next
+    → next ≡ slice_range ops at (at + length next) → IsReached ops (at + length next) (segments ++ bare_segment heap next ∷ []) (end_from heap next)
+IsReached-bare ops next at segments heap h pos within some is =
+    let cut : at + length next - at ≡ length next = omega arith in
+    let part : next ≡ take (length next) (drop at ops) = is ∙ ap (λ n. take n (drop at ops)) cut in
+    let here : heap ≡ end_from nothing_held (trace_of segments) = h.state ∙ ap (end_from nothing_held) (sym h.trace) in
+    let bare : SegmentView = bare_segment heap next in
+    let whole : take at ops ++ next ≡ take (at + length next) ops = ap (λ xs. take at ops ++ xs) part ∙ sym (take-add at (length next) ops) in
+    record {
+      within = within;
+      trace = trace_of-append segments (bare ∷ []) ∙ ap (λ xs. trace_of segments ++ xs) (append-nil next) ∙ ap (λ xs. xs ++ next) h.trace ∙ whole;
+      replay = AreReplayFrom-append nothing_held segments (bare ∷ []) h.replay (subst (λ m. AreReplayFrom m (bare ∷ [])) here (record { mark = tt; outcomes = refl }, tt));
+      full = AreFull-append segments (bare ∷ []) h.full (some, tt);
+      begins = begins segments (ap length h.trace ∙ omega (arith, length-take at ops)) h.begins;
+      state = ap (λ m. end_from m next) h.state ∙ sym (appends.end nothing_held (take at ops) next) ∙ ap (end_from nothing_held) whole;
+    }
+  where
+    begins : (ss : List SegmentView) → length (trace_of ss) ≡ at → BeginsMarked ss → BeginsMarked (ss ++ bare_segment heap next ∷ [])
+    begins [] e b = absurd (omega arith)
+    begins (s ∷ ss) e b = b
+
+-- it has the checkpoints of before
+pub marks_from-bare : (at : ℕ) (segments : List SegmentView) (heap : State) (next : List Operation) → marks_from at (segments ++ bare_segment heap next ∷ []) ≡ marks_from at segments
+marks_from-bare at segments heap next = marks_from-append at segments (bare_segment heap next ∷ []) ∙ append-nil (marks_from at segments)
+
+-- a piece has one more checkpoint, where it begins
+pub marks_from-piece : (ops rest : List Operation) (at len : ℕ) (segments more : List SegmentView) (heap end : State) → IsReached ops at segments heap → IsPiece heap rest more end len
+    → marks_from 0 (segments ++ more) ≡ marks_from 0 segments ++ at ∷ []
+marks_from-piece ops rest at len segments more heap end h piece =
+    let within = h.within in
+    let long : length (trace_of segments) ≡ at = ap length h.trace ∙ omega (arith, length-take at ops) in
+    let place : 0 + length (trace_of segments) ≡ at = omega arith in
+    marks_from-append 0 segments more ∙ ap (λ ps. marks_from 0 segments ++ ps) (piece.marks (0 + length (trace_of segments)) ∙ ap (λ p. p ∷ []) place)

@@ -13,6 +13,7 @@ pub mod NewMarks
 pub mod Memo
 pub mod Steps
 pub mod GivenUp
+pub mod Onward
 pub mod Cleared
 pub mod Loaded
 pub mod Revision

@@ -88,6 +88,10 @@ pub record IsPiece (start : State) (ops : List Operation) (segments : List Segme
   pub state : end ≡ end_from start (take len ops)
   pub marks : (at : ℕ) → marks_from at segments ≡ at ∷ []
 
+-- operations that go on from a state, with no checkpoint where they begin
+abbrev pub bare_segment : State → List Operation → SegmentView
+bare_segment start ops = record { mark = None; ops = ops; outcomes = outcomes_from start ops }
+
 -- the positions of all checkpoints: the end is one
 abbrev pub all_marks : List SegmentView → List ℕ
 all_marks segments = marks_from 0 segments ++ length (trace_of segments) ∷ []

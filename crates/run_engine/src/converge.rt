@@ -1,20 +1,25 @@
 //! A replay beside an old one, as far as the two come together.
 ghost use Rattle.std.specs.Prelude.{◌≡◌, ℕ, List, ◌++◌, ◌+◌, ◌<◌, ◌≤◌, IfOk, length, slice_range};
+ghost use Rattle.std.specs.Ordering.{nat_cmp};
+ghost use Rattle.std.specs.BTreeSet.{contains};
 ghost use Rattle.trace_types.specs.Trace.{IsTrace};
 ghost use Rattle.op_step.specs.Chunk.{Chunk};
 ghost use Rattle.run_engine.specs.Segments.{trace_of, marks_from, all_marks, IsRun, IsReached, IsPiece};
 ghost use Rattle.run_engine.specs.Revision.{IsRevision};
 ghost use Rattle.run_engine.specs.HeadAndTail.{ShareEnd};
 ghost use Rattle.run_engine.specs.Bounds.{StepsAtMost};
-ghost use Rattle.run_engine.specs.NewMarks.{AreLaid, AreMarksOf, IsGap};
+ghost use Rattle.run_engine.specs.NewMarks.{IsGap};
+ghost use Rattle.run_engine.specs.Onward.{IsOnward, AreMarksLeft};
 ghost use Rattle.run_engine.specs.Memo.{IsSearched, AreSome};
 ghost use Rattle.run_engine.specs.Steps.{AreTaken, HaveStepped, AreStepped};
 
+use crate::ahead::go_ahead;
 use crate::piece::{Piece, STRIDE, found, joined, stepped};
 use crate::rejoin::rejoined;
 use crate::revision::Revision;
 use crate::segment::{Segment, append};
 use crate::stretch::old_stretch;
+use crate::touching::touch_at;
 use mark_shelf::MarkShelf;
 use object_heap::heap::Heap;
 use op_step::meter::Meter;
@@ -27,50 +32,80 @@ pub struct Seam {
     pub new: usize,
 }
 
-// How far a replay is to go on, and whether old stretches may serve on the way.
+// How far a replay is to go on, and from where on no old stretch can serve.
 #[derive(Clone, Copy)]
 struct Leg {
     to: usize,
-    may_serve: bool,
+    open: usize,
 }
 
-// What a replay goes on with: a chunk that the shelf has of the operations up to the next cut, an old stretch, if one may serve, or
-// else those operations, which are stepped.
+// What a replay goes on with: a chunk that the shelf has of the operations up to the next cut, an old stretch, or else those
+// operations, which are stepped.
 fn next_piece(
     alloc: Global,
     revision: &Revision,
     front: &Piece,
-    leg: Leg,
+    to: usize,
     shelf: &mut MarkShelf,
     meter: &mut Meter,
 ) -> Result<Piece, AllocError>
     requires revision { IsRevision revision.now }
-    requires some { front.now.len < leg.to }
-    requires within { leg.to ≤ length revision.now.ops.now.ops }
+    requires some { front.now.len < to }
+    requires within { to ≤ length revision.now.ops.now.ops }
     requires front { IsReached revision.now.ops.now.ops front.now.len front.now.segments.items front.now.end }
     requires trace { IsTrace revision.now.ops.now.ops }
-    ensures piece { IfOk result (λ p. IsPiece front.now.end (slice_range revision.now.ops.now.ops front.now.len leg.to) p.segments.items p.end p.len) }
+    ensures piece { IfOk result (λ p. IsPiece front.now.end (slice_range revision.now.ops.now.ops front.now.len to) p.segments.items p.end p.len) }
     ensures gap { IfOk result (λ p. IsGap (all_marks revision.now.segments.now) p.len) }
     ensures steps { IfOk result (λ p. meter.new ≤ meter.old + p.len) }
-    ensures taken { IfOk result (λ p. AreTaken (trace_of revision.now.segments.now) (all_marks revision.now.segments.now) shelf.old.chunks front.now.end (slice_range revision.now.ops.now.ops front.now.len leg.to) p.len meter.old meter.new) }
+    ensures taken { IfOk result (λ p. AreTaken (trace_of revision.now.segments.now) (all_marks revision.now.segments.now) shelf.old.chunks front.now.end (slice_range revision.now.ops.now.ops front.now.len to) p.len meter.old meter.new) }
     ensures searched { IsSearched shelf.old shelf.new }
     ensures never_less { meter.old ≤ meter.new }
-    ensures rise { meter.new + front.now.len ≤ meter.old + leg.to }
+    ensures rise { meter.new + front.now.len ≤ meter.old + to }
 {
-    let len = (leg.to - front.len).min(STRIDE);
+    let len = (to - front.len).min(STRIDE);
     let next = revision.ops.copies(alloc, front.len, front.len + len)?;
     let known = found(alloc, &front.end, &next, shelf)?;
     if let Some(piece) = known {
         return Ok(piece);
     }
-    if leg.may_serve {
-        let stretch = old_stretch(alloc, revision, &front.end, front.len, leg.to)?;
-        if let Some(piece) = stretch {
-            return Ok(piece);
-        }
+    let stretch = old_stretch(alloc, revision, &front.end, front.len, to)?;
+    if let Some(piece) = stretch {
+        return Ok(piece);
     }
     let piece = stepped(alloc, &front.end, next, meter)?;
     Ok(piece)
+}
+
+// Goes on with the replay where old stretches may serve, each piece behind a touch of the name of its checkpoint.
+fn serve(
+    alloc: Global,
+    revision: &Revision,
+    front: Piece,
+    leg: Leg,
+    shelf: &mut MarkShelf,
+    meter: &mut Meter,
+) -> Result<Piece, AllocError>
+    requires revision { IsRevision revision.now }
+    requires front { IsReached revision.now.ops.now.ops front.len front.segments.items front.end }
+    requires order { front.len ≤ leg.to }
+    requires within { leg.to ≤ length revision.now.ops.now.ops }
+    requires trace { IsTrace revision.now.ops.now.ops }
+    ensures front { IfOk result (λ f. IsReached revision.now.ops.now.ops f.len f.segments.items f.end) }
+    ensures order { IfOk result (λ f. f.len ≤ leg.to) }
+    ensures fewer { IfOk result (λ _. AreSome shelf.new.chunks shelf.old.chunks) }
+    ensures never_less { meter.old ≤ meter.new }
+    ensures rise { meter.new + front.len ≤ meter.old + leg.to }
+    ensures steps { IfOk result (λ f. meter.new + front.len ≤ meter.old + f.len) }
+    ensures stepped { (r before : ℕ) (chunks : List (ℕ × Chunk)) → HaveStepped (trace_of revision.now.segments.now) revision.now.ops.now.ops (all_marks revision.now.segments.now) chunks r front.len before meter.old → AreSome shelf.old.chunks chunks → IfOk result (λ f. HaveStepped (trace_of revision.now.segments.now) revision.now.ops.now.ops (all_marks revision.now.segments.now) chunks r f.len before meter.new) }
+    ensures onward { IfOk result (λ f. IsOnward revision.now.ops.now.ops (all_marks revision.now.segments.now) front.len f.len (marks_from 0 front.segments.items) (marks_from 0 f.segments.items) shelf.old shelf.new (contains nat_cmp front.gone) (contains nat_cmp f.gone)) }
+{
+    let mut front = front;
+    while front.len < leg.open.min(leg.to) {
+        touch_at(revision.ops, front.len, shelf, &mut front.gone)?;
+        let piece = next_piece(alloc, revision, &front, leg.to, shelf, meter)?;
+        front = joined(front, piece)?;
+    }
+    Ok(front)
 }
 
 // Goes on with the replay to the end of the leg.
@@ -89,17 +124,14 @@ fn advance(
     requires trace { IsTrace revision.now.ops.now.ops }
     ensures front { IfOk result (λ f. IsReached revision.now.ops.now.ops f.len f.segments.items f.end) }
     ensures there { IfOk result (λ f. f.len ≡ leg.to) }
-    ensures searched { IsSearched shelf.old shelf.new }
+    ensures fewer { IfOk result (λ _. AreSome shelf.new.chunks shelf.old.chunks) }
     ensures never_less { meter.old ≤ meter.new }
     ensures rise { meter.new + front.len ≤ meter.old + leg.to }
     ensures stepped { (r before : ℕ) (chunks : List (ℕ × Chunk)) → HaveStepped (trace_of revision.now.segments.now) revision.now.ops.now.ops (all_marks revision.now.segments.now) chunks r front.len before meter.old → AreSome shelf.old.chunks chunks → IfOk result (λ f. HaveStepped (trace_of revision.now.segments.now) revision.now.ops.now.ops (all_marks revision.now.segments.now) chunks r f.len before meter.new) }
-    ensures marks { (kept : List ℕ) (r : ℕ) → AreLaid (all_marks revision.now.segments.now) kept r front.len (marks_from 0 front.segments.items) → IfOk result (λ f. AreLaid (all_marks revision.now.segments.now) kept r f.len (marks_from 0 f.segments.items)) }
+    ensures onward { IfOk result (λ f. IsOnward revision.now.ops.now.ops (all_marks revision.now.segments.now) front.len f.len (marks_from 0 front.segments.items) (marks_from 0 f.segments.items) shelf.old shelf.new (contains nat_cmp front.gone) (contains nat_cmp f.gone)) }
 {
-    let mut front = front;
-    while front.len < leg.to {
-        let piece = next_piece(alloc, revision, &front, leg, shelf, meter)?;
-        front = joined(front, piece)?;
-    }
+    let front = serve(alloc, revision, front, leg, shelf, meter)?;
+    let front = go_ahead(alloc, revision.ops, front, leg.to, shelf, meter)?;
     Ok(front)
 }
 
@@ -107,6 +139,7 @@ fn advance(
 fn spliced(front: Piece, rest: Vec<Segment>, end: Heap, len: usize) -> Result<Piece, AllocError>
     ensures segments { IfOk result (λ p. p.segments.items ≡ front.segments.items ++ rest.items) }
     ensures end { IfOk result (λ p. p.end ≡ end) }
+    ensures gone { IfOk result (λ p. p.gone ≡ front.gone) }
 {
     let mut segments = front.segments;
     append(&mut segments, rest)?;
@@ -115,11 +148,11 @@ fn spliced(front: Piece, rest: Vec<Segment>, end: Heap, len: usize) -> Result<Pi
         end,
         len,
         fresh: front.fresh,
+        gone: front.gone,
     })
 }
 
-/// Goes on with the replay to its end, or to the first old checkpoint at or behind the seam where the heaps agree. The
-/// number is where that checkpoint stands in the old trace, or the old trace ends.
+/// Goes on with the replay to its end, or to the first old checkpoint at or behind the seam where the heaps agree.
 ///
 /// From there on each operation has its old neighbours, so that behind a checkpoint with another heap no old stretch serves.
 pub fn converge(
@@ -129,49 +162,47 @@ pub fn converge(
     seam: Seam,
     shelf: &mut MarkShelf,
     meter: &mut Meter,
-) -> Result<(Piece, usize), AllocError>
+) -> Result<Piece, AllocError>
     requires revision { IsRevision revision.now }
     requires old_trace { IsTrace (trace_of revision.now.segments.now) }
     requires front { IsReached revision.now.ops.now.ops front.len front.segments.items front.end }
     requires shared { ShareEnd (trace_of revision.now.segments.now) revision.now.ops.now.ops seam.old seam.new }
     requires order { front.len ≤ seam.new }
     requires trace { IsTrace revision.now.ops.now.ops }
-    ensures run { IfOk result (λ r. IsRun r.0.segments.items r.0.end) }
-    ensures trace { IfOk result (λ r. trace_of r.0.segments.items ≡ revision.now.ops.now.ops) }
-    ensures marks { IfOk result (λ r. AreMarksOf (trace_of revision.now.segments.now) revision.now.ops.now.ops (marks_from 0 front.segments.items) (all_marks revision.now.segments.now) (all_marks r.0.segments.items) front.len seam.old seam.new r.1) }
+    ensures run { IfOk result (λ r. IsRun r.segments.items r.end) }
+    ensures trace { IfOk result (λ r. trace_of r.segments.items ≡ revision.now.ops.now.ops) }
+    ensures marks { IfOk result (λ r. AreMarksLeft (trace_of revision.now.segments.now) revision.now.ops.now.ops (marks_from 0 front.segments.items) (all_marks revision.now.segments.now) (all_marks r.segments.items) front.len seam.old seam.new shelf.old shelf.new (contains nat_cmp front.gone) (contains nat_cmp r.gone)) }
     ensures bound { StepsAtMost (trace_of revision.now.segments.now) revision.now.ops.now.ops seam.old seam.new (all_marks revision.now.segments.now) front.len meter.old meter.new }
     ensures stepped { IfOk result (λ _. AreStepped (trace_of revision.now.segments.now) revision.now.ops.now.ops seam.old seam.new (all_marks revision.now.segments.now) shelf.old.chunks front.len meter.old meter.new) }
-    ensures searched { IsSearched shelf.old shelf.new }
     ensures never_less { meter.old ≤ meter.new }
 {
     let old = revision.segments;
     let mut front = front;
     let (first, mut at) = revision.last_from(seam.old);
     let mut seen = None;
-    let mut apart = false;
     for i in first..old.len() {
         let segment = &old[i];
         if at >= seam.old {
             if let Some(mark) = segment.mark() {
                 let leg = Leg {
                     to: at - seam.old + seam.new,
-                    may_serve: !apart,
+                    open: seam.new,
                 };
                 front = advance(alloc, revision, front, leg, shelf, meter)?;
                 let found = rejoined(alloc, &front.end, mark, &old[i..], revision.end, &mut seen)?;
                 if let Some((rest, end)) = found {
+                    touch_at(revision.ops, front.len, shelf, &mut front.gone)?;
                     let len = revision.ops.len();
-                    return Ok((spliced(front, rest, end, len)?, at));
+                    return Ok(spliced(front, rest, end, len)?);
                 }
-                apart = true;
             }
         }
         at += segment.ops().len();
     }
     let leg = Leg {
         to: revision.ops.len(),
-        may_serve: !apart,
+        open: seam.new,
     };
     front = advance(alloc, revision, front, leg, shelf, meter)?;
-    Ok((front, at))
+    Ok(front)
 }

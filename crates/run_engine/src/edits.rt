@@ -1,7 +1,7 @@
 //! The trace after a batch of edits.
 ghost use Rattle.std.specs.Prelude.{◌≡◌, ◌<◌, ◌≤◌, ◌++◌, length, ◌⊎◌, IfOk, OnOk, IfErr, IfSome, Some, Ok, Err, false, slice_set};
 ghost use Rattle.trace_types.specs.Trace.{IsTrace, place_of, is_taken};
-ghost use Rattle.run_engine.specs.declared.faults.RunFault.TheVariants.{EmptyBatch, TooManyEdits, Memory};
+ghost use Rattle.run_engine.specs.declared.faults.RunFault.TheVariants.{EmptyBatch, TooManyEdits};
 ghost use Rattle.run_engine.specs.Edited.{place_after, inserted, removed, changed, edited_one, edited_by, IsFaultOf};
 
 use crate::faults::RunFault;

@@ -1,6 +1,7 @@
 //! A run: a trace that was replayed, its outcomes and its checkpoints, and what stays of it when the trace is edited.
 #![tactic(auto)]
 
+mod ahead;
 mod contents;
 mod converge;
 pub mod edits;

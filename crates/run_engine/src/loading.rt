@@ -8,13 +8,13 @@ ghost use Rattle.run_engine.specs.RunView.{RunView};
 ghost use Rattle.run_engine.specs.GivenUp.{given_up, name_at, names_at, IsTouched};
 ghost use Rattle.run_engine.specs.Loaded.{is_gone, kept_below, loaded_view};
 
-use crate::piece::{Piece, STRIDE, joined, replayed};
-use crate::seek::clear_mark;
+use crate::piece::{Piece, STRIDE, joined, replayed, replayed_on};
 use mark_shelf::MarkShelf;
 use object_heap::heap::Heap;
 use op_step::chunk_run::copy_ops;
 use op_step::meter::Meter;
 use std::alloc::{AllocError, Global};
+use std::collections::BTreeSet;
 use trace_types::ops::Op;
 use trace_types::trace::Trace;
 
@@ -37,16 +37,17 @@ pub fn loaded(
         end: Heap::empty(),
         len: 0,
         fresh: Vec::new(alloc),
+        gone: BTreeSet::new(alloc),
     };
     while front.len < ops.len() {
         let at = front.len;
-        let i = front.segments.as_slice().len();
         let to = at + (ops.len() - at).min(STRIDE);
         let copies = copy_ops(alloc, &ops[at..to])?;
-        let piece = replayed(alloc, &front.end, copies, meter)?;
-        front = joined(front, piece)?;
         if is_gone(gone, at) {
-            clear_mark(&mut front.segments, i);
+            front = replayed_on(alloc, front, copies, meter)?;
+        } else {
+            let piece = replayed(alloc, &front.end, copies, meter)?;
+            front = joined(front, piece)?;
         }
     }
     Ok(front)

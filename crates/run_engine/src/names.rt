@@ -1,42 +1,14 @@
 //! The names of checkpoints: each is the number of the operation before it.
-ghost use Rattle.std.specs.Prelude.{◌≡◌, ◌==◌, ◌≤◌, ◌++◌, ◌&&◌, ℕ, None, IfOk, OnOk, length, nat_le, option_to_list};
-ghost use Rattle.std.specs.List.{list_any};
+ghost use Rattle.std.specs.Prelude.{◌≡◌, ◌++◌, ℕ, List, None, OnOk, true, option_to_list};
 ghost use Rattle.std.specs.Ordering.{nat_cmp};
 ghost use Rattle.std.specs.BTreeSet.{contains};
-ghost use Rattle.run_engine.specs.Segments.{trace_of, all_marks, AreFull};
-ghost use Rattle.run_engine.specs.GivenUp.{names_at, between};
+ghost use Rattle.run_engine.specs.Onward.{AreNames};
 ghost use Rattle.run_engine.specs.Cleared.{is_named, cleared_if, last_name, cleared};
 
 use crate::segment::Segment;
-use std::alloc::{AllocError, Global};
+use std::alloc::AllocError;
 use std::collections::BTreeSet;
-use trace_types::limits::MAX_OPS;
 use trace_types::ops::Op;
-
-/// The names of the inner checkpoints from one position to another.
-pub fn names_between(
-    alloc: Global,
-    segments: &[Segment],
-    from: usize,
-    to: usize,
-) -> Result<Vec<u32>, AllocError>
-    requires full { AreFull segments.now }
-    requires few { length (trace_of segments.now) ≤ MAX_OPS }
-    ensures { IfOk result (λ v. v.items ≡ names_at (trace_of segments.now) (between from to (all_marks segments.now))) }
-{
-    let mut names = Vec::new(alloc);
-    let mut at = 0;
-    let mut before = None;
-    for segment in segments {
-        if is_due(segment.is_marked(), from, at, to) {
-            push_name(&mut names, before)?;
-        }
-        let ops = segment.ops();
-        at += ops.len();
-        before = last_id(ops);
-    }
-    Ok(names)
-}
 
 // The number of the last operation.
 fn last_id(ops: &[Op]) -> Option<u32>
@@ -46,32 +18,15 @@ fn last_id(ops: &[Op]) -> Option<u32>
     Some(op.id())
 }
 
-// Whether a checkpoint stands between two positions.
-fn is_due(is_marked: bool, from: usize, at: usize, to: usize) -> bool
-    ensures { result ≡ (is_marked && (nat_le from at && nat_le at to)) }
-{
-    is_marked && from <= at && at <= to
-}
-
-/// Adds a name, if there is one.
-pub fn push_name(names: &mut Vec<u32>, name: Option<u32>) -> Result<(), AllocError>
-    ensures { OnOk result (names.new.items ≡ names.old.items ++ option_to_list name) }
+/// Adds a name to a set, if there is one.
+pub fn add_name(names: &mut BTreeSet<u32>, name: Option<u32>) -> Result<(), AllocError>
+    ensures names { (first : List ℕ) → AreNames (contains nat_cmp names.old) first → OnOk result (AreNames (contains nat_cmp names.new) (first ++ option_to_list name)) }
+    ensures rise { (id : ℕ) → contains nat_cmp names.old id ≡ true → contains nat_cmp names.new id ≡ true }
 {
     if let Some(id) = name {
-        names.push(id)?;
+        names.insert(id)?;
     }
     Ok(())
-}
-
-/// A set of names.
-pub fn set_of(alloc: Global, names: &[u32]) -> Result<BTreeSet<u32>, AllocError>
-    ensures { IfOk result (λ s. (id : ℕ) → contains nat_cmp s id ≡ list_any (λ name. id == name) names.now) }
-{
-    let mut set = BTreeSet::new(alloc);
-    for name in names {
-        set.insert(*name)?;
-    }
-    Ok(set)
 }
 
 /// Gives up the checkpoints whose names are in the set, in one pass.
@@ -85,8 +40,8 @@ pub fn clear_named(segments: &mut Vec<Segment>, names: &BTreeSet<u32>)
     }
 }
 
-// Whether there is a name, and it is in the set.
-fn is_among(name: Option<u32>, names: &BTreeSet<u32>) -> bool
+/// Whether there is a name, and it is in the set.
+pub fn is_among(name: Option<u32>, names: &BTreeSet<u32>) -> bool
     ensures { result ≡ is_named (contains nat_cmp names.now) name }
 {
     match name {

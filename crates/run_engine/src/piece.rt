@@ -1,9 +1,9 @@
 //! Pieces of a replay.
-ghost use Rattle.std.specs.Prelude.{◌≡◌, ◌++◌, ◌+◌, ◌^◌, ◌<◌, ◌≤◌, IfOk, IfSome, IsTrue, length};
+ghost use Rattle.std.specs.Prelude.{◌≡◌, ◌++◌, ◌+◌, ◌^◌, ◌<◌, ◌≤◌, ◌∷◌, [], IfOk, OnOk, IfSome, IsTrue, length};
 ghost use Rattle.trace_types.specs.Trace.{has_distinct_numbers};
-ghost use Rattle.ownership_model.specs.Step.{AreUnused};
+ghost use Rattle.ownership_model.specs.Step.{end_from, AreUnused};
 ghost use Rattle.op_step.specs.Meter.{raised};
-ghost use Rattle.run_engine.specs.Segments.{IsPiece};
+ghost use Rattle.run_engine.specs.Segments.{bare_segment, IsPiece};
 ghost use Rattle.run_engine.specs.Memo.{IsAmong, IsSearched};
 
 use crate::segment::{Segment, append};
@@ -12,19 +12,24 @@ use mark_shelf::laws::finds_what_was_there;
 use object_heap::heap::Heap;
 use op_step::chunk_run::{ChunkRun, run_of};
 use op_step::meter::Meter;
+use op_step::replay::replay_from;
+use op_step::see_kept;
 use std::alloc::{AllocError, Global};
+use std::collections::BTreeSet;
 use trace_types::ops::Op;
 
 /// How many operations stand between neighbouring checkpoints where they are stepped.
 pub const STRIDE: usize = 64;
 
-/// A piece of a replay: its segments, the heap after them, how many operations they have, and the chunks that were stepped for it.
+/// A piece of a replay: its segments, the heap after them, how many operations they have, the chunks that were stepped for it, and the
+/// names of checkpoints that the shelf answered before it.
 #[derive(Drop)]
 pub struct Piece {
     pub segments: Vec<Segment>,
     pub end: Heap,
     pub len: usize,
     pub fresh: Vec<ChunkRun>,
+    pub gone: BTreeSet<u32>,
 }
 
 impl Piece {
@@ -41,16 +46,18 @@ impl Piece {
             end: chunk.end().share()?,
             len: chunk.ops().len(),
             fresh: Vec::new(alloc),
+            gone: BTreeSet::new(alloc),
         })
     }
 }
 
-/// A piece and the next behind it.
+/// A piece and the next behind it, with the names that were answered before the first.
 pub fn joined(front: Piece, next: Piece) -> Result<Piece, AllocError>
     requires { front.len + next.len < 2 ^ 64 }
     ensures segments { IfOk result (λ p. p.segments.items ≡ front.segments.items ++ next.segments.items) }
     ensures end { IfOk result (λ p. p.end ≡ next.end) }
     ensures len { IfOk result (λ p. p.len ≡ front.len + next.len) }
+    ensures gone { IfOk result (λ p. p.gone ≡ front.gone) }
 {
     let mut segments = front.segments;
     append(&mut segments, next.segments)?;
@@ -63,6 +70,7 @@ pub fn joined(front: Piece, next: Piece) -> Result<Piece, AllocError>
         end: next.end,
         len: front.len + next.len,
         fresh,
+        gone: front.gone,
     })
 }
 
@@ -128,4 +136,37 @@ pub fn found(
     };
     let piece = Piece::of(alloc, &chunk)?;
     Ok(Some(piece))
+}
+
+/// Goes on behind a front by operations, all of which are stepped in place: they have no checkpoint where they begin, and the chunk is
+/// gone.
+pub fn replayed_on(
+    alloc: Global,
+    front: Piece,
+    ops: Vec<Op>,
+    meter: &mut Meter,
+) -> Result<Piece, AllocError>
+    requires fits { front.len + length ops.items < 2 ^ 64 }
+    requires distinct { IsTrue (has_distinct_numbers ops.items) }
+    requires unused { AreUnused front.end ops.items }
+    ensures segments { IfOk result (λ p. p.segments.items ≡ front.segments.items ++ bare_segment front.end ops.items ∷ []) }
+    ensures end { IfOk result (λ p. p.end ≡ end_from front.end ops.items) }
+    ensures len { IfOk result (λ p. p.len ≡ front.len + length ops.items) }
+    ensures gone { IfOk result (λ p. p.gone ≡ front.gone) }
+    ensures count { OnOk result (meter.new ≡ raised meter.old (length ops.items)) }
+    ensures never_less { meter.old ≤ meter.new }
+    ensures rise { meter.new ≤ meter.old + length ops.items }
+{
+    let len = front.len + ops.len();
+    see_kept(&front.end);
+    let (outcomes, end) = replay_from(alloc, front.end, &ops, meter)?;
+    let mut segments = front.segments;
+    segments.push(Segment::bare(alloc, ops, outcomes)?)?;
+    Ok(Piece {
+        segments,
+        end,
+        len,
+        fresh: front.fresh,
+        gone: front.gone,
+    })
 }

@@ -1,11 +1,12 @@
 //! Where the replay of an edited trace begins again.
-ghost use Rattle.std.specs.Prelude.{◌≡◌, ◌≤◌, IfOk, length, take};
+ghost use Rattle.std.specs.Prelude.{◌≡◌, ◌≤◌, [], IfOk, length, take};
+ghost use Rattle.std.specs.Ordering.{nat_cmp};
+ghost use Rattle.std.specs.BTreeSet.{contains};
 ghost use Rattle.trace_types.specs.Trace.{IsTrace};
 ghost use Rattle.run_engine.specs.Segments.{trace_of, all_marks, IsRun, IsRestart};
 ghost use Rattle.run_engine.specs.Revision.{IsRevision};
 ghost use Rattle.run_engine.specs.Bounds.{StepsAtMostFrom};
-ghost use Rattle.run_engine.specs.NewMarks.{AreMarksAfter};
-ghost use Rattle.run_engine.specs.Memo.{IsSearched};
+ghost use Rattle.run_engine.specs.Onward.{AreNames, AreMarksDue};
 ghost use Rattle.run_engine.specs.Steps.{AreSteppedFrom};
 
 use crate::converge::{Seam, converge};
@@ -19,6 +20,7 @@ use mark_shelf::MarkShelf;
 use object_heap::heap::Heap;
 use op_step::meter::Meter;
 use std::alloc::{AllocError, Global};
+use std::collections::BTreeSet;
 
 // Where a replay begins again: a segment's index, its position, and the heap there.
 #[derive(Clone, Copy)]
@@ -69,6 +71,7 @@ fn front(alloc: Global, revision: &Revision, head: usize) -> Result<Piece, Alloc
     requires { IsRevision revision.now }
     ensures kept { IfOk result (λ f. IsRestart revision.now.segments.now head (length f.segments.items) f.len f.end) }
     ensures segments { IfOk result (λ f. f.segments.items ≡ take (length f.segments.items) revision.now.segments.now) }
+    ensures gone { IfOk result (λ f. AreNames (contains nat_cmp f.gone) []) }
 {
     let end = Checkpoint::of(revision.end.share()?);
     let best = greatest_mark(revision, &end, head);
@@ -78,15 +81,8 @@ fn front(alloc: Global, revision: &Revision, head: usize) -> Result<Piece, Alloc
         end: best.heap.heap(alloc)?,
         len: best.at,
         fresh: Vec::new(alloc),
+        gone: BTreeSet::new(alloc),
     })
-}
-
-/// The replay of an edited trace, and the positions between which it was replayed: the restart, and where the stop stands in it.
-#[derive(Drop)]
-pub struct Redone {
-    pub replay: Piece,
-    pub from: usize,
-    pub to: usize,
 }
 
 /// The replay of an edited trace beside that of the old one, the base.
@@ -97,17 +93,16 @@ pub fn resumed(
     ops: &Listing,
     shelf: &mut MarkShelf,
     meter: &mut Meter,
-) -> Result<Redone, AllocError>
+) -> Result<Piece, AllocError>
     requires run { IsRun segments.now end.now }
     requires base { ops.now.base ≡ trace_of segments.now }
     requires base_trace { IsTrace ops.now.base }
     requires trace { IsTrace ops.now.ops }
-    ensures run { IfOk result (λ r. IsRun r.replay.segments.items r.replay.end) }
-    ensures trace { IfOk result (λ r. trace_of r.replay.segments.items ≡ ops.now.ops) }
-    ensures marks { IfOk result (λ r. AreMarksAfter (record { trace = ops.now.base; marks = all_marks segments.now }) (record { trace = ops.now.ops; marks = all_marks r.replay.segments.items }) r.from r.to) }
+    ensures run { IfOk result (λ r. IsRun r.segments.items r.end) }
+    ensures trace { IfOk result (λ r. trace_of r.segments.items ≡ ops.now.ops) }
+    ensures marks { IfOk result (λ r. AreMarksDue (record { trace = ops.now.base; marks = all_marks segments.now }) (record { trace = ops.now.ops; marks = all_marks r.segments.items }) shelf.old shelf.new (contains nat_cmp r.gone)) }
     ensures bound { StepsAtMostFrom ops.now.base ops.now.ops (all_marks segments.now) meter.old meter.new }
     ensures stepped { IfOk result (λ _. AreSteppedFrom ops.now.base ops.now.ops (all_marks segments.now) shelf.old.chunks meter.old meter.new) }
-    ensures searched { IsSearched shelf.old shelf.new }
     ensures never_less { meter.old ≤ meter.new }
 {
     let first = head(ops);
@@ -118,11 +113,6 @@ pub fn resumed(
         old: ops.base_len() - last,
         new: ops.len() - last,
     };
-    let from = front.len;
-    let (replay, stop) = converge(alloc, &revision, front, seam, shelf, meter)?;
-    Ok(Redone {
-        replay,
-        from,
-        to: stop - seam.old + seam.new,
-    })
+    let replay = converge(alloc, &revision, front, seam, shelf, meter)?;
+    Ok(replay)
 }

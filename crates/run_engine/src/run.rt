@@ -1,6 +1,8 @@
 //! A run of a trace.
-ghost use Rattle.std.specs.Prelude.{◌≡◌, ◌+◌, ◌<◌, ◌≤◌, OnOk, List, Contains, length, slice_get, take, fold, IfOk, IfErr, IsTrue, IsErr, ◌↔◌, if◌then◌else◌, Ok, Err};
+ghost use Rattle.std.specs.Prelude.{◌≡◌, ℕ, ◌+◌, ◌<◌, ◌≤◌, OnOk, List, Contains, length, slice_get, fold, IfOk, IfErr, IsTrue, IsErr, ◌↔◌, if◌then◌else◌, Ok, Err};
 ghost use Rattle.std.specs.Option.{option_copied};
+ghost use Rattle.std.specs.Ordering.{nat_cmp};
+ghost use Rattle.std.specs.BTreeSet.{contains};
 ghost use Rattle.trace_types.specs.Operation.{Operation};
 ghost use Rattle.trace_types.specs.Stretches.{ops_of, outcomes_of};
 ghost use Rattle.trace_types.specs.Trace.{IsTrace};
@@ -12,10 +14,9 @@ ghost use Rattle.run_engine.specs.Edited.{edited_by, IsFaultOf};
 ghost use Rattle.run_engine.specs.Segments.{without, IsInner};
 ghost use Rattle.run_engine.specs.Marks.{load_marks};
 ghost use Rattle.run_engine.specs.Bounds.{StepsAtMostFrom};
-ghost use Rattle.run_engine.specs.NewMarks.{AreMarksAfter};
-ghost use Rattle.run_engine.specs.GivenUp.{given_up, names_at, between, IsTouched, AreMarksKept};
+ghost use Rattle.run_engine.specs.Onward.{AreNames, AreMarksDue};
+ghost use Rattle.run_engine.specs.GivenUp.{given_up, names_at, IsTouched, AreMarksKept};
 ghost use Rattle.run_engine.specs.RunView.{RunView};
-ghost use Rattle.run_engine.specs.Memo.{IsSearched};
 ghost use Rattle.run_engine.specs.Steps.{AreRising, AreSteppedFrom};
 
 use crate::contents::{len_in, marks_in, ops_in, outcomes_in, stretches_in};
@@ -23,16 +24,17 @@ use crate::edits::{copied, edited, try_size};
 use crate::faults::RunFault;
 use crate::listing::Listing;
 use crate::loading::{given_up_in, loaded};
-use crate::names::{clear_named, names_between, set_of};
-use crate::restart::{Redone, resumed};
+use crate::names::clear_named;
+use crate::restart::resumed;
 use crate::seek::{clear_mark, op_at, outcome_at, segment_at};
 use crate::segment::Segment;
-use crate::touching::{remember_all, touch_between};
+use crate::touching::remember_all;
 use mark_shelf::MarkShelf;
 use object_heap::heap::Heap;
 use op_step::chunk_run::ChunkRun;
 use op_step::meter::Meter;
 use std::alloc::{AllocError, Global};
+use std::collections::BTreeSet;
 use std::marker::Model;
 use trace_types::edits::Batch;
 use trace_types::limits::{MAX_EDITS, MAX_OPS};
@@ -53,12 +55,11 @@ pub struct Run {
     end: Heap,
 }
 
-// The run of an edited trace, the positions between which it was replayed, and the chunks that were stepped.
+// The run of an edited trace, the names of checkpoints that were answered on the way, and the chunks that were stepped.
 #[derive(Drop)]
 struct Edited {
     run: Run,
-    from: usize,
-    to: usize,
+    gone: BTreeSet<u32>,
     fresh: Vec<ChunkRun>,
 }
 
@@ -122,9 +123,9 @@ impl Run {
     /// there on the old outcomes stay, and what can't be reached is exchanged in the checkpoints and the end. The meter rises
     /// by the operations stepped, and where memory runs out by at most those up to the stop.
     ///
-    /// In the end the shelf remembers each chunk that was stepped, and is touched with the names of the inner checkpoints from the
-    /// restart to the stop: each checkpoint is given up whose name it answers. A refusal of the edits leaves the shelf as it was. Where
-    /// memory runs out, the shelf may have been touched.
+    /// The shelf is touched with the names of the inner checkpoints from the restart to the stop, ahead of the steps where they
+    /// are known, and each checkpoint is given up whose name it answers. In the end it remembers the chunks that were stepped
+    /// behind a checkpoint. A refusal of the edits leaves the shelf as it was. Where memory runs out, it may have been touched.
     pub fn edited(
         &self,
         alloc: Global,
@@ -143,15 +144,10 @@ impl Run {
         ensures refused_shelf { IsErr (edited_by self.now.trace batch.now) → shelf.new ≡ shelf.old }
         ensures never_less { meter.old ≤ meter.new }
     {
-        let Edited {
-            run,
-            from,
-            to,
-            fresh,
-        } = self.revised(alloc, batch, shelf, meter)?;
+        let Edited { run, gone, fresh } = self.revised(alloc, batch, shelf, meter)?;
         let mut run = run;
         remember_all(shelf, fresh);
-        touch_between(alloc, &mut run, from, to, shelf)?;
+        run.give_up_named(&gone);
         Ok(run)
     }
 
@@ -164,13 +160,12 @@ impl Run {
         meter: &mut Meter,
     ) -> Result<Edited, RunFault>
         ensures trace { IfOk result (λ r. edited_by self.now.trace batch.now ≡ Ok r.run.trace) }
-        ensures marks { IfOk result (λ r. AreMarksAfter self.now r.run r.from r.to) }
+        ensures marks { IfOk result (λ r. AreMarksDue self.now r.run shelf.old shelf.new (contains nat_cmp r.gone)) }
         ensures fault { IfErr result (IsFaultOf (edited_by self.now.trace batch.now)) }
         ensures empty { length batch.now ≡ 0 → result ≡ Err EmptyBatch }
         ensures too_many { MAX_EDITS < length batch.now → result ≡ Err TooManyEdits }
         ensures bound { (ops : List Operation) → edited_by self.now.trace batch.now ≡ Ok ops → StepsAtMostFrom self.now.trace ops self.now.marks meter.old meter.new }
         ensures stepped { IfOk result (λ r. AreSteppedFrom self.now.trace r.run.trace self.now.marks shelf.old.chunks meter.old meter.new) }
-        ensures searched { IsSearched shelf.old shelf.new }
         ensures refused { IsErr (edited_by self.now.trace batch.now) → meter.new ≡ meter.old }
         ensures refused_shelf { IsErr (edited_by self.now.trace batch.now) → shelf.new ≡ shelf.old }
         ensures never_less { meter.old ≤ meter.new }
@@ -193,28 +188,19 @@ impl Run {
         requires base { ops.now.base ≡ self.now.trace }
         requires trace { IsTrace ops.now.ops }
         ensures trace { IfOk result (λ r. r.run.trace ≡ ops.now.ops) }
-        ensures marks { IfOk result (λ r. AreMarksAfter self.now r.run r.from r.to) }
+        ensures marks { IfOk result (λ r. AreMarksDue self.now r.run shelf.old shelf.new (contains nat_cmp r.gone)) }
         ensures bound { StepsAtMostFrom self.now.trace ops.now.ops self.now.marks meter.old meter.new }
         ensures stepped { IfOk result (λ _. AreSteppedFrom self.now.trace ops.now.ops self.now.marks shelf.old.chunks meter.old meter.new) }
-        ensures searched { IsSearched shelf.old shelf.new }
         ensures never_less { meter.old ≤ meter.new }
     {
-        let Redone { replay, from, to } = resumed(
-            alloc,
-            &self.segments,
-            &self.end,
-            ops,
-            shelf,
-            meter,
-        )?;
+        let replay = resumed(alloc, &self.segments, &self.end, ops, shelf, meter)?;
         let run = Run {
             segments: replay.segments,
             end: replay.end,
         };
         Ok(Edited {
             run,
-            from,
-            to,
+            gone: replay.gone,
             fresh: replay.fresh,
         })
     }
@@ -237,13 +223,11 @@ impl Run {
     }
 
     // Gives up the inner checkpoints with these names, in one pass.
-    pub(crate) fn give_up_named(&mut self, alloc: Global, names: &[u32]) -> Result<(), AllocError>
-        ensures trace { OnOk result (self.new.trace ≡ self.old.trace) }
-        ensures marks { OnOk result (self.new.marks ≡ fold (given_up self.old.trace) self.old.marks names.now) }
+    fn give_up_named(&mut self, gone: &BTreeSet<u32>)
+        ensures trace { self.new.trace ≡ self.old.trace }
+        ensures marks { (names : List ℕ) → AreNames (contains nat_cmp gone.now) names → self.new.marks ≡ fold (given_up self.old.trace) self.old.marks names }
     {
-        let set = set_of(alloc, names)?;
-        clear_named(&mut self.segments, &set);
-        Ok(())
+        clear_named(&mut self.segments, gone);
     }
 
     /// How many operations the trace has.
@@ -258,18 +242,6 @@ impl Run {
         ensures { option_copied result ≡ slice_get self.now.trace place }
     {
         op_at(&self.segments, place)
-    }
-
-    // The names of the inner checkpoints from one position to another.
-    pub(crate) fn names_between(
-        &self,
-        alloc: Global,
-        from: usize,
-        to: usize,
-    ) -> Result<Vec<u32>, AllocError>
-        ensures { IfOk result (λ v. v.items ≡ names_at self.now.trace (between from to self.now.marks)) }
-    {
-        names_between(alloc, &self.segments, from, to)
     }
 
     /// The outcome of the operation at a place, from 0.

@@ -14,6 +14,7 @@ use std::marker::Model;
 use std::sync::Arc;
 use trace_types::ops::Op;
 use trace_types::outcomes::Outcome;
+use trace_types::sequence::Sequence;
 use trace_types::stretches::Stretch;
 
 /// Operations with their outcomes, and the heap where they begin, if that is kept. The versions of a run share both: one
@@ -51,6 +52,22 @@ impl Segment {
             mark: Some(Arc::new(alloc, start)?),
             body: Arc::try_clone(chunk.replayed())?,
             bounds: bounds_of(chunk.ops()),
+        })
+    }
+
+    /// The segment of operations with these outcomes, and with no checkpoint.
+    pub fn bare(
+        alloc: Global,
+        ops: Vec<Op>,
+        outcomes: Sequence<Outcome>,
+    ) -> Result<Self, AllocError>
+        ensures { IfOk result (λ s. s ≡ record { mark = None; ops = ops.items; outcomes = outcomes }) }
+    {
+        let bounds = bounds_of(&ops);
+        Ok(Segment {
+            mark: None,
+            body: Arc::new(alloc, Replayed { ops, outcomes })?,
+            bounds,
         })
     }
 

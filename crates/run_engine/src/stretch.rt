@@ -1,6 +1,5 @@
 //! Stretches of an old run that serve again.
-ghost use Rattle.std.specs.Prelude.{◌≡◌, ℕ, [], ◌+◌, ◌-◌, ◌<◌, ◌≤◌, IfOk, IfSome, IsTrue, ◌↔◌, length, take, drop, slice_range};
-ghost use Rattle.std.specs.Option.{option_copied};
+ghost use Rattle.std.specs.Prelude.{◌≡◌, ℕ, [], ◌+◌, ◌-◌, ◌<◌, ◌≤◌, IfOk, IfSome, length, take, drop, slice_range};
 ghost use Rattle.ownership_model.specs.State.{nothing_held};
 ghost use Rattle.ownership_model.specs.Step.{end_from};
 ghost use Rattle.run_engine.specs.Segments.{trace_of, marks_from, all_marks, BeginsMarked, IsRun, IsPiece};
@@ -14,6 +13,7 @@ use crate::revision::Revision;
 use crate::segment::{Segment, share_segments};
 use object_heap::heap::Heap;
 use std::alloc::{AllocError, Global};
+use std::collections::BTreeSet;
 
 /// The old stretch between neighbouring checkpoints that the operations from `at` on come from, if it begins with this heap,
 /// they are all of it, and it doesn't go past `to`.
@@ -64,6 +64,7 @@ pub fn old_stretch(
         end: after,
         len,
         fresh: Vec::new(alloc),
+        gone: BTreeSet::new(alloc),
     }))
 }
 

@@ -1,29 +1,62 @@
-//! What a shelf keeps of a run: its chunks are remembered, the names of its checkpoints touched, and those are given up for which there is
-//! no room.
-ghost use Rattle.std.specs.Prelude.{OnOk, IfOk};
+//! The names of a replay's checkpoints are touched on a shelf, and the shelf remembers its chunks.
+ghost use Rattle.std.specs.Prelude.{◌≡◌, ◌+◌, ◌≤◌, ◌∷◌, [], OnOk, option_to_list};
+ghost use Rattle.std.specs.Ordering.{nat_cmp};
+ghost use Rattle.std.specs.BTreeSet.{contains};
 ghost use Rattle.run_engine.specs.Memo.{HasSameMarks};
-ghost use Rattle.run_engine.specs.GivenUp.{names_at, between, AreTouches, IsTouched};
+ghost use Rattle.run_engine.specs.GivenUp.{names_at};
+ghost use Rattle.run_engine.specs.Onward.{cuts, AreAnswered};
 
-use crate::names::push_name;
-use crate::run::Run;
+use crate::listing::Listing;
+use crate::names::add_name;
+use crate::piece::STRIDE;
 use mark_shelf::MarkShelf;
 use op_step::chunk_run::ChunkRun;
-use std::alloc::{AllocError, Global};
+use std::alloc::AllocError;
+use std::collections::BTreeSet;
 
-/// Touches the names of the inner checkpoints from one position to another, in order, and gives up the checkpoints whose names are
-/// answered, in one pass over the run. Where memory runs out, the shelf may have been touched.
-pub fn touch_between(
-    alloc: Global,
-    run: &mut Run,
+/// Touches the names of the inner checkpoints at the cuts from one position on below another, in order, and adds those that are answered.
+pub fn touch_ahead(
+    ops: &Listing,
     from: usize,
     to: usize,
     shelf: &mut MarkShelf,
+    gone: &mut BTreeSet<u32>,
 ) -> Result<(), AllocError>
-    ensures touched { OnOk result (IsTouched run.old run.new shelf.old shelf.new (names_at run.old.trace (between from to run.old.marks))) }
+    requires order { from ≤ to }
+    ensures answered { OnOk result (AreAnswered shelf.old shelf.new (names_at ops.now.ops (cuts from to)) (contains nat_cmp gone.old) (contains nat_cmp gone.new)) }
 {
-    let names = run.names_between(alloc, from, to)?;
-    let gone = touch_all(alloc, shelf, &names)?;
-    run.give_up_named(alloc, &gone)
+    let mut at = from;
+    while at < to {
+        touch_at(ops, at, shelf, gone)?;
+        at += (to - at).min(STRIDE);
+    }
+    Ok(())
+}
+
+/// Touches the name of the checkpoint at a position, if it is an inner one, and adds the name that is answered.
+pub fn touch_at(
+    ops: &Listing,
+    at: usize,
+    shelf: &mut MarkShelf,
+    gone: &mut BTreeSet<u32>,
+) -> Result<(), AllocError>
+    ensures answered { OnOk result (AreAnswered shelf.old shelf.new (names_at ops.now.ops (at ∷ [])) (contains nat_cmp gone.old) (contains nat_cmp gone.new)) }
+{
+    if let Some(name) = inner_name(ops, at) {
+        add_name(gone, shelf.touch(name))?;
+    }
+    Ok(())
+}
+
+/// The name of the inner checkpoint at a position: none stands at the begin and at the end.
+pub fn inner_name(ops: &Listing, at: usize) -> Option<u32>
+    ensures { option_to_list result ≡ names_at ops.now.ops (at ∷ []) }
+{
+    if at == 0 || at >= ops.len() {
+        return None;
+    }
+    let op = ops.at(at - 1);
+    Some(op.id())
 }
 
 /// Has the shelf remember chunks.
@@ -33,15 +66,4 @@ pub fn remember_all(shelf: &mut MarkShelf, chunks: Vec<ChunkRun>)
     for chunk in chunks {
         shelf.remember(chunk);
     }
-}
-
-// Touches names in turn, and gives those that are answered, in order.
-fn touch_all(alloc: Global, shelf: &mut MarkShelf, names: &[u32]) -> Result<Vec<u32>, AllocError>
-    ensures { IfOk result (λ gone. AreTouches shelf.old names.now gone.items shelf.new) }
-{
-    let mut gone = Vec::new(alloc);
-    for name in names {
-        push_name(&mut gone, shelf.touch(*name))?;
-    }
-    Ok(gone)
 }

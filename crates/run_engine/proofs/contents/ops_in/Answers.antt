@@ -1,5 +1,4 @@
 use Rattle.std.proofs.Common.{ap, sym, ◌∙◌, ◌++◌}
-use Rattle.run_engine.specs.Segments.{trace_of}
 use Rattle.run_engine.specs.Parts.{joined}
 use Rattle.run_engine.proofs.SegmentLemmas.{trace_of-next}
 use Rattle.run_engine.proofs.PartLemmas.{joined-one}

@@ -1,5 +1,5 @@
 use Rattle.run_engine.specs.Segments.{all_marks}
-use Rattle.std.proofs.Common.{◌≡◌, ℕ, ◌+◌, ◌-◌, ◌<◌, ◌≤◌, List, ◌++◌, length, take, drop, true, false, refl, ap, sym, subst, ◌∙◌, arith}
+use Rattle.std.proofs.Common.{◌≡◌, ℕ, ◌+◌, ◌-◌, ◌<◌, ◌≤◌, List, [], ◌∷◌, ◌++◌, length, take, drop, true, false, refl, ap, sym, ◌∙◌, arith}
 use Rattle.std.specs.Prelude.{is_some}
 use Rattle.ownership_model.specs.State.{nothing_held}
 use Rattle.agreement.specs.Agreement.{Agree}
@@ -14,10 +14,12 @@ use Rattle.run_engine.proofs.PieceLemmas.{mark-is, take-rest}
 use Rattle.run_engine.proofs.PlaceLemmas.{mark-there, place-within, trace_of-front}
 use Rattle.run_engine.proofs.ConvergeLemmas.{IsBeside-first, IsBeside-next, least-agreeing, bounded, ShareEnd-length, IsRunFrom-back, rest-shared, distinct-back, old-unused, new-unused, AgreesAt-here, AgreesAt-there, IsSpliced, IsSpliced-rest, IsSpliced-end}
 use Rattle.run_engine.proofs.converge.converge.Goals.{then-at-seam+in-Some+in_ok-front+in_ok-found+in_default-found, then-at-seam+in_default, else-at-seam}
-use Rattle.run_engine.specs.NewMarks.{AreLaid, AreMarksOf}
-use Rattle.run_engine.proofs.MarksLemmas.{AreLaid-none, AreMarksOf-stop, AreMarksOf-end, all_marks-rest, IsReached-length}
+use Rattle.run_engine.proofs.MarksLemmas.{all_marks-stop, all_marks-rest, IsReached-length}
+use Rattle.run_engine.proofs.LeftLemmas.{left-at-stop, left-at-end}
+use Rattle.run_engine.proofs.OnwardLemmas.{IsOnward-none, IsOnward-next}
+use Rattle.std.specs.Ordering.{nat_cmp}
+use Rattle.std.specs.BTreeSet.{contains}
 use Rattle.run_engine.specs.Bounds.{AgreesAt}
-use Rattle.run_engine.proofs.MemoLemmas.{IsSearched-none, IsSearched-next}
 use Rattle.run_engine.proofs.SteppedLemmas.{HaveStepped-none, AreStepped-stop, AreStepped-end}
 use Rattle.run_engine.proofs.converge.converge.Goals as goal
 
@@ -53,6 +55,10 @@ pub returns-in_err-spliced-clause-bound : goal.returns-in_err-spliced-clause-bou
 returns-in_err-spliced-clause-bound c =
     bounded _ _ _ _ _ _ _ _ _ _ _ _ _ c.loop-i.invariant.beside c.requires.shared c.if-at-seam.true (omega (arith, c.loop-i.invariant.beside.rise, c.advance.ensures.rise))
 
+pub returns-in_err-touch_at-clause-bound : goal.returns-in_err-touch_at-clause-bound
+returns-in_err-touch_at-clause-bound c =
+    bounded _ _ _ _ _ _ _ _ _ _ _ _ _ c.loop-i.invariant.beside c.requires.shared c.if-at-seam.true (omega (arith, c.loop-i.invariant.beside.rise, c.advance.ensures.rise))
+
 pub returns-in-Some-found-clause-bound : goal.returns-in-Some-found-clause-bound
 returns-in-Some-found-clause-bound c =
     bounded _ _ _ _ _ _ _ _ _ _ _ _ _ c.loop-i.invariant.beside c.requires.shared c.if-at-seam.true (omega (arith, c.loop-i.invariant.beside.rise, c.advance.ensures.rise))
@@ -81,12 +87,12 @@ rejoined-requires-clause-unused c =
     (back c.args.revision.now.segments.now c.args.revision.now.ops.now.ops c.args.seam.old c.args.seam.new c.loop-i.i c.loop-i.at c.in_ok-front.front.len c.requires.shared c.loop-i.invariant.beside.place c.if-at-seam.true c.in_ok-front.ensures.there))
 
 -- where the old run goes on it has the operations that are left
-rest-is : (c : goal.Joined-seen-7) → trace_of c.in-Some-found.rest.items ≡ trace_of (drop c.loop-i.i c.args.revision.now.segments.now)
+rest-is : (c : goal.Joined-seen-9) → trace_of c.in-Some-found.rest.items ≡ trace_of (drop c.loop-i.i c.args.revision.now.segments.now)
 rest-is c =
     let trace : trace_of c.in-Some-found.rest.items ≡ trace_of (take (length c.args.revision.now.segments.now - c.loop-i.i) (drop c.loop-i.i c.args.revision.now.segments.now)) = rw c.in-Some-found.is at c.in_ok-found.ensures.trace in
     trace ∙ ap trace_of (take-rest c.loop-i.i c.args.revision.now.segments.now)
 
-spliced : (c : goal.Joined-seen-7) → IsSpliced c.args.revision.now.ops.now.ops (c.in_ok-front.front.segments.items ++ c.in-Some-found.rest.items) c.in-Some-found.end
+spliced : (c : goal.Joined-seen-9) → IsSpliced c.args.revision.now.ops.now.ops (c.in_ok-front.front.segments.items ++ c.in-Some-found.rest.items) c.in-Some-found.end
 spliced c =
     let run : IsRunFrom c.in_ok-front.front.end c.in-Some-found.rest.items c.in-Some-found.end = rw c.in-Some-found.is at c.in_ok-found.ensures.run in
     IsSpliced-rest c.args.revision.now.ops.now.ops c.in_ok-front.front.len c.in_ok-front.front.segments.items c.in-Some-found.rest.items c.in_ok-front.front.end c.in-Some-found.end c.in_ok-front.ensures.front
@@ -94,7 +100,7 @@ spliced c =
     run
 
 -- the heaps agree where the replay stops
-agreed : (c : goal.Joined-seen-7) → AgreesAt (trace_of c.args.revision.now.segments.now) c.args.revision.now.ops.now.ops c.args.seam.old c.args.seam.new c.loop-i.at
+agreed : (c : goal.Joined-seen-9) → AgreesAt (trace_of c.args.revision.now.segments.now) c.args.revision.now.ops.now.ops c.args.seam.old c.args.seam.new c.loop-i.at
 agreed c =
     let m : c.in-Some.mark.now ≡ end_from nothing_held (trace_of (take c.loop-i.i c.args.revision.now.segments.now)) = mark-is c.args.revision.now.segments.now c.loop-i.i c.index-old-i.result c.in-Some.mark.now c.requires.revision.run.replay c.loop-i-test.true c.index-old-i.is c.in-Some.ensures in
     let there : c.in_ok-front.front.len ≡ c.loop-i.at - c.args.seam.old + c.args.seam.new = c.in_ok-front.ensures.there in
@@ -105,12 +111,6 @@ agreed c =
 pub returns-in-Some-found-clause-run : goal.returns-in-Some-found-clause-run
 returns-in-Some-found-clause-run c = rw (c.in_ok-spliced.ensures.segments, c.in_ok-spliced.ensures.end) (spliced c).run
 
-pub returns-in-Some-found-clause-searched : goal.returns-in-Some-found-clause-searched
-returns-in-Some-found-clause-searched c = IsSearched-next c.args.shelf.now c.loop-i.shelf _ c.loop-i.invariant.searched c.in_ok-front.ensures.searched
-
-pub returns-clause-searched : goal.returns-clause-searched
-returns-clause-searched c = IsSearched-next c.args.shelf.now c.loop-i.shelf _ c.loop-i.invariant.searched c.in_ok-front-2.ensures.searched
-
 pub returns-in-Some-found-clause-trace : goal.returns-in-Some-found-clause-trace
 returns-in-Some-found-clause-trace c = rw c.in_ok-spliced.ensures.segments (spliced c).trace
 
@@ -119,24 +119,23 @@ returns-in-Some-found-clause-marks c =
     let old : List SegmentView = c.args.revision.now.segments.now in
     let front : List SegmentView = c.in_ok-front.front.segments.items in
     let there : c.in_ok-front.front.len ≡ c.loop-i.at - c.args.seam.old + c.args.seam.new = c.in_ok-front.ensures.there in
-    let laid : AreLaid (all_marks c.args.revision.now.segments.now) (marks_from 0 c.args.front.segments.items) c.args.front.len (c.loop-i.at - c.args.seam.old + c.args.seam.new) (marks_from 0 c.in_ok-front.front.segments.items) =
-    subst (λ x. AreLaid (all_marks c.args.revision.now.segments.now) (marks_from 0 c.args.front.segments.items) c.args.front.len x (marks_from 0 c.in_ok-front.front.segments.items)) there (c.in_ok-front.ensures.marks _ _ c.loop-i.invariant.laid) in
     let marks : (at : ℕ) → marks_from at c.in-Some-found.rest.items ≡ marks_from at (take (length c.args.revision.now.segments.now - c.loop-i.i) (drop c.loop-i.i c.args.revision.now.segments.now)) = rw c.in-Some-found.is at c.in_ok-found.ensures.marks in
     let alike : all_marks (front ++ c.in-Some-found.rest.items) ≡ all_marks (front ++ drop c.loop-i.i old) =
     all_marks-rest front c.in-Some-found.rest.items (drop c.loop-i.i old) (rest-is c) (λ at. marks at ∙ ap (marks_from at) (take-rest c.loop-i.i c.args.revision.now.segments.now)) in
     let trace : trace_of (front ++ drop c.loop-i.i old) ≡ c.args.revision.now.ops.now.ops =
     trace_of-append front (drop c.loop-i.i old) ∙ ap (λ t. trace_of front ++ t) (sym (rest-is c)) ∙ sym (trace_of-append front c.in-Some-found.rest.items) ∙ (spliced c).trace in
-    rw (c.in_ok-spliced.ensures.segments, alike)
-    (AreMarksOf-stop c.args.revision.now.segments.now c.in_ok-front.front.segments.items c.args.revision.now.ops.now.ops (marks_from 0 c.args.front.segments.items) c.args.seam.old c.args.seam.new c.loop-i.i c.loop-i.at c.args.front.len c.index-old-i.result
-    c.requires.revision.run.full c.requires.shared c.loop-i-test.true c.index-old-i.is c.in-Some.mark.now (sym c.in-Some.ensures) c.loop-i.invariant.beside.place c.if-at-seam.true
-    (agreed c) (least-agreeing _ _ _ _ _ _ _ _ _ _ _ _ c.loop-i.invariant.beside)
-    (IsReached-length _ _ _ _ c.in_ok-front.ensures.front ∙ there) trace laid)
+    rw (c.in_ok-spliced.ensures.segments, c.in_ok-spliced.ensures.gone)
+    (left-at-stop c.args.revision.now.segments.now c.args.revision.now.ops.now.ops (marks_from 0 c.args.front.segments.items) (marks_from 0 c.in_ok-front.front.segments.items) _ c.args.seam.old c.args.seam.new c.loop-i.i c.loop-i.at c.args.front.len c.in_ok-front.front.len c.index-old-i.result c.in-Some.mark.now _ _ _ _ _ _
+    c.requires.trace.distinct c.loop-i-test.true c.index-old-i.is (sym c.in-Some.ensures) c.loop-i.invariant.beside.place c.if-at-seam.true (agreed c) (least-agreeing _ _ _ _ _ _ _ _ _ _ _ _ c.loop-i.invariant.beside) there
+    (IsOnward-next _ _ _ _ _ _ _ _ _ _ _ _ _ _ c.loop-i.invariant.onward c.in_ok-front.ensures.onward) c.in_ok-touch_at.ensures.answered
+    (alike ∙ all_marks-stop c.args.revision.now.segments.now c.in_ok-front.front.segments.items c.args.revision.now.ops.now.ops c.args.seam.old c.args.seam.new c.loop-i.i c.loop-i.at c.index-old-i.result c.requires.revision.run.full c.requires.shared c.loop-i-test.true c.index-old-i.is c.in-Some.mark.now (sym c.in-Some.ensures)
+    c.loop-i.invariant.beside.place c.if-at-seam.true (IsReached-length _ _ _ _ c.in_ok-front.ensures.front ∙ there) trace))
 
 pub returns-in-Some-found-clause-stepped : goal.returns-in-Some-found-clause-stepped
 returns-in-Some-found-clause-stepped c =
     AreStepped-stop (trace_of c.args.revision.now.segments.now) c.args.revision.now.ops.now.ops (all_marks c.args.revision.now.segments.now) c.args.shelf.now.chunks c.args.seam.old c.args.seam.new c.args.front.len c.in_ok-front.front.len c.loop-i.at c.args.meter.now _ c.in_ok-front.ensures.there
     (mark-there c.args.revision.now.segments.now c.loop-i.i c.loop-i.at c.index-old-i.result c.in-Some.mark.now c.loop-i-test.true c.index-old-i.is (sym c.in-Some.ensures) c.loop-i.invariant.beside.place)
-    c.if-at-seam.true (agreed c) (c.in_ok-front.ensures.stepped _ _ _ c.loop-i.invariant.stepped c.loop-i.invariant.searched.fewer)
+    c.if-at-seam.true (agreed c) (c.in_ok-front.ensures.stepped _ _ _ c.loop-i.invariant.stepped c.loop-i.invariant.fewer)
 
 place-end : (old : List SegmentView) (i at : ℕ) → length old ≤ i → i ≤ length old → length (trace_of (take i old)) ≡ at → at ≡ length (trace_of old)
 place-end old i at ge le e = let n : i ≡ length old = omega arith in sym e ∙ ap (λ j. length (trace_of (take j old))) n ∙ ap (λ ss. length (trace_of ss)) (take-length old)
@@ -144,29 +143,29 @@ place-end old i at ge le e = let n : i ≡ length old = omega arith in sym e ∙
 pub returns-clause-marks : goal.returns-clause-marks
 returns-clause-marks c =
     let there : c.in_ok-front-2.front.len ≡ length c.args.revision.now.ops.now.ops = c.in_ok-front-2.ensures.there ∙ c.len.ensures in
-    let laid : AreLaid (all_marks c.args.revision.now.segments.now) (marks_from 0 c.args.front.segments.items) c.args.front.len (length c.args.revision.now.ops.now.ops) (marks_from 0 c.in_ok-front-2.front.segments.items) =
-    subst (λ x. AreLaid (all_marks c.args.revision.now.segments.now) (marks_from 0 c.args.front.segments.items) c.args.front.len x (marks_from 0 c.in_ok-front-2.front.segments.items)) there (c.in_ok-front-2.ensures.marks _ _ c.loop-i.invariant.laid) in
     let e = place-end c.args.revision.now.segments.now c.loop-i.i c.loop-i.at c.loop-i-test.false (c.loop-i.auto.i-end c.last_from-first.ensures.within) c.loop-i.invariant.beside.place in
-    subst (λ n. AreMarksOf (trace_of c.args.revision.now.segments.now) c.args.revision.now.ops.now.ops (marks_from 0 c.args.front.segments.items) (all_marks c.args.revision.now.segments.now) (all_marks c.in_ok-front-2.front.segments.items) c.args.front.len c.args.seam.old c.args.seam.new n) (sym e)
-    (AreMarksOf-end c.args.revision.now.segments.now c.in_ok-front-2.front.segments.items c.args.revision.now.ops.now.ops (marks_from 0 c.args.front.segments.items) c.args.seam.old c.args.seam.new c.args.front.len c.requires.shared
+    let trace : trace_of c.in_ok-front-2.front.segments.items ≡ c.args.revision.now.ops.now.ops = (IsSpliced-end c.args.revision.now.ops.now.ops c.in_ok-front-2.front.len c.in_ok-front-2.front.segments.items c.in_ok-front-2.front.end c.in_ok-front-2.ensures.front there).trace in
+    left-at-end c.args.revision.now.segments.now c.args.revision.now.ops.now.ops (marks_from 0 c.args.front.segments.items) (marks_from 0 c.in_ok-front-2.front.segments.items) _ c.args.seam.old c.args.seam.new c.args.front.len c.in_ok-front-2.front.len c.args.shelf.now c.advance-2.new.shelf _ _
+    c.requires.trace.distinct c.requires.shared
     (λ p mark behind agrees.
     let least : c.loop-i.at ≤ p = least-agreeing _ _ _ _ _ _ _ _ _ _ _ _ c.loop-i.invariant.beside p mark behind agrees in
     omega arith)
-    ((IsSpliced-end c.args.revision.now.ops.now.ops c.in_ok-front-2.front.len c.in_ok-front-2.front.segments.items c.in_ok-front-2.front.end c.in_ok-front-2.ensures.front there).trace) laid)
+    there (IsOnward-next _ _ _ _ _ _ _ _ _ _ _ _ _ _ c.loop-i.invariant.onward c.in_ok-front-2.ensures.onward)
+    (ap (λ ops. marks_from 0 c.in_ok-front-2.front.segments.items ++ length ops ∷ []) trace)
 
 pub returns-clause-stepped : goal.returns-clause-stepped
 returns-clause-stepped c =
     AreStepped-end (trace_of c.args.revision.now.segments.now) c.args.revision.now.ops.now.ops (all_marks c.args.revision.now.segments.now) c.args.shelf.now.chunks c.args.seam.old c.args.seam.new c.args.front.len c.in_ok-front-2.front.len c.args.meter.now _ (c.in_ok-front-2.ensures.there ∙ c.len.ensures)
-    (c.in_ok-front-2.ensures.stepped _ _ _ c.loop-i.invariant.stepped c.loop-i.invariant.searched.fewer)
+    (c.in_ok-front-2.ensures.stepped _ _ _ c.loop-i.invariant.stepped c.loop-i.invariant.fewer)
 
 pub loop-i-init : goal.loop-i-init
 loop-i-init c = record {
   beside = IsBeside-first c.args.revision.now.segments.now c.args.revision.now.ops.now.ops c.args.seam.old c.args.seam.new c.args.front.len c.args.meter.now c.last_from-first.result.0 c.last_from-first.result.1 c.args.front.segments.items c.args.front.end
       c.requires.revision.run.full c.last_from-first.ensures.within c.last_from-first.ensures.place c.last_from-first.ensures.before c.requires.front c.requires.order;
   stepped = HaveStepped-none (trace_of c.args.revision.now.segments.now) c.args.revision.now.ops.now.ops (all_marks c.args.revision.now.segments.now) c.args.shelf.now.chunks c.args.front.len c.args.meter.now;
-  searched = IsSearched-none c.args.shelf.now;
+  fewer = λ e m. m;
   never_less = omega arith;
-  laid = AreLaid-none (all_marks c.args.revision.now.segments.now) (marks_from 0 c.args.front.segments.items) c.args.front.len;
+  onward = IsOnward-none c.args.revision.now.ops.now.ops (all_marks c.args.revision.now.segments.now) c.args.front.len (marks_from 0 c.args.front.segments.items) c.args.shelf.now (contains nat_cmp c.args.front.gone);
 }
 
 pub returns-in_err-front-2-clause-bound : goal.returns-in_err-front-2-clause-bound
@@ -201,10 +200,10 @@ loop-i-preserved c =
                 let t : is_some w.in_ok-found.found ≡ true = w.in_ok-found.ensures.answer.1 agree in
                 let f : is_some w.in_ok-found.found ≡ false = ap is_some w.in_default-found.is in
                 cc);
-            stepped = w.in_ok-front.ensures.stepped _ _ _ c.loop-i.invariant.stepped c.loop-i.invariant.searched.fewer;
-            searched = IsSearched-next c.args.shelf.now c.loop-i.shelf _ c.loop-i.invariant.searched w.in_ok-front.ensures.searched;
+            stepped = w.in_ok-front.ensures.stepped _ _ _ c.loop-i.invariant.stepped c.loop-i.invariant.fewer;
+            fewer = λ e m. c.loop-i.invariant.fewer e (w.in_ok-front.ensures.fewer e m);
             never_less = omega (arith, c.loop-i.invariant.never_less, w.advance.ensures.never_less);
-            laid = w.in_ok-front.ensures.marks _ _ c.loop-i.invariant.laid;
+            onward = IsOnward-next _ _ _ _ _ _ _ _ _ _ _ _ _ _ c.loop-i.invariant.onward w.in_ok-front.ensures.onward;
           })
       | then-at-seam+in_default w ↦
           rw (w.front-is, w.meter-is, w.shelf-is, c.ops.ensures)
@@ -213,9 +212,9 @@ loop-i-preserved c =
                 c.loop-i.front.len c.loop-i.front.segments.items c.loop-i.front.end c.loop-i.meter c.index-old-i.result c.loop-i.invariant.beside c.loop-i-test.true c.index-old-i.is c.loop-i.invariant.beside.front c.loop-i.invariant.beside.order c.loop-i.invariant.beside.rise
                 (λ marked behind agrees. let f : is_some c.index-old-i.result.mark ≡ false = ap is_some (sym w.in_default.ensures) in cc);
             stepped = c.loop-i.invariant.stepped;
-            searched = c.loop-i.invariant.searched;
+            fewer = c.loop-i.invariant.fewer;
             never_less = c.loop-i.invariant.never_less;
-            laid = c.loop-i.invariant.laid;
+            onward = c.loop-i.invariant.onward;
           })
       | else-at-seam w ↦
           rw (w.front-is, w.meter-is, w.shelf-is, c.ops.ensures)
@@ -224,8 +223,8 @@ loop-i-preserved c =
                 c.loop-i.front.len c.loop-i.front.segments.items c.loop-i.front.end c.loop-i.meter c.index-old-i.result c.loop-i.invariant.beside c.loop-i-test.true c.index-old-i.is c.loop-i.invariant.beside.front c.loop-i.invariant.beside.order c.loop-i.invariant.beside.rise
                 (λ marked behind agrees. let lt : c.loop-i.at < c.args.seam.old = w.if-at-seam.false in omega arith);
             stepped = c.loop-i.invariant.stepped;
-            searched = c.loop-i.invariant.searched;
+            fewer = c.loop-i.invariant.fewer;
             never_less = c.loop-i.invariant.never_less;
-            laid = c.loop-i.invariant.laid;
+            onward = c.loop-i.invariant.onward;
           })
     ]

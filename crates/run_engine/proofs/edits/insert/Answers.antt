@@ -1,4 +1,4 @@
-use Rattle.std.proofs.Common.{◌≡◌, ◌≤◌, ◌<◌, length, false, sym, subst, ◌∙◌, arith}
+use Rattle.std.proofs.Common.{◌≡◌, false, sym, subst, ◌∙◌, arith}
 use Rattle.trace_types.specs.Trace.{IsTrace, is_taken}
 use Rattle.run_engine.proofs.EditLemmas.{trace-insert}
 use Rattle.run_engine.proofs.edits.insert.Goals as goal

@@ -1,4 +1,4 @@
-use Rattle.std.proofs.Common.{◌≡◌, ℕ, ◌+◌, ◌-◌, length, drop, true, false, rules, arith, zero}
+use Rattle.std.proofs.Common.{◌≡◌, ◌-◌, length, drop, true, false, arith}
 use Rattle.run_engine.proofs.HeadAndTailLemmas.{alike-back, tail-ends, tail-more, none-or-one}
 use Rattle.run_engine.proofs.head_and_tail.alike_before.Goals as goal
 

@@ -1,4 +1,4 @@
-use Rattle.std.proofs.Common.{◌≡◌, true, false, rules, arith}
+use Rattle.std.proofs.Common.{◌≡◌, true, false}
 use Rattle.run_engine.proofs.HeadAndTailLemmas.{alike-here, head-ends, one-alike}
 use Rattle.run_engine.proofs.head_and_tail.alike_from.Goals as goal
 

@@ -1,4 +1,4 @@
-use Rattle.std.proofs.Common.{◌≡◌, ap, subst, sym, ◌∙◌}
+use Rattle.std.proofs.Common.{ap, subst, sym, ◌∙◌}
 use Rattle.std.specs.Arc.{arc_value}
 use Rattle.run_engine.specs.Segments.{trace_of, marks_from}
 use Rattle.run_engine.specs.Exchanged.{AreExchangeable}

@@ -1,12 +1,11 @@
-use Rattle.std.proofs.Common.{◌≡◌, ◌-◌, ◌≤◌, length, take, refl, ap, sym, subst, arith}
-use Rattle.run_engine.specs.Segments.{trace_of, all_marks}
-use Rattle.run_engine.proofs.PlaceLemmas.{all-within}
+use Rattle.std.proofs.Common.{◌≡◌, ◌-◌, length, take, sym, subst}
+use Rattle.run_engine.specs.Segments.{all_marks}
 use Rattle.run_engine.specs.Bounds.{StepsAtMost}
 use Rattle.run_engine.specs.Steps.{AreStepped}
 use Rattle.run_engine.specs.HeadAndTail.{AreShared}
 use Rattle.run_engine.proofs.HeadAndTailLemmas.{ShareEnd-tail, from-greatest, bounded-none}
 use Rattle.run_engine.proofs.RestartLemmas.{IsReached-restart}
-use Rattle.run_engine.proofs.MarksLemmas.{AreMarksAfter-restart}
+use Rattle.run_engine.proofs.LeftLemmas.{AreMarksDue-restart}
 use Rattle.run_engine.proofs.restart.resumed.Goals as goal
 
 pub converge-requires-clause-front : goal.converge-requires-clause-front
@@ -18,14 +17,6 @@ converge-requires-clause-front c =
 pub converge-requires-clause-shared : goal.converge-requires-clause-shared
 converge-requires-clause-shared c =
     rw (c.in_ok-revision.ensures.segments, c.in_ok-revision.ensures.ops, c.base_len.ensures, c.len.ensures, ← c.requires.base) (ShareEnd-tail c.args.ops.now.base c.args.ops.now.ops c.head-first.result c.tail-last.result c.tail-last.ensures)
-
-pub overflow_add-result : goal.overflow_add-result
-overflow_add-result c =
-    let marks = rw (c.in_ok-revision.ensures.segments, c.in_ok-revision.ensures.ops) at c.in_ok-replay.ensures.marks in
-    let behind = marks.stop_is.behind in
-    let fits : c.in_ok-replay.stop ≤ length (trace_of c.args.segments.now) = all-within c.args.segments.now c.in_ok-replay.stop (length (trace_of c.args.segments.now)) marks.stop_is.mark (omega arith) in
-    let base = ap length c.requires.base in
-    omega (arith, c.base_len.ensures, c.len.ensures, c.requires.base_trace.few, c.requires.trace.few)
 
 pub returns-in_err-front-clause-bound : goal.returns-in_err-front-clause-bound
 returns-in_err-front-clause-bound c = bounded-none c.args.ops.now.base c.args.ops.now.ops _ _
@@ -60,8 +51,7 @@ returns-clause-stepped c =
 pub returns-clause-marks : goal.returns-clause-marks
 returns-clause-marks c =
     rw c.requires.base
-    (AreMarksAfter-restart c.args.segments.now c.in_ok-front.front.segments.items c.args.end.now c.in_ok-front.front.end c.args.ops.now.ops (all_marks c.in_ok-replay.replay.segments.items) c.head-first.result c.tail-last.result _ c.in_ok-front.front.len c.in_ok-replay.stop _
+    (AreMarksDue-restart c.args.segments.now c.in_ok-front.front.segments.items c.args.end.now c.in_ok-front.front.end c.args.ops.now.ops (all_marks c.in_ok-replay.replay.segments.items) c.head-first.result c.tail-last.result _ c.in_ok-front.front.len _ _ _ _
     c.requires.run (rw c.in_ok-revision.ensures.segments at c.in_ok-front.ensures.kept) (rw c.in_ok-revision.ensures.segments at c.in_ok-front.ensures.segments)
-    (subst (λ t. AreShared t c.args.ops.now.ops c.head-first.result c.tail-last.result) c.requires.base (record { head_is = c.head-first.ensures; tail_is = c.tail-last.ensures }))
-    (rw (c.in_ok-revision.ensures.segments, c.in_ok-revision.ensures.ops, c.base_len.ensures, c.len.ensures, c.requires.base) at c.in_ok-replay.ensures.marks)
-    (rw (c.base_len.ensures, c.len.ensures, c.requires.base) refl))
+    (subst (λ t. AreShared t c.args.ops.now.ops c.head-first.result c.tail-last.result) c.requires.base (record { head_is = c.head-first.ensures; tail_is = c.tail-last.ensures })) c.in_ok-front.ensures.gone
+    (rw (c.in_ok-revision.ensures.segments, c.in_ok-revision.ensures.ops, c.base_len.ensures, c.len.ensures, c.requires.base) at c.in_ok-replay.ensures.marks))

@@ -1,9 +1,7 @@
-use Rattle.std.proofs.Common.{◌≡◌, ℕ, ◌+◌, ◌-◌, ◌<◌, ◌≤◌, List, [], ◌∷◌, ◌++◌, length, take, drop, get_or, ◌∙◌, ap, sym, subst, refl, arith}
-use Rattle.trace_types.specs.Operation.{Operation}
-use Rattle.trace_types.specs.declared.limits.TheConstants.{MAX_OPS}
+use Rattle.std.proofs.Common.{◌≡◌, ℕ, ◌+◌, ◌-◌, ◌<◌, ◌≤◌, List, [], ◌∷◌, length, take, get_or, ◌∙◌, ap, sym, subst, arith}
 use Rattle.run_engine.specs.declared.spans.Span.{Span}
 use Rattle.run_engine.specs.declared.spans.Span.TheVariants.{Old}
-use Rattle.run_engine.specs.Spans.{ops_in, laid, span_length, total, Fits, AreFit}
+use Rattle.run_engine.specs.Spans.{ops_in, laid, span_length, total, AreFit}
 use Rattle.run_engine.proofs.SpanLemmas.{total-next, fit-at, cut-laid, cut-fit, cut-total, cut-old_span, set-parts, remove-parts}
 use Rattle.run_engine.proofs.spans.cut.Goals as goal
 

@@ -1,6 +1,5 @@
 use Rattle.std.proofs.Common.{◌<◌, length, drop, subst, sym, arith, ◌∙◌}
 use Rattle.std.specs.Prelude.{IfSome}
-use Rattle.ownership_model.specs.State.{nothing_held}
 use Rattle.run_engine.specs.Segments.{BeginsMarked}
 use Rattle.run_engine.proofs.PieceLemmas.{mark-is}
 use Rattle.run_engine.proofs.MarksLemmas.{IfSome-begins}

@@ -1,11 +1,8 @@
-use Rattle.std.proofs.Common.{◌≡◌, ℕ, ◌+◌, ◌-◌, ◌<◌, ◌≤◌, List, [], ◌∷◌, ◌++◌, length, take, drop, get_or, ◌∙◌, ap, sym, subst, refl, arith}
-use Rattle.std.specs.Prelude.{insert, remove}
+use Rattle.std.proofs.Common.{◌≡◌, ℕ, ◌-◌, ◌<◌, List, length, subst, arith}
 use Rattle.trace_types.specs.Operation.{Operation}
-use Rattle.trace_types.specs.declared.limits.TheConstants.{MAX_OPS}
 use Rattle.run_engine.specs.ListingView.{ListingView}
 use Rattle.run_engine.specs.declared.spans.Span.{Span}
-use Rattle.run_engine.specs.declared.spans.Span.TheVariants.{Old, New}
-use Rattle.run_engine.specs.Spans.{ops_in, laid, span_length, total, Fits, AreFit, IsFound}
+use Rattle.run_engine.specs.Spans.{laid, total, IsFound}
 use Rattle.run_engine.specs.HeadAndTail.{AreAlike}
 use Rattle.run_engine.proofs.SpanLemmas.{view-length, found-there, old-at, alike-span}
 use Rattle.run_engine.proofs.listing.Listing.alike.Goals as goal

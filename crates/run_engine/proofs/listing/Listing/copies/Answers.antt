@@ -1,4 +1,4 @@
-use Rattle.std.proofs.Common.{◌≡◌, ◌++◌, take, ap, sym, ◌∙◌, arith, refl}
+use Rattle.std.proofs.Common.{◌++◌, take, ap, sym, ◌∙◌, arith}
 use Rattle.std.specs.Prelude.{slice_range}
 use Rattle.run_engine.proofs.ListingLemmas.{slice_range-none, slice_range-further, next-ones}
 use Rattle.run_engine.proofs.listing.Listing.copies.Goals as goal

@@ -1,12 +1,10 @@
-use Rattle.std.proofs.Common.{◌≡◌, ℕ, ◌+◌, ◌-◌, ◌<◌, ◌≤◌, List, [], ◌∷◌, ◌++◌, length, take, drop, get_or, ◌∙◌, ap, sym, subst, refl, arith}
-use Rattle.std.specs.Prelude.{insert, remove}
+use Rattle.std.proofs.Common.{◌≡◌, ℕ, ◌+◌, ◌<◌, ◌≤◌, List, ◌∷◌, ◌++◌, length, take, drop, ◌∙◌, ap, sym, arith}
 use Rattle.trace_types.specs.Operation.{Operation}
-use Rattle.trace_types.specs.declared.limits.TheConstants.{MAX_OPS}
 use Rattle.run_engine.specs.ListingView.{ListingView}
 use Rattle.run_engine.specs.declared.spans.Span.{Span}
-use Rattle.run_engine.specs.declared.spans.Span.TheVariants.{Old, New}
-use Rattle.run_engine.specs.Spans.{ops_in, laid, span_length, total, Fits, AreFit, IsFound}
-use Rattle.std.proofs.lemmas.List.{length-take-le, length-drop}
+use Rattle.run_engine.specs.declared.spans.Span.TheVariants.{Old}
+use Rattle.run_engine.specs.Spans.{ops_in, laid, span_length, total, IsFound}
+use Rattle.std.proofs.lemmas.List.{length-take-le}
 use Rattle.run_engine.proofs.SpanLemmas.{view-length, found-there, found-inside, old-at, laid-from, from-old}
 use Rattle.run_engine.proofs.listing.Listing.from.Goals as goal
 

@@ -1,11 +1,10 @@
-use Rattle.std.proofs.Common.{◌≡◌, ℕ, ◌+◌, ◌-◌, ◌<◌, ◌≤◌, List, [], ◌∷◌, ◌++◌, length, take, drop, get_or, ◌∙◌, ap, sym, subst, refl, arith}
-use Rattle.std.specs.Prelude.{insert, remove}
+use Rattle.std.proofs.Common.{◌≡◌, ◌<◌, List, length, take, ◌∙◌, ap, sym, arith}
+use Rattle.std.specs.Prelude.{remove}
 use Rattle.trace_types.specs.Operation.{Operation}
 use Rattle.trace_types.specs.declared.limits.TheConstants.{MAX_OPS}
 use Rattle.run_engine.specs.ListingView.{ListingView}
 use Rattle.run_engine.specs.declared.spans.Span.{Span}
-use Rattle.run_engine.specs.declared.spans.Span.TheVariants.{Old, New}
-use Rattle.run_engine.specs.Spans.{ops_in, laid, span_length, total, Fits, AreFit, IsFound}
+use Rattle.run_engine.specs.Spans.{laid, total, AreFit, IsFound}
 use Rattle.run_engine.proofs.SpanLemmas.{view-length, AreFit-wider, found-there}
 use Rattle.run_engine.proofs.listing.Listing.remove.Goals as goal
 

@@ -1,4 +1,4 @@
-use Rattle.std.proofs.Common.{◌≡◌, ◌<◌, ◌∙◌, ap, sym}
+use Rattle.std.proofs.Common.{◌<◌, ◌∙◌, ap, sym}
 use Rattle.std.specs.Prelude.{◌⊎◌}
 use mathlib.Core.Logic.{inl, inr}
 use Rattle.trace_types.specs.Trace.{place_of}
