@@ -14,8 +14,8 @@ use Rattle.trace_types.specs.declared.names.OpName.TheVariants as name
 use Rattle.trace_types.specs.declared.kinds.Field.{Field}
 use Rattle.trace_types.specs.declared.kinds.Field.TheVariants.{Held, Null, Me}
 use Rattle.trace_types.specs.declared.kinds.Kind.{Kind}
-use Rattle.trace_reader.specs.Writing.{natural, number_member, field_data, fields_data, with_value, with_members, members_before, members_after, members_of, line_of}
-use Rattle.trace_reader.specs.LineText.{names_before, text_ahead, text_behind, field_text, elements_text, fields_text, value_text, text_if, texts_ahead, text_before, text_after, text_between, line_text}
+use Rattle.trace_reader.specs.Writing.{natural, number_member, field_data, fields_data, with_value, with_members, names_before, members_before, members_after, members_of, line_of}
+use Rattle.trace_reader.specs.LineText.{text_ahead, text_behind, field_text, elements_text, fields_text, value_text, text_if, texts_ahead, text_before, text_after, text_between, line_text}
 
 -- ---- the fields
 

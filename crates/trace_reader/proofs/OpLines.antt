@@ -22,9 +22,8 @@ use Rattle.trace_types.specs.declared.kinds.Kind.TheVariants as kind
 use Rattle.trace_types.specs.declared.limits.TheConstants.{MAX_NAME, MAX_ID, MAX_THREAD, MAX_FIELDS, MAX_INDEX}
 use Rattle.trace_reader.specs.Members.{◌>>=◌, within, field_test, fields_from, number_at, perhaps_handle_at, text_at, fields_at}
 use Rattle.trace_reader.specs.Kinds.{one_at, two_at, three_at, field_at, made_at, swap_at}
-use Rattle.trace_reader.specs.LineText.{names_before}
 use Rattle.trace_reader.specs.Reading.{read_op, members_of_op, kind_at}
-use Rattle.trace_reader.specs.Writing.{natural, number_member, fields_data, with_value, with_members, members_after, members_of, data_of, line_of}
+use Rattle.trace_reader.specs.Writing.{natural, number_member, fields_data, with_value, with_members, members_after, members_of, data_of, line_of, names_before}
 use Rattle.trace_reader.proofs.ReadBack.{read-compact_text}
 
 pub both : (a b : Bool) → (a && b) ≡ true → (a ≡ true) × (b ≡ true)

@@ -10,6 +10,7 @@ use Rattle.trace_types.specs.Operation.{Operation}
 use Rattle.trace_types.specs.declared.kinds.Field.{Field}
 use Rattle.trace_types.specs.declared.kinds.Field.TheVariants.{Held, Null, Me}
 use Rattle.trace_types.specs.declared.kinds.Kind.{Kind}
+use Rattle.trace_reader.specs.Writing.{names_before}
 
 -- a member in front of others: `"from":3,`
 unfoldable pub text_ahead : List ℕ → List ℕ → List ℕ
@@ -52,10 +53,6 @@ text_if text (Some value) = text value
 -- the value of the member of that name, where one is written
 abbrev pub value_at : List ℕ → Kind → Option (List ℕ)
 value_at name k = value_text (table.value_of name (table.members k))
-
--- the names that come before `id`, in the order of their bytes
-abbrev pub names_before : List (List ℕ)
-names_before = codes "a" ∷ codes "b" ∷ codes "c" ∷ codes "desired" ∷ codes "expected" ∷ codes "fields" ∷ codes "from" ∷ codes "h" ∷ codes "i" ∷ []
 
 -- the members of these names, in front of others
 abbrev pub texts_ahead : List (List ℕ) → Kind → List ℕ

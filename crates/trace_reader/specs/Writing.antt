@@ -51,9 +51,13 @@ abbrev pub with_members : List (List ℕ) → Kind → Members → Members
 with_members [] k ms = ms
 with_members (name ∷ names) k ms = with_value name (table.value_of name (table.members k)) (with_members names k ms)
 
--- the members whose names come before `id`, and then the others
+-- the names that come before `id`, in the order of their bytes
+abbrev pub names_before : List (List ℕ)
+names_before = codes "a" ∷ codes "b" ∷ codes "c" ∷ codes "desired" ∷ codes "expected" ∷ codes "fields" ∷ codes "from" ∷ codes "h" ∷ codes "i" ∷ []
+
+-- the members before `id`, and then the others
 abbrev pub members_before : Kind → Members → Members
-members_before k ms = with_members (codes "a" ∷ codes "b" ∷ codes "c" ∷ codes "desired" ∷ codes "expected" ∷ codes "fields" ∷ codes "from" ∷ codes "h" ∷ codes "i" ∷ []) k ms
+members_before k ms = with_members names_before k ms
 
 -- the members whose names come after `t`
 abbrev pub members_after : Kind → Members
