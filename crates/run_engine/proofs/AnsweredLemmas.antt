@@ -2,7 +2,7 @@
 use Rattle.std.proofs.Common.{◌≡◌, ℕ, zero, suc, ◌+◌, Bool, true, false, cond, nat_eq, nat_lt, eq-eqb, List, [], ◌∷◌, length, refl, ap, sym, subst, ◌∙◌, T, arith}
 use Rattle.std.specs.Prelude.{◌==◌, ◌&&◌, ◌||◌, not, filter, fold, slice_get, option_map, Option, Some, None, IsTrue, if◌then◌else◌}
 use Rattle.std.specs.Option.{option_map_or}
-use Rattle.std.specs.List.{list_any, position_from}
+use Rattle.std.specs.List.{position_from}
 use Rattle.std.proofs.Math.Facts.{eqb_yes}
 use Rattle.std.proofs.lemmas.Bool.{ne_eqb}
 use Rattle.std.proofs.lemmas.List.Elements.{filter_agree}
@@ -11,6 +11,7 @@ use Rattle.trace_types.specs.Trace.{place_of, is_taken, has_distinct_numbers}
 use Rattle.run_engine.specs.Segments.{without}
 use Rattle.run_engine.specs.GivenUp.{given_up, name_at}
 use Rattle.run_engine.specs.Cleared.{is_named}
+use Rattle.run_engine.specs.Onward.{among}
 use Rattle.run_engine.proofs.EditLemmas.{right}
 use Rattle.run_engine.proofs.NumberLemmas.{alone, within}
 use Rattle.run_engine.proofs.GoneLemmas.{given-up-at}
@@ -19,9 +20,6 @@ use Rattle.run_engine.proofs.ClearedLemmas.{goes}
 -- whether a number is this one, or one of these
 abbrev is_own : ℕ → ℕ → Bool
 is_own g id = id == g
-
-abbrev pub among : List ℕ → ℕ → Bool
-among names id = list_any (λ name. id == name) names
 
 -- the number of the operation at a place, if there is one
 abbrev number_at : List Operation → ℕ → Option ℕ

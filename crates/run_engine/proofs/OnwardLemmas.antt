@@ -12,9 +12,9 @@ use Rattle.run_engine.specs.Marks.{multiples_below}
 use Rattle.run_engine.specs.Memo.{IsSearched, AreSome}
 use Rattle.run_engine.specs.NewMarks.{IsGap, AreLaid}
 use Rattle.run_engine.specs.GivenUp.{given_up, name_at, names_at}
-use Rattle.run_engine.specs.Onward.{AreNames, AreMore, LeaveSame, cuts, AreMarksTouched, AreAnswered, IsWay, IsOnward}
+use Rattle.run_engine.specs.Onward.{among, AreNames, AreMore, LeaveSame, cuts, AreMarksTouched, AreAnswered, IsWay, IsOnward}
 use Rattle.run_engine.proofs.TouchLemmas.{AreTouches-append}
-use Rattle.run_engine.proofs.AnsweredLemmas.{among, given_up-all}
+use Rattle.run_engine.proofs.AnsweredLemmas.{given_up-all}
 use Rattle.run_engine.proofs.ClearedLemmas.{goes}
 use Rattle.run_engine.proofs.LoadLemmas.{multiples_below-next}
 use Rattle.run_engine.proofs.MarksLemmas.{LeadTo-append}

@@ -9,44 +9,49 @@ use Rattle.run_engine.specs.NewMarks.{AreLaid, AreMarksOf, AreMarksAfter}
 use Rattle.run_engine.specs.Memo.{AreSome}
 use Rattle.run_engine.specs.GivenUp.{AreTouches, given_up, names_at, between}
 
+-- whether a name is one of these
+abbrev pub among : List ℕ → ℕ → Bool
+among names id = list_any (λ name. id == name) names
+
 -- a test holds for these names and no others
 abbrev pub AreNames : (ℕ → Bool) → List ℕ → Type 0
-AreNames named names = (id : ℕ) → named id ≡ list_any (λ name. id == name) names
+AreNames named names = (id : ℕ) → named id ≡ among names id
 
 -- where the first test holds the second does
 abbrev pub AreMore : (ℕ → Bool) → (ℕ → Bool) → Type 0
 AreMore named more = (id : ℕ) → named id ≡ true → more id ≡ true
 
--- given up by these names, both lists of checkpoints leave the same
+-- where the checkpoints with these names are given up, both lists of checkpoints leave the same
 abbrev pub LeaveSame : List Operation → List ℕ → List ℕ → List ℕ → Type 0
-LeaveSame trace gone marks all = fold (given_up trace) marks gone ≡ fold (given_up trace) all gone
+LeaveSame trace names marks all = fold (given_up trace) marks names ≡ fold (given_up trace) all names
 
 -- the cuts from one position on below another, each 64 behind the one before it
 abbrev pub cuts : ℕ → ℕ → List ℕ
 cuts from to = map (λ p. from + p) (multiples_below (to - from))
 
--- touches of these names and look-ups of chunks lead from one shelf to another, whose chunks are not new
-pub record AreMarksTouched (old new : Shelf) (names gone : List ℕ) : Type 0 where
-  pub touches : (s : Shelf) → s.most_marks ≡ old.most_marks → AreTouches (record s { marks = old.marks }) names gone (record s { marks = new.marks })
+-- touches of names, which answer others, and look-ups of chunks lead from one shelf to another, whose chunks are not new
+pub record AreMarksTouched (old new : Shelf) (names answers : List ℕ) : Type 0 where
+  pub touches : (s : Shelf) → s.most_marks ≡ old.most_marks → AreTouches (record s { marks = old.marks }) names answers (record s { marks = new.marks })
   pub most_marks : new.most_marks ≡ old.most_marks
   pub most_chunks : new.most_chunks ≡ old.most_chunks
   pub most_names : new.most_names ≡ old.most_names
   pub fewer : AreSome new.chunks old.chunks
 
--- so they do, and the names that they answered join a set
+-- touches of names and look-ups of chunks lead from one shelf to another, and a test that held for some names holds for those that were
+-- answered, too
 pub record AreAnswered (old new : Shelf) (names : List ℕ) (before after : ℕ → Bool) : Type 0 where
   pub answers : List ℕ
   pub touched : AreMarksTouched old new names answers
   pub join : (first : List ℕ) → AreNames before first → AreNames after (first ++ answers)
   pub rise : AreMore before after
 
--- a replay goes on from one position to another with these cuts on the way: the checkpoints that it has then, and all that are due, leave
--- the same, whichever names are given up, if these are among them
+-- a replay goes on from one position to another with these cuts on the way: the checkpoints that it has then leave the same as all that
+-- are due, whichever names are given up, if those for which the test holds are among them
 pub record IsWay (trace : List Operation) (old : List ℕ) (at to : ℕ) (more marks new : List ℕ) (gone : ℕ → Bool) : Type 0 where
   pub lead : (kept : List ℕ) (r : ℕ) (all : List ℕ) → AreLaid old kept r at all → AreLaid old kept r to (all ++ more)
-  pub left : (names all : List ℕ) → AreMore gone (λ id. list_any (λ name. id == name) names) → LeaveSame trace names marks all → LeaveSame trace names new (all ++ more)
+  pub left : (names all : List ℕ) → AreMore gone (among names) → LeaveSame trace names marks all → LeaveSame trace names new (all ++ more)
 
--- there are such cuts, and their names were touched
+-- a replay goes on from one position to another with some cuts on the way, whose names are touched
 pub record IsOnward (trace : List Operation) (old : List ℕ) (at to : ℕ) (marks new : List ℕ) (shelf after : Shelf) (before gone : ℕ → Bool) : Type 0 where
   pub more : List ℕ
   pub way : IsWay trace old at to more marks new gone
@@ -57,7 +62,7 @@ pub record AreMarksLeft (trace ops : List Operation) (kept old new : List ℕ) (
   pub all : List ℕ
   pub stop : ℕ
   pub marks : AreMarksOf trace ops kept old all r a b stop
-  pub left : (names : List ℕ) → AreMore gone (λ id. list_any (λ name. id == name) names) → LeaveSame ops names new all
+  pub left : (names : List ℕ) → AreMore gone (among names) → LeaveSame ops names new all
   pub answered : AreAnswered shelf after (names_at ops (r ∷ marks.fresh)) before gone
 
 -- the same of the run of an edited trace, beside the old run

@@ -19,8 +19,8 @@ use op_step::meter::Meter;
 use std::alloc::{AllocError, Global};
 use trace_types::ops::Op;
 
-/// Goes on with the replay to a position: the names of all checkpoints on the way are touched first, and where a name is answered by then
-/// the operations are stepped in place.
+/// Goes on with the replay to a position: the names of all checkpoints on the way are touched first. Where a name is answered by then,
+/// the operations behind it are stepped in place, unless the shelf has a chunk of them.
 pub fn go_ahead(
     alloc: Global,
     ops: &Listing,

@@ -154,7 +154,7 @@ fn spliced(front: Piece, rest: Vec<Segment>, end: Heap, len: usize) -> Result<Pi
 
 /// Goes on with the replay to its end, or to the first old checkpoint at or behind the seam where the heaps agree.
 ///
-/// From there on each operation has its old neighbours, so that behind a checkpoint with another heap no old stretch serves.
+/// From the seam on an old stretch could begin at an old checkpoint alone, and at each that is passed the heap is another: none serves.
 pub fn converge(
     alloc: Global,
     revision: &Revision,

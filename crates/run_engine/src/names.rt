@@ -3,20 +3,11 @@ ghost use Rattle.std.specs.Prelude.{◌≡◌, ◌++◌, ℕ, List, None, OnOk, 
 ghost use Rattle.std.specs.Ordering.{nat_cmp};
 ghost use Rattle.std.specs.BTreeSet.{contains};
 ghost use Rattle.run_engine.specs.Onward.{AreNames};
-ghost use Rattle.run_engine.specs.Cleared.{is_named, cleared_if, last_name, cleared};
+ghost use Rattle.run_engine.specs.Cleared.{is_named, cleared_if, cleared};
 
 use crate::segment::Segment;
 use std::alloc::AllocError;
 use std::collections::BTreeSet;
-use trace_types::ops::Op;
-
-// The number of the last operation.
-fn last_id(ops: &[Op]) -> Option<u32>
-    ensures { result ≡ last_name ops.now }
-{
-    let op = ops.last()?;
-    Some(op.id())
-}
 
 /// Adds a name to a set, if there is one.
 pub fn add_name(names: &mut BTreeSet<u32>, name: Option<u32>) -> Result<(), AllocError>
@@ -36,7 +27,7 @@ pub fn clear_named(segments: &mut Vec<Segment>, names: &BTreeSet<u32>)
     let mut before = None;
     for segment in segments.iter_mut() {
         clear_if(segment, is_among(before, names));
-        before = last_id(segment.ops());
+        before = segment.last_id();
     }
 }
 

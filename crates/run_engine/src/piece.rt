@@ -22,7 +22,7 @@ use trace_types::ops::Op;
 pub const STRIDE: usize = 64;
 
 /// A piece of a replay: its segments, the heap after them, how many operations they have, the chunks that were stepped for it, and the
-/// names of checkpoints that the shelf answered before it.
+/// names of checkpoints that the shelf has answered so far.
 #[derive(Drop)]
 pub struct Piece {
     pub segments: Vec<Segment>,
@@ -51,7 +51,7 @@ impl Piece {
     }
 }
 
-/// A piece and the next behind it, with the names that were answered before the first.
+/// A piece and the next behind it, with the answered names of the first.
 pub fn joined(front: Piece, next: Piece) -> Result<Piece, AllocError>
     requires { front.len + next.len < 2 ^ 64 }
     ensures segments { IfOk result (λ p. p.segments.items ≡ front.segments.items ++ next.segments.items) }
@@ -138,8 +138,8 @@ pub fn found(
     Ok(Some(piece))
 }
 
-/// Goes on behind a front by operations, all of which are stepped in place: they have no checkpoint where they begin, and the chunk is
-/// gone.
+/// Goes on behind a front by operations, all of which are stepped on the front's own heap: they have no checkpoint where they begin, and
+/// no chunk.
 pub fn replayed_on(
     alloc: Global,
     front: Piece,

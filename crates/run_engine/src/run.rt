@@ -151,7 +151,7 @@ impl Run {
         Ok(run)
     }
 
-    // The run of the trace after the edits, with all the checkpoints that its replay leaves.
+    // The run of the trace after the edits, whose checkpoints with answered names are still to be given up where they are there.
     fn revised(
         &self,
         alloc: Global,

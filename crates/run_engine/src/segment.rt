@@ -3,6 +3,7 @@ ghost use Rattle.std.specs.Prelude.{◌≡◌, ◌++◌, length, IfOk, OnOk, Non
 ghost use Rattle.std.specs.Arc.{arc_value};
 ghost use Rattle.std.specs.Option.{option_copied};
 ghost use Rattle.ownership_model.specs.Step.{outcomes_from};
+ghost use Rattle.run_engine.specs.Cleared.{last_name};
 ghost use Rattle.run_engine.specs.Exchanged.{exchanged, IsExchangeable};
 
 use crate::part::{Bounds, Part, bounds_of};
@@ -24,9 +25,11 @@ pub struct Segment {
     mark: Option<Arc<Checkpoint>>,
     body: Arc<Replayed>,
     bounds: Bounds,
+    last: Option<u32>,
 }
 
 impl Model for Segment {
+    ghost use Rattle.std.specs.Prelude.{◌≡◌};
     ghost use Rattle.std.specs.Arc.{arc_value};
     ghost use Rattle.std.specs.Option.{option_map};
     ghost use Rattle.run_engine.specs.SegmentView.{SegmentView, segment_code};
@@ -36,10 +39,11 @@ impl Model for Segment {
     ghost coded = { segment_code };
 
     ghost use Rattle.run_engine.specs.Parts.{AreBetween};
+    ghost use Rattle.run_engine.specs.Cleared.{last_name};
 
     ghost view = { λ s. record { mark = option_map arc_value s.mark; ops = (arc_value s.body).ops.items; outcomes = (arc_value s.body).outcomes } };
 
-    ghost invariant = { λ s. AreBetween s.bounds.least s.bounds.greatest (arc_value s.body).ops.items };
+    ghost invariant = { λ s. AreBetween s.bounds.least s.bounds.greatest (arc_value s.body).ops.items × (s.last ≡ last_name (arc_value s.body).ops.items) };
 }
 
 impl Segment {
@@ -52,6 +56,7 @@ impl Segment {
             mark: Some(Arc::new(alloc, start)?),
             body: Arc::try_clone(chunk.replayed())?,
             bounds: bounds_of(chunk.ops()),
+            last: last_id(chunk.ops()),
         })
     }
 
@@ -64,10 +69,12 @@ impl Segment {
         ensures { IfOk result (λ s. s ≡ record { mark = None; ops = ops.items; outcomes = outcomes }) }
     {
         let bounds = bounds_of(&ops);
+        let last = last_id(&ops);
         Ok(Segment {
             mark: None,
             body: Arc::new(alloc, Replayed { ops, outcomes })?,
             bounds,
+            last,
         })
     }
 
@@ -83,6 +90,7 @@ impl Segment {
             mark,
             body: Arc::try_clone(&self.body)?,
             bounds: self.bounds,
+            last: self.last,
         })
     }
 
@@ -99,6 +107,7 @@ impl Segment {
             mark,
             body: Arc::try_clone(&self.body)?,
             bounds: self.bounds,
+            last: self.last,
         })
     }
 
@@ -113,6 +122,13 @@ impl Segment {
         ensures { result ≡ self.now.ops }
     {
         Part::new(self.body.ops.as_slice(), self.bounds)
+    }
+
+    /// The number of the last operation, which is kept beside them: they aren't looked at.
+    pub fn last_id(&self) -> Option<u32>
+        ensures { result ≡ last_name self.now.ops }
+    {
+        self.last
     }
 
     pub fn outcomes(&self) -> &[Outcome]
@@ -155,6 +171,14 @@ impl Segment {
     {
         self.mark.take().is_some()
     }
+}
+
+// The number of the last operation.
+fn last_id(ops: &[Op]) -> Option<u32>
+    ensures { result ≡ last_name ops.now }
+{
+    let op = ops.last()?;
+    Some(op.id())
 }
 
 /// The same segments again.

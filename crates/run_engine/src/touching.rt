@@ -48,7 +48,7 @@ pub fn touch_at(
     Ok(())
 }
 
-/// The name of the inner checkpoint at a position: none stands at the begin and at the end.
+/// The name of the inner checkpoint at a position: none stands at the beginning or at the end.
 pub fn inner_name(ops: &Listing, at: usize) -> Option<u32>
     ensures { option_to_list result ≡ names_at ops.now.ops (at ∷ []) }
 {
