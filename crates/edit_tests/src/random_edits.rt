@@ -106,14 +106,17 @@ fn is_replay(alloc: Global, run: &Run) -> Result<bool, Fail> {
             return Ok(false);
         }
     }
-    Ok(run.end().same(&end) && outcomes.as_slice().len() == run.len())
+    let same = run.end().same(&end) && run.end().sum() == end.sum();
+    Ok(same && outcomes.as_slice().len() == run.len())
 }
 
 // How many edits of one trace stop early though the ends differ, and how many step nothing.
 fn told(alloc: Global, seed: u32) -> Result<(u32, u32), Fail> {
     let mut dice = Dice { state: seed };
     let mut run = Run::load(alloc, &rolled_trace(alloc, &mut dice)?, &mut Meter::new())?;
-    let mut shelf = MarkShelf::new(alloc, 64, 32, 32)?;
+    // a shelf with few names answers most that an edit touches
+    let marks = if seed % 2 == 0 { 64 } else { 3 };
+    let mut shelf = MarkShelf::new(alloc, marks, 32, 32)?;
     let mut early = 0u32;
     let mut known = 0u32;
     let mut is_there = false;

@@ -40,13 +40,18 @@ pub fn note(names: &mut IndexMap<ChunkName, u64>, most: usize, name: ChunkName, 
     }
 }
 
-/// The chunk again, if it begins with this heap and has these operations. A heap may be large: it is compared last.
+/// The chunk again, if it begins with this heap and has these operations. A heap may be large: it is compared last, and only where its
+/// sum is that of the chunk's start, as it is of equal heaps.
 pub fn serving(chunk: &ChunkRun, heap: &Heap, ops: &[Op]) -> Option<ChunkRun>
     ensures same { IfSome result (λ c. c ≡ chunk.now) }
     ensures start { IfSome result (λ c. c.start ≡ heap.now) }
     ensures ops { IfSome result (λ c. c.ops ≡ ops.now) }
 {
-    if same_ops(chunk.ops(), ops) && chunk.start().same(heap) {
+    if !same_ops(chunk.ops(), ops) {
+        return None;
+    }
+    let start = chunk.start();
+    if start.sum() == heap.sum() && start.same(heap) {
         chunk.share().ok()
     } else {
         None

@@ -12,8 +12,9 @@ ghost use Rattle.object_heap.specs.NamesCounted.{AreNamesCounted};
 ghost use Rattle.object_heap.specs.Gains.{Changes, CountsMore, HasRoom, HasSlots};
 
 use crate::counters::{
-    Counters, counters_of, hold, hold_all, hold_holding, let_go, let_go_all, let_go_holding,
+    counters_of, hold, hold_all, hold_holding, let_go, let_go_all, let_go_holding,
 };
+use crate::counts::Counts;
 use crate::draft::Draft;
 use crate::objects::Objects;
 use share_tree::ShareTree;
@@ -181,7 +182,7 @@ impl Draft {
 // Ranks an object that is to be made over what its fields name, where no field names it yet. Else its rank is left.
 fn rank_new(
     alloc: Global,
-    counts: &ShareTree<Counters>,
+    counts: &Counts,
     objects: &mut Objects,
     object: u32,
     fields: &Sequence<Slot>,
@@ -203,7 +204,7 @@ fn rank_new(
 // What the handle holds, if it holds anything, is counted no more.
 fn let_go_handle(
     alloc: Global,
-    counts: &mut ShareTree<Counters>,
+    counts: &mut Counts,
     handles: &ShareTree<Holding>,
     handle: u32,
 ) -> Result<(), AllocError>
@@ -219,7 +220,7 @@ fn let_go_handle(
 // What the cell holds, if there is one, is counted no more.
 fn let_go_cell(
     alloc: Global,
-    counts: &mut ShareTree<Counters>,
+    counts: &mut Counts,
     cells: &ShareTree<Slot>,
     cell: u32,
 ) -> Result<(), AllocError>

@@ -7,7 +7,7 @@ ghost use Rattle.ownership_model.specs.Changes.{changed, CanChange};
 ghost use Rattle.ownership_model.specs.Release.{release};
 ghost use Rattle.object_heap.specs.Counted.{state_of, IsKept};
 
-use crate::counters::Counters;
+use crate::counts::Counts;
 use crate::objects::Objects;
 use crate::scopes::Scopes;
 use share_tree::ShareTree;
@@ -22,7 +22,7 @@ pub struct Draft {
     pub handles: ShareTree<Holding>,
     pub cells: ShareTree<Slot>,
     pub objects: Objects,
-    pub counts: ShareTree<Counters>,
+    pub counts: Counts,
     pub scopes: Scopes,
 }
 
@@ -36,7 +36,7 @@ impl Draft {
             handles: ShareTree::empty(),
             cells: ShareTree::empty(),
             objects: Objects::empty(),
-            counts: ShareTree::empty(),
+            counts: Counts::empty(),
             scopes: Scopes::empty(),
         }
     }

@@ -4,6 +4,7 @@
 mod cascade;
 mod changes;
 mod counters;
+mod counts;
 mod draft;
 mod exchange;
 pub mod heap;
