@@ -1,4 +1,4 @@
-//! Tests of agreement and shelves, through what those crates promise.
+//! Tests of agreement, shelves and sums, through what those crates promise.
 #![tactic(auto)]
 
 #[cfg(test)]
@@ -9,3 +9,5 @@ mod chains;
 mod exchanges;
 #[cfg(test)]
 mod shelves;
+#[cfg(test)]
+mod sums;

@@ -190,16 +190,3 @@ fn chunk_by_content(rt: HostRuntime) -> Result<(), Fail> {
     assert!(rt; !finds(&mut shelf, &without_8));
     Ok(())
 }
-
-// A heap in which an object is named once more has another sum; heaps that are the same have the same, however they came to be.
-#[test]
-fn sums_of_heaps(rt: HostRuntime) -> Result<(), Fail> {
-    let alloc = rt.alloc();
-    let before = chunk(alloc, &cycle_without(alloc, 0, 2)?)?;
-    let cloned = chunk(alloc, &cycle_without(alloc, 0, 3)?)?;
-    assert!(rt; before.end().sum() != cloned.end().sum());
-    let freed = chunk(alloc, &cycle_without(alloc, 0, 11)?)?;
-    assert!(rt; freed.end().same(&Heap::empty()));
-    assert_eq!(rt; freed.end().sum(), Heap::empty().sum());
-    Ok(())
-}

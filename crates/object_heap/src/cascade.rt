@@ -114,14 +114,14 @@ impl Draft {
                 weak: was.weak,
                 ends: was.ends + 1,
             };
-            return set_counters(alloc, &mut self.counts, object, was, last);
+            return set_counters(alloc, &mut self.counts, object, last);
         }
         let less = Counters {
             strong,
             weak: was.weak,
             ends: was.ends,
         };
-        set_counters(alloc, &mut self.counts, object, was, less)
+        set_counters(alloc, &mut self.counts, object, less)
     }
 
     fn drop_weak(
@@ -141,7 +141,7 @@ impl Draft {
             weak: was.weak - 1,
             ends: was.ends,
         };
-        set_counters(alloc, &mut self.counts, object, was, less)?;
+        set_counters(alloc, &mut self.counts, object, less)?;
         if self.is_last(object, less) {
             return self.free(alloc, object, events);
         }
@@ -165,7 +165,7 @@ impl Draft {
             weak: was.weak,
             ends: was.ends - 1,
         };
-        set_counters(alloc, &mut self.counts, object, was, less)?;
+        set_counters(alloc, &mut self.counts, object, less)?;
         if less.weak == 0 {
             return self.free(alloc, object, events);
         }

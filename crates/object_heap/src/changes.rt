@@ -12,11 +12,11 @@ ghost use Rattle.object_heap.specs.NamesCounted.{AreNamesCounted};
 ghost use Rattle.object_heap.specs.Gains.{Changes, CountsMore, HasRoom, HasSlots};
 
 use crate::counters::{
-    counters_of, hold, hold_all, hold_holding, let_go, let_go_all, let_go_holding,
+    Counters, counters_of, hold, hold_all, hold_holding, let_go, let_go_all, let_go_holding,
 };
-use crate::counts::Counts;
 use crate::draft::Draft;
 use crate::objects::Objects;
+use crate::summed::Summed;
 use share_tree::ShareTree;
 use std::alloc::{AllocError, Global};
 use trace_types::sequence::Sequence;
@@ -182,7 +182,7 @@ impl Draft {
 // Ranks an object that is to be made over what its fields name, where no field names it yet. Else its rank is left.
 fn rank_new(
     alloc: Global,
-    counts: &Counts,
+    counts: &ShareTree<Counters>,
     objects: &mut Objects,
     object: u32,
     fields: &Sequence<Slot>,
@@ -204,8 +204,8 @@ fn rank_new(
 // What the handle holds, if it holds anything, is counted no more.
 fn let_go_handle(
     alloc: Global,
-    counts: &mut Counts,
-    handles: &ShareTree<Holding>,
+    counts: &mut ShareTree<Counters>,
+    handles: &Summed<Holding>,
     handle: u32,
 ) -> Result<(), AllocError>
     requires { HasSlots counts.old (λ w. option_map_or (holding_weight w) (map.get handles.now handle) 0) }
@@ -220,8 +220,8 @@ fn let_go_handle(
 // What the cell holds, if there is one, is counted no more.
 fn let_go_cell(
     alloc: Global,
-    counts: &mut Counts,
-    cells: &ShareTree<Slot>,
+    counts: &mut ShareTree<Counters>,
+    cells: &Summed<Slot>,
     cell: u32,
 ) -> Result<(), AllocError>
     requires { HasSlots counts.old (λ w. option_map_or w (map.get cells.now cell) 0) }

@@ -6,7 +6,7 @@ ghost use Rattle.ownership_model.specs.Bounds.{HoldingFits};
 ghost use Rattle.object_heap.specs.Counted.{counters_at};
 ghost use Rattle.object_heap.specs.Gains.{IsSetAt, CountsMore, CountsItem, HasSlots, HasRoom};
 
-use crate::counts::Counts;
+use share_tree::ShareTree;
 use std::alloc::{AllocError, Global};
 use trace_types::limits::MAX_FIELDS;
 use trace_types::slots::{Holding, Item, Slot};
@@ -20,7 +20,7 @@ pub struct Counters {
 }
 
 /// The counters of an object; zeros where none are kept.
-pub fn counters_of(counts: &Counts, object: u32) -> Counters
+pub fn counters_of(counts: &ShareTree<Counters>, object: u32) -> Counters
     ensures { result ≡ counters_at (map.get counts.now object) }
 {
     match counts.get(object) {
@@ -33,25 +33,24 @@ pub fn counters_of(counts: &Counts, object: u32) -> Counters
     }
 }
 
-/// Gives an object these counters in place of those that it had. None are kept for an object that nothing names.
+/// Gives an object these counters. None are kept for an object that nothing names.
 pub fn set_counters(
     alloc: Global,
-    counts: &mut Counts,
+    counts: &mut ShareTree<Counters>,
     object: u32,
-    was: Counters,
     counters: Counters,
 ) -> Result<(), AllocError>
     ensures { OnOk result (IsSetAt counts.old counts.new object counters) }
 {
     if counters.strong == 0 && counters.weak == 0 && counters.ends == 0 {
-        counts.remove(alloc, object, was)
+        counts.remove(alloc, object)
     } else {
-        counts.insert(alloc, object, was, counters)
+        counts.insert(alloc, object, counters)
     }
 }
 
 /// Counts a slot more.
-pub fn hold(alloc: Global, counts: &mut Counts, slot: Slot) -> Result<(), AllocError>
+pub fn hold(alloc: Global, counts: &mut ShareTree<Counters>, slot: Slot) -> Result<(), AllocError>
     requires { HasRoom counts.old 1 }
     ensures { OnOk result (CountsMore counts.old counts.new (λ w. w slot)) }
 {
@@ -63,7 +62,7 @@ pub fn hold(alloc: Global, counts: &mut Counts, slot: Slot) -> Result<(), AllocE
                 weak: was.weak,
                 ends: was.ends,
             };
-            set_counters(alloc, counts, object, was, more)
+            set_counters(alloc, counts, object, more)
         }
         Slot::Weak(object) => {
             let was = counters_of(counts, object);
@@ -72,14 +71,14 @@ pub fn hold(alloc: Global, counts: &mut Counts, slot: Slot) -> Result<(), AllocE
                 weak: was.weak + 1,
                 ends: was.ends,
             };
-            set_counters(alloc, counts, object, was, more)
+            set_counters(alloc, counts, object, more)
         }
         Slot::Nothing | Slot::Dangling => Ok(()),
     }
 }
 
 /// Counts a slot no more.
-pub fn let_go(alloc: Global, counts: &mut Counts, slot: Slot) -> Result<(), AllocError>
+pub fn let_go(alloc: Global, counts: &mut ShareTree<Counters>, slot: Slot) -> Result<(), AllocError>
     requires { HasSlots counts.old (λ w. w slot) }
     ensures { OnOk result (CountsMore counts.new counts.old (λ w. w slot)) }
 {
@@ -91,7 +90,7 @@ pub fn let_go(alloc: Global, counts: &mut Counts, slot: Slot) -> Result<(), Allo
                 weak: was.weak,
                 ends: was.ends,
             };
-            set_counters(alloc, counts, object, was, less)
+            set_counters(alloc, counts, object, less)
         }
         Slot::Weak(object) => {
             let was = counters_of(counts, object);
@@ -100,14 +99,18 @@ pub fn let_go(alloc: Global, counts: &mut Counts, slot: Slot) -> Result<(), Allo
                 weak: was.weak - 1,
                 ends: was.ends,
             };
-            set_counters(alloc, counts, object, was, less)
+            set_counters(alloc, counts, object, less)
         }
         Slot::Nothing | Slot::Dangling => Ok(()),
     }
 }
 
 /// Counts an item that is pending.
-pub fn hold_item(alloc: Global, counts: &mut Counts, item: Item) -> Result<(), AllocError>
+pub fn hold_item(
+    alloc: Global,
+    counts: &mut ShareTree<Counters>,
+    item: Item,
+) -> Result<(), AllocError>
     requires { HasRoom counts.old 1 }
     ensures { OnOk result (CountsItem counts.old counts.new item) }
 {
@@ -120,13 +123,17 @@ pub fn hold_item(alloc: Global, counts: &mut Counts, item: Item) -> Result<(), A
                 weak: was.weak,
                 ends: was.ends + 1,
             };
-            set_counters(alloc, counts, object, was, more)
+            set_counters(alloc, counts, object, more)
         }
     }
 }
 
 /// Counts each of the slots.
-pub fn hold_all(alloc: Global, counts: &mut Counts, slots: &[Slot]) -> Result<(), AllocError>
+pub fn hold_all(
+    alloc: Global,
+    counts: &mut ShareTree<Counters>,
+    slots: &[Slot],
+) -> Result<(), AllocError>
     requires { HasRoom counts.old (length slots.now) }
     ensures { OnOk result (CountsMore counts.old counts.new (λ w. slots_weight w slots.now)) }
 {
@@ -137,7 +144,11 @@ pub fn hold_all(alloc: Global, counts: &mut Counts, slots: &[Slot]) -> Result<()
 }
 
 /// Counts none of the slots any more.
-pub fn let_go_all(alloc: Global, counts: &mut Counts, slots: &[Slot]) -> Result<(), AllocError>
+pub fn let_go_all(
+    alloc: Global,
+    counts: &mut ShareTree<Counters>,
+    slots: &[Slot],
+) -> Result<(), AllocError>
     requires { HasSlots counts.old (λ w. slots_weight w slots.now) }
     ensures { OnOk result (CountsMore counts.new counts.old (λ w. slots_weight w slots.now)) }
 {
@@ -148,7 +159,11 @@ pub fn let_go_all(alloc: Global, counts: &mut Counts, slots: &[Slot]) -> Result<
 }
 
 /// Counts what a handle holds.
-pub fn hold_holding(alloc: Global, counts: &mut Counts, holding: &Holding) -> Result<(), AllocError>
+pub fn hold_holding(
+    alloc: Global,
+    counts: &mut ShareTree<Counters>,
+    holding: &Holding,
+) -> Result<(), AllocError>
     requires room { HasRoom counts.old MAX_FIELDS }
     requires fits { HoldingFits holding.now }
     ensures { OnOk result (CountsMore counts.old counts.new (λ w. holding_weight w holding.now)) }
@@ -162,7 +177,7 @@ pub fn hold_holding(alloc: Global, counts: &mut Counts, holding: &Holding) -> Re
 /// Counts what a handle held no more.
 pub fn let_go_holding(
     alloc: Global,
-    counts: &mut Counts,
+    counts: &mut ShareTree<Counters>,
     holding: &Holding,
 ) -> Result<(), AllocError>
     requires { HasSlots counts.old (λ w. holding_weight w holding.now) }

@@ -7,9 +7,10 @@ ghost use Rattle.ownership_model.specs.Changes.{changed, CanChange};
 ghost use Rattle.ownership_model.specs.Release.{release};
 ghost use Rattle.object_heap.specs.Counted.{state_of, IsKept};
 
-use crate::counts::Counts;
+use crate::counters::Counters;
 use crate::objects::Objects;
 use crate::scopes::Scopes;
+use crate::summed::Summed;
 use share_tree::ShareTree;
 use std::alloc::{AllocError, Global};
 use std::collections::VecDeque;
@@ -19,10 +20,10 @@ use trace_types::slots::{Change, Holding, Item, Slot};
 /// What handles and cells hold, which objects stand, how often each is named, and in which scopes the handles stand.
 #[derive(Drop)]
 pub struct Draft {
-    pub handles: ShareTree<Holding>,
-    pub cells: ShareTree<Slot>,
+    pub handles: Summed<Holding>,
+    pub cells: Summed<Slot>,
     pub objects: Objects,
-    pub counts: Counts,
+    pub counts: ShareTree<Counters>,
     pub scopes: Scopes,
 }
 
@@ -33,10 +34,10 @@ impl Draft {
         ensures counts { result.counts ≡ map.empty }
     {
         Draft {
-            handles: ShareTree::empty(),
-            cells: ShareTree::empty(),
+            handles: Summed::empty(),
+            cells: Summed::empty(),
             objects: Objects::empty(),
-            counts: Counts::empty(),
+            counts: ShareTree::empty(),
             scopes: Scopes::empty(),
         }
     }
@@ -96,5 +97,16 @@ impl Draft {
             && self.cells.same(&other.cells)
             && self.objects.same(&other.objects)
             && self.scopes.same(&other.scopes)
+    }
+
+    /// A number that equal states have in common.
+    pub fn sum(&self) -> u64 {
+        let held = self
+            .handles
+            .sum()
+            .wrapping_add(self.cells.sum().wrapping_mul(3));
+        let objects = self.objects.sum().wrapping_mul(5);
+        held.wrapping_add(objects)
+            .wrapping_add(self.scopes.sum().wrapping_mul(7))
     }
 }

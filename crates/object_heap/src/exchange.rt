@@ -10,8 +10,7 @@ ghost use Rattle.object_heap.specs.Counted.{state_of, IsCounted};
 ghost use Rattle.object_heap.specs.Exchange.{AreWithinLimits, without_keys, with_keys, PutsIn, TakesOut};
 ghost use Rattle.object_heap.specs.Gains.{CountsMore, HasRoom, HasSlots};
 
-use crate::counters::{hold_all, let_go_all};
-use crate::counts::Counts;
+use crate::counters::{Counters, hold_all, let_go_all};
 use crate::draft::Draft;
 use crate::objects::Objects;
 use ownership_model::remaining::Remaining;
@@ -98,7 +97,11 @@ impl Draft {
 }
 
 // Counts the fields of an object.
-fn hold_entry(alloc: Global, counts: &mut Counts, entry: &Entry) -> Result<(), AllocError>
+fn hold_entry(
+    alloc: Global,
+    counts: &mut ShareTree<Counters>,
+    entry: &Entry,
+) -> Result<(), AllocError>
     requires room { HasRoom counts.old MAX_FIELDS }
     requires fits { EntryFits entry.now }
     ensures { OnOk result (CountsMore counts.old counts.new (λ w. entry_weight w entry.now)) }
@@ -112,7 +115,7 @@ fn hold_entry(alloc: Global, counts: &mut Counts, entry: &Entry) -> Result<(), A
 // The fields of the object, if there is one, are counted no more.
 fn let_go_object(
     alloc: Global,
-    counts: &mut Counts,
+    counts: &mut ShareTree<Counters>,
     objects: &Objects,
     object: u32,
 ) -> Result<(), AllocError>
@@ -125,7 +128,11 @@ fn let_go_object(
     }
 }
 
-fn let_go_entry(alloc: Global, counts: &mut Counts, entry: &Entry) -> Result<(), AllocError>
+fn let_go_entry(
+    alloc: Global,
+    counts: &mut ShareTree<Counters>,
+    entry: &Entry,
+) -> Result<(), AllocError>
     requires { HasSlots counts.old (λ w. entry_weight w entry.now) }
     ensures { OnOk result (CountsMore counts.new counts.old (λ w. entry_weight w entry.now)) }
 {

@@ -136,10 +136,10 @@ impl Heap {
         counters_of(&self.draft.counts, object).weak
     }
 
-    /// A number that equal heaps have in common. Where some object isn't named as often in another heap, that one's number differs,
-    /// but by chance: so most that differ are told apart without a walk. It is a hint, and no clause speaks of it.
+    /// A number that equal heaps have in common. Others have different ones, but for a rare chance, so that they are told apart without a
+    /// walk. It sees what stands for each handle, cell and object, and each handle's scope. It is a hint, and no clause speaks of it.
     pub fn sum(&self) -> u64 {
-        self.draft.counts.sum()
+        self.draft.sum()
     }
 
     /// The handles that are held, rising.

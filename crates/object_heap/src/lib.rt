@@ -4,7 +4,6 @@
 mod cascade;
 mod changes;
 mod counters;
-mod counts;
 mod draft;
 mod exchange;
 pub mod heap;
@@ -13,5 +12,7 @@ pub mod place;
 mod ranks;
 pub mod reach;
 mod scopes;
+mod summed;
+mod weight;
 
 pub use heap::Heap;

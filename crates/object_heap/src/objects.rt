@@ -5,6 +5,7 @@ ghost use Rattle.std.specs.FinMap as map;
 ghost use Rattle.object_heap.specs.Descent.{DescendTo, IsUnnamed};
 
 use crate::ranks::{MAX_RANK, lower_from, rank_of, rank_over};
+use crate::summed::Summed;
 use share_tree::ShareTree;
 use std::alloc::{AllocError, Global};
 use std::marker::Model;
@@ -15,7 +16,7 @@ use trace_types::slots::{Entry, Slot};
 /// It also keeps a rank from which on no field names an object of its own object's rank or a higher one. An object ranks by its
 /// number, or higher, where it was made with a name of a later one: that rank is kept. The bound never falls.
 pub struct Objects {
-    entries: ShareTree<Entry>,
+    entries: Summed<Entry>,
     ranks: ShareTree<u64>,
     from: u64,
 }
@@ -53,7 +54,7 @@ impl Objects {
         ensures { result ≡ map.empty }
     {
         Objects {
-            entries: ShareTree::empty(),
+            entries: Summed::empty(),
             ranks: ShareTree::empty(),
             from: 0,
         }
@@ -96,6 +97,11 @@ impl Objects {
         ensures { IsTrue result ↔ (self.now ≡ other.now) }
     {
         self.entries.same(&other.entries)
+    }
+
+    /// A number that equal maps of objects have in common.
+    pub fn sum(&self) -> u64 {
+        self.entries.sum()
     }
 
     /// Something else stands for an object, or it comes to be.

@@ -5,6 +5,7 @@ ghost use Rattle.ownership_model.specs.Scopes.{scope_of, entered, left, times_in
 ghost use Rattle.object_heap.specs.Links.{first_of, earlier_in, relinked_later, relinked_earlier, last_without};
 
 use crate::place::Place;
+use crate::summed::Summed;
 use share_tree::ShareTree;
 use std::alloc::{AllocError, Global};
 use std::marker::Model;
@@ -14,7 +15,7 @@ use std::marker::Model;
 /// Two of them share what is the same in both.
 #[derive(Drop)]
 pub struct Scopes {
-    places: ShareTree<Place>,
+    places: Summed<Place>,
     last: ShareTree<u32>,
 }
 
@@ -37,7 +38,7 @@ impl Scopes {
         ensures { result ≡ [] }
     {
         Scopes {
-            places: ShareTree::empty(),
+            places: Summed::empty(),
             last: ShareTree::empty(),
         }
     }
@@ -57,6 +58,11 @@ impl Scopes {
         ensures { IsTrue result ↔ (self.now ≡ other.now) }
     {
         self.places.same(&other.places) && self.last.same(&other.last)
+    }
+
+    /// A number that equal scopes have in common: a handle's neighbours tell which is the last.
+    pub fn sum(&self) -> u64 {
+        self.places.sum()
     }
 
     /// The handle of the label's scope that was made last.
@@ -105,18 +111,18 @@ impl Scopes {
 
 // Nothing is linked any more.
 #[inline(never)]
-fn clear(places: &mut ShareTree<Place>, last: &mut ShareTree<u32>)
+fn clear(places: &mut Summed<Place>, last: &mut ShareTree<u32>)
     ensures places { places.new ≡ map.empty }
     ensures last { last.new ≡ map.empty }
 {
-    *places = ShareTree::empty();
+    *places = Summed::empty();
     *last = ShareTree::empty();
 }
 
 // The handle is the last of the label's scope.
 fn link(
     alloc: Global,
-    places: &mut ShareTree<Place>,
+    places: &mut Summed<Place>,
     last: &mut ShareTree<u32>,
     label: u32,
     handle: u32,
@@ -138,7 +144,7 @@ fn link(
 // The handle of this place stands in no scope any more, and its neighbours are each other's.
 fn unlink(
     alloc: Global,
-    places: &mut ShareTree<Place>,
+    places: &mut Summed<Place>,
     last: &mut ShareTree<u32>,
     handle: u32,
     place: Place,
@@ -155,7 +161,7 @@ fn unlink(
 // The handle, if there is one, has another neighbour after it.
 fn set_later(
     alloc: Global,
-    places: &mut ShareTree<Place>,
+    places: &mut Summed<Place>,
     handle: Option<u32>,
     later: Option<u32>,
 ) -> Result<(), AllocError>
@@ -173,7 +179,7 @@ fn set_later(
 // The handle, if there is one, has another neighbour before it.
 fn set_earlier(
     alloc: Global,
-    places: &mut ShareTree<Place>,
+    places: &mut Summed<Place>,
     handle: Option<u32>,
     earlier: Option<u32>,
 ) -> Result<(), AllocError>

@@ -1,0 +1,79 @@
+//! What stands in a place of a heap, as one number.
+use crate::place::Place;
+use trace_types::sequence::Sequence;
+use trace_types::slots::{Entry, Holding, Slot};
+
+/// A value as one number: equal values have equal ones, and others have different ones, but for a rare chance.
+pub trait Weigh {
+    fn weight(&self) -> u64;
+}
+
+impl Weigh for Slot {
+    fn weight(&self) -> u64 {
+        match self {
+            Slot::Nothing => 1,
+            Slot::Dangling => 2,
+            Slot::Strong(object) => 4 * (*object as u64) + 4,
+            Slot::Weak(object) => 4 * (*object as u64) + 5,
+        }
+    }
+}
+
+impl Weigh for Holding {
+    fn weight(&self) -> u64 {
+        match self {
+            Holding::Slot(slot) => slot.weight(),
+            Holding::Bare(fields) => scattered(1, of_fields(fields)),
+        }
+    }
+}
+
+impl Weigh for Entry {
+    fn weight(&self) -> u64 {
+        match self {
+            Entry::Alive(fields) => of_fields(fields),
+            Entry::Husk => 1,
+        }
+    }
+}
+
+impl Weigh for Place {
+    fn weight(&self) -> u64 {
+        let earlier = finalized(of_handle(self.earlier));
+        let beside = finalized(earlier.wrapping_add(of_handle(self.later)));
+        scattered(self.label, beside)
+    }
+}
+
+// A handle's number, and another where there is none.
+fn of_handle(handle: Option<u32>) -> u64 {
+    match handle {
+        Some(handle) => handle as u64 + 1,
+        None => 0,
+    }
+}
+
+// The fields in their order. No few of them have the weight of a husk.
+fn of_fields(fields: &Sequence<Slot>) -> u64 {
+    let mut weight: u64 = 2;
+    for slot in fields.as_slice() {
+        weight = weight
+            .wrapping_mul(0x9E37_79B9_7F4A_7C15)
+            .wrapping_add(slot.weight());
+    }
+    weight
+}
+
+/// What a value of this weight adds to a sum from its place.
+pub fn scattered(place: u32, weight: u64) -> u64 {
+    let seed = (place as u64 + 1).wrapping_mul(0x9E37_79B9_7F4A_7C15);
+    finalized(seed.wrapping_add(finalized(weight)))
+}
+
+// Each bit of a number depends on all of another, and no two numbers become one (the finalizer of SplitMix64: Steele, Lea and Flood, Fast
+// Splittable Pseudorandom Number Generators, OOPSLA 2014, figure 17).
+fn finalized(number: u64) -> u64 {
+    let mixed = (number ^ (number >> 30)).wrapping_mul(0xBF58_476D_1CE4_E5B9);
+    let mixed = (mixed ^ (mixed >> 27)).wrapping_mul(0x94D0_49BB_1331_11EB);
+    mixed ^ (mixed >> 31)
+}
