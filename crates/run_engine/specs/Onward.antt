@@ -25,7 +25,7 @@ AreMore named more = (id : ℕ) → named id ≡ true → more id ≡ true
 abbrev pub LeaveSame : List Operation → List ℕ → List ℕ → List ℕ → Type 0
 LeaveSame trace names marks all = fold (given_up trace) marks names ≡ fold (given_up trace) all names
 
--- the cuts from one position on below another, each 64 behind the one before it
+-- the cuts from one position on, and below another, each 64 behind the one before it
 abbrev pub cuts : ℕ → ℕ → List ℕ
 cuts from to = map (λ p. from + p) (multiples_below (to - from))
 
@@ -57,7 +57,8 @@ pub record IsOnward (trace : List Operation) (old : List ℕ) (at to : ℕ) (mar
   pub way : IsWay trace old at to more marks new gone
   pub answered : AreAnswered shelf after (names_at trace more) before gone
 
--- a replay with these checkpoints, which leave the same as all that are due as far as a stop: the names of those were touched
+-- a replay with these checkpoints, which leave the same as all that are due as far as a stop: the names of the restart and of those that
+-- are new were touched
 pub record AreMarksLeft (trace ops : List Operation) (kept old new : List ℕ) (r a b : ℕ) (shelf after : Shelf) (before gone : ℕ → Bool) : Type 0 where
   pub all : List ℕ
   pub stop : ℕ

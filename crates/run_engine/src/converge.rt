@@ -18,7 +18,7 @@ use crate::piece::{Piece, STRIDE, found, joined, stepped};
 use crate::rejoin::rejoined;
 use crate::revision::Revision;
 use crate::segment::{Segment, append};
-use crate::stretch::old_stretch;
+use crate::stretch::{may_begin, old_stretch};
 use crate::touching::touch_at;
 use mark_shelf::MarkShelf;
 use object_heap::heap::Heap;
@@ -76,7 +76,28 @@ fn next_piece(
     Ok(piece)
 }
 
-// Goes on with the replay where old stretches may serve, each piece behind a touch of the name of its checkpoint.
+// The next cut from a position on where an old stretch may begin: one where an old checkpoint stood. Where none does before the leg is
+// open no longer, the first cut from there on, or the end of the leg.
+fn next_start(revision: &Revision, at: usize, leg: Leg) -> usize
+    requires revision { IsRevision revision.now }
+    requires order { at ≤ leg.to }
+    requires within { leg.to ≤ length revision.now.ops.now.ops }
+    ensures no_less { at ≤ result }
+    ensures within { result ≤ leg.to }
+{
+    let open = leg.open.min(leg.to);
+    let mut cut = at;
+    while cut < open {
+        if may_begin(revision, cut) {
+            return cut;
+        }
+        cut += (leg.to - cut).min(STRIDE);
+    }
+    cut
+}
+
+// Goes on with the replay where old stretches may serve. Where one may begin, the name of the checkpoint is touched, and then a piece is
+// taken; the cuts up to there are known before they are reached.
 fn serve(
     alloc: Global,
     revision: &Revision,
@@ -101,9 +122,14 @@ fn serve(
 {
     let mut front = front;
     while front.len < leg.open.min(leg.to) {
-        touch_at(revision.ops, front.len, shelf, &mut front.gone)?;
-        let piece = next_piece(alloc, revision, &front, leg.to, shelf, meter)?;
-        front = joined(front, piece)?;
+        let next = next_start(revision, front.len, leg);
+        if front.len < next {
+            front = go_ahead(alloc, revision.ops, front, next, shelf, meter)?;
+        } else {
+            touch_at(revision.ops, front.len, shelf, &mut front.gone)?;
+            let piece = next_piece(alloc, revision, &front, leg.to, shelf, meter)?;
+            front = joined(front, piece)?;
+        }
     }
     Ok(front)
 }

@@ -52,7 +52,8 @@ pub fn old_stretch(
     if len > to - at {
         return Ok(None);
     }
-    if !mark.heap(alloc)?.same(heap) {
+    let kept = mark.heap(alloc)?;
+    if kept.sum() != heap.sum() || !kept.same(heap) {
         return Ok(None);
     }
     let Some(after) = heap_at(alloc, old, revision.end, j)? else {
@@ -66,6 +67,21 @@ pub fn old_stretch(
         fresh: Vec::new(alloc),
         gone: BTreeSet::new(alloc),
     }))
+}
+
+/// Whether an old checkpoint stands in front of the operation at a place, where that comes from the old run.
+pub fn may_begin(revision: &Revision, at: usize) -> bool
+    requires revision { IsRevision revision.now }
+    requires within { at < length revision.now.ops.now.ops }
+{
+    let Some(alike) = revision.ops.alike(at) else {
+        return false;
+    };
+    let before = at - alike.at;
+    match revision.segment_at(alike.from + before) {
+        None => false,
+        Some(i) => revision.segments[i].is_marked(),
+    }
 }
 
 // How many segments in front have no checkpoint.

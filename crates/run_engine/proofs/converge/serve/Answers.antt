@@ -19,11 +19,28 @@ loop-front-init c = record {
   onward = IsOnward-none c.args.revision.now.ops.now.ops (all_marks c.args.revision.now.segments.now) c.args.front.len (marks_from 0 c.args.front.segments.items) c.args.shelf.now (contains nat_cmp c.args.front.gone);
 }
 
+-- as far as a cut where an old stretch may begin
+pub loop-front-preserved-then-front-next : goal.loop-front-preserved-then-front-next
+loop-front-preserved-then-front-next c =
+    let h = c.loop-front.invariant in
+    let on = c.in_ok-front.ensures in
+    let old = c.args.revision.now.segments.now in
+    let ops = c.args.revision.now.ops.now.ops in
+    record {
+      front = on.front;
+      order = omega (arith, on.there, c.next_start-next.ensures.within);
+      fewer = λ e m. h.fewer e (on.fewer e m);
+      stepped = λ r before chunks k all. on.stepped (trace_of old) (all_marks old) r before chunks (h.stepped r before chunks k all) (λ e m. all e (h.fewer e m));
+      never_less = omega (arith, h.never_less, on.never_less);
+      steps = omega (arith, h.steps, on.rise, on.there);
+      onward = rw on.there (IsOnward-next ops (all_marks old) c.args.front.len c.loop-front.front.len c.next_start-next.result _ _ _ _ _ _ _ _ _ h.onward (on.onward (all_marks old)));
+    }
+
 pub loop-front-preserved : goal.loop-front-preserved
 loop-front-preserved c =
     let h = c.loop-front.invariant in
     let piece = c.in_ok-piece.ensures.piece in
-    let joined = c.in_ok-front.ensures in
+    let joined = c.in_ok-front-2.ensures in
     let order = h.order in
     let long : c.in_ok-piece.piece.len ≤ c.args.leg.to - c.loop-front.front.len = omega (arith, piece.fits, length-take (c.args.leg.to - c.loop-front.front.len) (drop c.loop-front.front.len c.args.revision.now.ops.now.ops)) in
     let touched = c.in_ok-touch_at.ensures.answered in

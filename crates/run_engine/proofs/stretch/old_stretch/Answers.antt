@@ -32,7 +32,7 @@ returns c =
     stretch-ops c.args.revision.now.segments.now ops c.in-Some-segment_at.i (suc c.unmarked-bare.result) c.in-Some.alike.from c.in-Some.alike.at c.in-Some.alike.len c.args.at c.args.to alike c.in-Some-segment_at.ensures.place (omega arith) (omega arith)
     ∙ ap (λ k. take k (slice_range ops c.args.at c.args.to)) (sym long) in
     let bare = rw (take-rest (i + 1) c.args.revision.now.segments.now) at c.unmarked-bare.ensures.none in
-    let heap : c.in-Some-mark.mark.now ≡ c.args.heap.now = sym c.in_ok-heap.ensures ∙ c.same.ensures.0 t in
+    let heap : c.in-Some-mark.mark.now ≡ c.args.heap.now = sym c.in_ok-kept.ensures ∙ c.same.ensures.0 t in
     let mark : c.index-old-i.result.mark ≡ Some c.args.heap.now = sym c.in-Some-mark.ensures ∙ ap Some heap in
     let kept = rw (c.in-Some-2.is, m) at c.in_ok-after.ensures.kept in
     let after = rw c.in-Some-2.is at c.in_ok-after.ensures.heap in
