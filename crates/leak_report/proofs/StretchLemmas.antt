@@ -1,9 +1,8 @@
 -- Stretches one after another.
-use Rattle.std.proofs.Common.{◌≡◌, ℕ, zero, suc, ◌+◌, ◌<◌, ◌≤◌, List, [], ◌∷◌, ◌++◌, length, get_or, take, drop, Bool, cond, refl, ap, sym, ◌∙◌, arith, flat_map, count_by, fold, length-append}
+use Rattle.std.proofs.Common.{◌≡◌, ℕ, ◌+◌, ◌<◌, ◌≤◌, List, [], ◌∷◌, ◌++◌, length, get_or, take, drop, Bool, cond, refl, ap, sym, ◌∙◌, arith, flat_map, count_by, fold, length-append}
 use Rattle.std.proofs.lemmas.List.{take_more, append-nil, take-append-drop}
 use Rattle.std.proofs.lemmas.List.Concat.{flat_map-append}
 use Rattle.std.proofs.lemmas.List.Sums.{count_by-le-length}
-use Rattle.trace_types.specs.Operation.{Operation}
 use Rattle.trace_types.specs.declared.outcomes.Outcome.{Outcome}
 use Rattle.trace_types.specs.declared.stretches.Stretch.{Stretch}
 use Rattle.trace_types.specs.Stretches.{ops_of, outcomes_of}

@@ -2,7 +2,7 @@
 -- moves it out, and where Arc::make_mut moves it to an allocation of its own (documentation of std::sync::Arc). Its
 -- allocation is given up once no Weak is left (documentation of std::sync::Weak). That the first such event of an object
 -- counts is a profile of this project.
-use Rattle.std.specs.Prelude.{ℕ, ◌==◌, List, [], ◌∷◌, map, flat_map, Option, Some, None, Bool, true, false, if◌then◌else◌}
+use Rattle.std.specs.Prelude.{ℕ, ◌==◌, List, [], ◌∷◌, map, flat_map, fold, Option, Some, None, Bool, true, false, if◌then◌else◌}
 use Rattle.std.specs.Option.{option_or}
 use Rattle.std.specs.Ordering.{nat_cmp}
 use Rattle.std.specs.BTreeSet.{insert_key}
@@ -62,10 +62,13 @@ is_making (Did answer.No) = false
 is_making (Did answer.Unique) = false
 is_making (Skipped reason) = false
 
+-- the objects of os, rising, and the operation's own, where it made one
+abbrev pub with_made : List ℕ → Outcome → List ℕ
+with_made os out = if is_making out.verdict then insert_key nat_cmp os out.id else os
+
 -- the objects that were made, rising, with those of os
 abbrev pub made_after : List ℕ → List Outcome → List ℕ
-made_after os [] = os
-made_after os (out ∷ outs) = made_after (if is_making out.verdict then insert_key nat_cmp os out.id else os) outs
+made_after os outs = fold with_made os outs
 
 -- what became of an object
 abbrev pub life_of : List Outcome → ℕ → Life

@@ -135,15 +135,12 @@ husks_text hs = flat_map husk_text hs
 abbrev pub is_living : Life → Bool
 is_living l = is_none l.ending
 
--- the last line, of these numbers: `total 4 ops 0 skipped 1 objects 0 alive 0 leaks 0 husks`
-abbrev pub total_text : (operations skipped objects alive leaks husks : ℕ) → List ℕ
-total_text operations skipped objects alive leaks husks =
-    codes "total " ++ decimal operations ++ codes " ops " ++ decimal skipped ++ codes " skipped " ++ decimal objects ++ codes " objects "
-    ++ decimal alive ++ codes " alive " ++ decimal leaks ++ codes " leaks " ++ decimal husks ++ codes " husks" ++ 10 ∷ []
-
--- the last line of a report, which counts the lines before it
+-- the last line, which counts those before it: `total 4 ops 0 skipped 1 objects 0 alive 0 leaks 0 husks`
 abbrev pub total_line : Contents → List ℕ
-total_line r = total_text (length r.lines) (count_by is_skipped_line r.lines) (length r.lives) (count_by is_living r.lives) (length r.leaks.leaked) (length r.leaks.husks)
+total_line r =
+    codes "total " ++ decimal (length r.lines) ++ codes " ops " ++ decimal (count_by is_skipped_line r.lines) ++ codes " skipped "
+    ++ decimal (length r.lives) ++ codes " objects " ++ decimal (count_by is_living r.lives) ++ codes " alive "
+    ++ decimal (length r.leaks.leaked) ++ codes " leaks " ++ decimal (length r.leaks.husks) ++ codes " husks" ++ 10 ∷ []
 
 -- the whole
 

@@ -1,6 +1,6 @@
 //! The text of what a report says of objects, leaks and husks, and of its total.
 ghost use Rattle.std.specs.Prelude.{◌≡◌, ◌++◌, count_by, string_bytes, OnOk};
-ghost use Rattle.leak_report.specs.Text.{ending_text, freed_text, fate_text, life_text, lives_text, holder_text, holders_text, leak_text, leaks_text, husk_text, husks_text, is_living, total_text, total_line};
+ghost use Rattle.leak_report.specs.Text.{ending_text, freed_text, fate_text, life_text, lives_text, holder_text, holders_text, leak_text, leaks_text, husk_text, husks_text, is_living, total_line};
 
 use crate::lives::{Ending, Life};
 use crate::shown::Report;
@@ -121,29 +121,12 @@ fn push_husk(text: &mut String, husk: HuskLeft) -> Result<(), AllocError>
 pub fn push_total(text: &mut String, report: &Report) -> Result<(), AllocError>
     ensures { OnOk result (string_bytes text.new ≡ string_bytes text.old ++ total_line report.now) }
 {
-    let leaks = report.leaks();
-    push_numbers(
-        text,
-        report.operations(),
-        report.skipped(),
-        report.lives().len(),
-        living(report.lives()),
-        leaks.leaked.len(),
-        leaks.husks.len(),
-    )
-}
-
-fn push_numbers(
-    text: &mut String,
-    operations: usize,
-    skipped: usize,
-    objects: usize,
-    alive: usize,
-    leaks: usize,
-    husks: usize,
-) -> Result<(), AllocError>
-    ensures { OnOk result (string_bytes text.new ≡ string_bytes text.old ++ total_text operations skipped objects alive leaks husks) }
-{
+    let operations = report.operations();
+    let skipped = report.skipped();
+    let objects = report.lives().len();
+    let alive = living(report.lives());
+    let leaks = report.leaks().leaked.len();
+    let husks = report.leaks().husks.len();
     write!(
         text,
         "total {operations} ops {skipped} skipped {objects} objects "

@@ -1,4 +1,4 @@
-use Rattle.std.proofs.Common.{◌≡◌, ℕ, take, drop}
+use Rattle.std.proofs.Common.{◌≡◌, ℕ, take}
 use Rattle.std.specs.Option.{option_or}
 use Rattle.std.specs.Ordering.{nat_cmp}
 use Rattle.std.specs.BTreeMap.{get}
@@ -7,7 +7,7 @@ use Rattle.leak_report.proofs.fates.note_outcomes.Given as goal
 
 abbrev pub invariant-loop-outcome : goal.invariant-loop-outcome
 invariant-loop-outcome l = record {
-  made : made_after l.fates.made.keys (drop l.outcome-index l.outcomes) ≡ made_after l.initial.fates.made.keys l.outcomes;
+  made : l.fates.made.keys ≡ made_after l.initial.fates.made.keys (take l.outcome-index l.outcomes);
   endings : (o : ℕ) → get nat_cmp l.fates.endings o ≡ option_or (get nat_cmp l.initial.fates.endings o) (first_ending o (events_of (take l.outcome-index l.outcomes)));
   freed : (o : ℕ) → get nat_cmp l.fates.freed o ≡ option_or (get nat_cmp l.initial.fates.freed o) (first_freed o (events_of (take l.outcome-index l.outcomes)));
 }

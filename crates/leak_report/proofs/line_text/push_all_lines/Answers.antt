@@ -1,8 +1,8 @@
-use Rattle.std.proofs.Common.{◌≡◌, ◌+◌, ◌++◌, take, ap, sym, ◌∙◌, append_assoc, string_bytes}
+use Rattle.std.proofs.Common.{◌+◌, ◌++◌, take, ap, sym, ◌∙◌, append_assoc, string_bytes}
 use Rattle.std.proofs.lemmas.List.Concat.{flat_map-append}
 use Rattle.trace_types.specs.declared.stretches.Stretch.{Stretch}
 use Rattle.trace_types.specs.Stretches.{ops_of, outcomes_of}
-use Rattle.leak_report.specs.Lines.{Line, lines_of}
+use Rattle.leak_report.specs.Lines.{lines_of}
 use Rattle.leak_report.specs.Text.{line_text, lines_text}
 use Rattle.leak_report.proofs.LineLemmas.{lines_append}
 use Rattle.leak_report.proofs.StretchLemmas.{flat_map_more, as_many}

@@ -1,4 +1,4 @@
-use Rattle.std.proofs.Common.{◌≡◌, ◌≤◌, ◌+◌, length, take, ap, arith, length-append}
+use Rattle.std.proofs.Common.{◌+◌, length, take, ap, arith, length-append}
 use Rattle.trace_types.specs.declared.stretches.Stretch.{Stretch}
 use Rattle.trace_types.specs.Stretches.{ops_of}
 use Rattle.leak_report.proofs.StretchLemmas.{flat_map_more, flat_map_front}

@@ -1,4 +1,4 @@
-use Rattle.std.proofs.Common.{◌≡◌, ◌≤◌, ◌+◌, length, count_by, take, ap, arith}
+use Rattle.std.proofs.Common.{◌+◌, count_by, take, ap, arith}
 use Rattle.trace_types.specs.declared.outcomes.Outcome.{Outcome}
 use Rattle.trace_types.specs.declared.stretches.Stretch.{Stretch}
 use Rattle.trace_types.specs.Stretches.{outcomes_of}
