@@ -1,9 +1,7 @@
 -- Digits alone are read as the natural number that they write.
-use Rattle.std.proofs.Common.{◌≡◌, ◌≢◌, ℕ, ◌^◌, ◌<◌, List, [], ◌∷◌, ◌++◌, length, get_or, false, Some, Result, Ok, Err, IfSome, refl, sym, ap, subst, ◌∙◌, arith, append-nil, lt-ltb, ne_eqb}
+use Rattle.std.proofs.Common.{◌≡◌, ℕ, ◌^◌, ◌<◌, List, [], ◌∷◌, ◌++◌, length, get_or, false, Some, refl, sym, ap, ◌∙◌, arith, append-nil, lt-ltb, ne_eqb}
 use Rattle.std.specs.Char.{digit_value}
-use Rattle.std.specs.Result.{OkIff, result_ok}
-use Rattle.std.specs.Str.Parse.{AllDigits, IsNumeral, digits_value, ParsesUnsigned}
-use Rattle.std.proofs.lemmas.Str.Parse.{without_leading_plus_none}
+use Rattle.std.specs.Str.Parse.{AllDigits, IsNumeral, digits_value}
 use Rattle.fast_float.specs.Text.{Parts, scan, IsWellFormed}
 use Rattle.fast_float.proofs.Writing.{scan-text_of}
 use Rattle.serde_json.specs.Data.{unsigned}
@@ -26,12 +24,3 @@ number_of-digits ds h fits =
     let signed : number_of (ds ++ []) ≡ number_from false (scan (ds ++ [])) = rw (ne_eqb (get_or (ds ++ []) 0 0) 45 (rw append-nil (no_minus ds h.1 h.0))) in
     let read : number_from false (whole ds) ≡ Some (unsigned (digits_value 10 (ds ++ []))) = rw (lt-ltb 0 (length ds) h.0, append-nil) (rw (lt-ltb (digits_value 10 ds) (2 ^ 64) fits)) in
     ap number_of (sym (append-nil ds)) ∙ signed ∙ ap (number_from false) (scan-text_of (whole ds) (whole_formed ds h.1)) ∙ read ∙ ap (λ l. Some (unsigned (digits_value 10 l))) (append-nil ds)
-
--- what `parse_u64` gives, where no plus stands first
-pub number_of-parsed : {E : Type 0} (bs : List ℕ) (r : Result ℕ E) → get_or bs 0 0 ≢ 43 → ParsesUnsigned 64 10 bs r → IfSome (result_ok r) (λ n. number_of bs ≡ Some (unsigned n))
-number_of-parsed {E} bs r plain h =
-    read r (subst (λ ds. OkIff r (IsNumeral 10 ds × (digits_value 10 ds < 2 ^ 64)) (digits_value 10 ds)) (without_leading_plus_none bs plain) h)
-  where
-    read : (r : Result ℕ E) → OkIff r (IsNumeral 10 bs × (digits_value 10 bs < 2 ^ 64)) (digits_value 10 bs) → IfSome (result_ok r) (λ n. number_of bs ≡ Some (unsigned n))
-    read (Ok n) k = number_of-digits bs k.0.0 k.0.1 ∙ ap (λ m. Some (unsigned m)) (sym k.1)
-    read (Err e) k = tt

@@ -1,5 +1,6 @@
 //! The members of an object, by their names.
 ghost use Rattle.std.specs.Prelude.{◌≡◌, ◌≤◌, Ok, Err, IfOk, IsTrue, MatchResult, codes, option_map};
+ghost use Rattle.std.specs.Str.{bytes_eq};
 ghost use Rattle.serde_json.specs.Data.{Members, object};
 ghost use Rattle.trace_types.specs.Limits.{is_perhaps_name};
 ghost use Rattle.trace_reader.specs.Members.{within, number_at, handle_at, perhaps_handle_at, text_at};
@@ -17,11 +18,35 @@ pub fn get<'v, 'a>(list: &'v [Member<'a>], name: &str) -> Option<&'v Seen<'a>>
     'members: while left > 0 {
         left -= 1;
         let member = &list[left];
-        if member.0 == name {
+        if is_name(member.0, name) {
             return Some(&member.1);
         }
     }
     None
+}
+
+// Whether a member has that name.
+fn is_name(member: &str, name: &str) -> bool
+    ensures { result ≡ bytes_eq member.now name.now }
+{
+    same_bytes(member.as_bytes(), name.as_bytes())
+}
+
+// Names are short: they are compared byte by byte.
+fn same_bytes(member: &[u8], name: &[u8]) -> bool
+    ensures { result ≡ bytes_eq member.now name.now }
+{
+    if member.len() != name.len() {
+        return false;
+    }
+    let mut at = 0;
+    'bytes: while at < name.len() {
+        if member[at] != name[at] {
+            return false;
+        }
+        at += 1;
+    }
+    true
 }
 
 /// A number from `low` to `high`.
