@@ -96,10 +96,7 @@ fn named(matches: &ArgMatches<'_>) -> Option<Command>
         "replay" => Some(Command::Replay),
         "script" => Some(Command::Script),
         "whatif" => Some(Command::Whatif),
-        "race" => match workers(own) {
-            Some(workers) => Some(Command::Race(workers)),
-            None => None,
-        },
+        "race" => Some(Command::Race(workers(own)?)),
         _ => None,
     }
 }
