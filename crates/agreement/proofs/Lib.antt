@@ -1,3 +1,4 @@
 pub mod GatheringLemmas
 pub mod TrimmingLemmas
 pub mod AgreeLemmas
+pub mod PendingLemmas

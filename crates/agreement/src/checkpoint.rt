@@ -1,77 +1,60 @@
 //! A checkpoint of a replay: a heap that is kept as an older one, with what is still to be exchanged.
-ghost use Rattle.std.specs.Prelude.{◌≡◌, [], IfOk};
+ghost use Rattle.std.specs.Prelude.{◌≡◌, [], map, IfOk};
 ghost use Rattle.std.specs.Arc.{arc_value};
 ghost use Rattle.ownership_model.specs.State.{IsSound};
 ghost use Rattle.ownership_model.specs.Patch.{patched, AreThere};
 
-use crate::remains::{Remains, patch};
+use crate::remains::{Remains, exchanged};
 use object_heap::heap::Heap;
 use std::alloc::{AllocError, Global};
 use std::marker::Model;
 use std::sync::Arc;
 
+// How many remains may be pending in a checkpoint. Where there are as many, its heap is made.
+const MOST_PENDING: usize = 16;
+
 /// A heap of a replay. Where remains are to be exchanged in many heaps, each is kept as it was with the remains beside it, which
-/// they share, and the exchange is made when the heap is asked for. Contracts see the heap that it stands for.
+/// they share, and the exchanges are made when the heap is asked for. Contracts see the heap that it stands for.
 #[derive(Drop)]
 pub struct Checkpoint {
     base: Heap,
-    remains: Option<Arc<Remains>>,
+    pending: Vec<Arc<Remains>>,
 }
 
 impl Model for Checkpoint {
-    ghost use Rattle.std.specs.Prelude.{IfSome};
-    ghost use Rattle.std.specs.Option.{option_map};
+    ghost use Rattle.std.specs.Prelude.{map};
     ghost use Rattle.std.specs.Arc.{arc_value};
     ghost use Rattle.ownership_model.specs.State.{State};
     ghost use Rattle.object_heap.specs.StateCode.{state_code};
-    ghost use Rattle.agreement.specs.Pending.{with_pending, CanBePatched};
+    ghost use Rattle.agreement.specs.Pending.{with_pending, CanAllBePatched};
 
     ghost Value = { State };
 
     ghost coded = { state_code };
 
-    ghost view = { λ c. with_pending c.base (option_map arc_value c.remains) };
+    ghost view = { λ c. with_pending c.base (map arc_value c.pending.items) };
 
-    ghost invariant = { λ c. IfSome c.remains (λ x. CanBePatched c.base (arc_value x)) };
+    ghost invariant = { λ c. CanAllBePatched c.base (map arc_value c.pending.items) };
 }
 
 impl Checkpoint {
-    /// A heap as it is.
-    pub fn of(heap: Heap) -> Checkpoint
+    /// A heap as it is. Takes no memory.
+    pub fn of(alloc: Global, heap: Heap) -> Checkpoint
         ensures { result ≡ heap }
     {
         Checkpoint {
             base: heap,
-            remains: None,
+            pending: Vec::new(alloc),
         }
     }
 
-    /// A heap of an old replay, as that of the new one: with the remains to be exchanged. Takes no memory.
-    pub fn over(heap: Heap, remains: Arc<Remains>) -> Checkpoint
-        requires sound { IsSound (patched heap (arc_value remains)) [] }
-        requires there { AreThere heap (arc_value remains) }
-        ensures { result ≡ patched heap (arc_value remains) }
-    {
-        if remains.changes_nothing() {
-            return Checkpoint::of(heap);
-        }
-        Checkpoint {
-            base: heap,
-            remains: Some(remains),
-        }
-    }
-
-    /// The same checkpoint again. Takes no memory, and fails only where a node has as many owners as can be counted.
-    pub fn share(&self) -> Result<Checkpoint, AllocError>
+    /// The same checkpoint again.
+    pub fn share(&self, alloc: Global) -> Result<Checkpoint, AllocError>
         ensures { IfOk result (λ c. c ≡ self.now) }
     {
-        let remains = match &self.remains {
-            None => None,
-            Some(remains) => Some(Arc::try_clone(remains)?),
-        };
         Ok(Checkpoint {
             base: self.base.share()?,
-            remains,
+            pending: shares(alloc, &self.pending)?,
         })
     }
 
@@ -79,24 +62,47 @@ impl Checkpoint {
     pub fn heap(&self, alloc: Global) -> Result<Heap, AllocError>
         ensures { IfOk result (λ h. h ≡ self.now) }
     {
-        match &self.remains {
-            None => self.base.share(),
-            Some(remains) => patch(alloc, &self.base, remains),
+        let mut heap = self.base.share()?;
+        for remains in &self.pending {
+            heap = exchanged(alloc, heap, remains)?;
         }
+        Ok(heap)
     }
 
     /// The checkpoint with further remains to be exchanged. This one stays as it is.
     ///
-    /// Where it has some already, its heap is made first: that takes the memory of what these exchange. Else it takes none.
+    /// Where many are pending already its heap is made, which takes the memory of what these exchange. Else it takes that of their list.
     pub fn patched(&self, alloc: Global, remains: &Arc<Remains>) -> Result<Checkpoint, AllocError>
         requires sound { IsSound (patched self.now (arc_value remains.now)) [] }
         requires there { AreThere self.now (arc_value remains.now) }
         ensures { IfOk result (λ c. c ≡ patched self.now (arc_value remains.now)) }
     {
         if remains.changes_nothing() {
-            return self.share();
+            return self.share(alloc);
         }
-        let heap = self.heap(alloc)?;
-        Ok(Checkpoint::over(heap, Arc::try_clone(remains)?))
+        let Checkpoint { base, mut pending } = self.with_room(alloc)?;
+        pending.push(Arc::try_clone(remains)?)?;
+        Ok(Checkpoint { base, pending })
     }
+
+    // The same checkpoint, with room for further remains.
+    fn with_room(&self, alloc: Global) -> Result<Checkpoint, AllocError>
+        ensures { IfOk result (λ c. c ≡ self.now) }
+    {
+        if self.pending.len() < MOST_PENDING {
+            return self.share(alloc);
+        }
+        Ok(Checkpoint::of(alloc, self.heap(alloc)?))
+    }
+}
+
+// The same remains again.
+fn shares(alloc: Global, pending: &[Arc<Remains>]) -> Result<Vec<Arc<Remains>>, AllocError>
+    ensures { IfOk result (λ v. map arc_value v.items ≡ map arc_value pending.now) }
+{
+    let mut all = Vec::with_capacity(alloc, pending.len() + 1)?;
+    for remains in pending {
+        all.push(Arc::try_clone(remains)?)?;
+    }
+    Ok(all)
 }

@@ -82,7 +82,15 @@ pub fn patch(alloc: Global, later: &Heap, remains: &Remains) -> Result<Heap, All
     requires there { AreThere later.now remains.now }
     ensures { IfOk result (λ h. h ≡ patched later.now remains.now) }
 {
-    let shared = later.share()?;
+    exchanged(alloc, later.share()?, remains)
+}
+
+/// As `patch`, of a heap that is used up: what it alone holds is changed in place.
+pub fn exchanged(alloc: Global, later: Heap, remains: &Remains) -> Result<Heap, AllocError>
+    requires sound { IsSound (patched later remains.now) [] }
+    requires there { AreThere later remains.now }
+    ensures { IfOk result (λ h. h ≡ patched later remains.now) }
+{
     let differing = &remains.differing;
-    shared.exchanged(alloc, differing.removed(), differing.added())
+    later.exchanged(alloc, differing.removed(), differing.added())
 }

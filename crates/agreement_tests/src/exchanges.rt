@@ -25,8 +25,9 @@ fn kept_as_new(alloc: Global, new: &Heap, old: &Heap) -> Result<Option<Checkpoin
         None => Ok(None),
         Some(remains) => {
             let pending = Arc::new(alloc, remains)?;
-            let kept = old.share()?;
-            Ok(Some(Checkpoint::over(kept, pending)))
+            let kept = Checkpoint::of(alloc, old.share()?);
+            let later = kept.patched(alloc, &pending)?;
+            Ok(Some(later))
         }
     }
 }
@@ -64,7 +65,7 @@ fn made_last(
     let Some(further) = kept_as_last(alloc, last, middle, &checkpoint)? else {
         return Ok(None);
     };
-    Ok(Some(further.share()?.heap(alloc)?))
+    Ok(Some(further.share(alloc)?.heap(alloc)?))
 }
 
 #[test]
@@ -103,14 +104,23 @@ const LET_SECOND_GO: &str = "\
 {\"h\":1,\"id\":80,\"op\":\"drop\",\"t\":0}
 ";
 
-// A cycle that leaks in all of them, and one that leaks in some.
+// A heap in which one cycle leaks.
+fn fewer_leaks(alloc: Global) -> Result<Heap, Fail> {
+    let lines = [CYCLE, LET_GO, SECOND_CYCLE, SECOND_BREAK, LET_SECOND_GO];
+    heap_of(alloc, &lines, 81, 92)
+}
+
+// The heap in which the second cycle leaks, too.
+fn more_leaks(alloc: Global) -> Result<Heap, Fail> {
+    let lines = [CYCLE, LET_GO, SECOND_CYCLE, LET_SECOND_GO];
+    heap_of(alloc, &lines, 81, 92)
+}
+
 #[test]
 fn checkpoints_stand_for_later_heaps(rt: HostRuntime) -> Result<(), Fail> {
     let alloc = rt.alloc();
-    let one = [CYCLE, LET_GO, SECOND_CYCLE, SECOND_BREAK, LET_SECOND_GO];
-    let two = [CYCLE, LET_GO, SECOND_CYCLE, LET_SECOND_GO];
-    let fewer = heap_of(alloc, &one, 81, 92)?;
-    let more = heap_of(alloc, &two, 81, 92)?;
+    let fewer = fewer_leaks(alloc)?;
+    let more = more_leaks(alloc)?;
     assert!(rt; !more.same(&fewer));
     assert_eq!(rt; remains_of(alloc, &more, &fewer)?.removed().len(), 2);
     assert_eq!(rt; remains_of(alloc, &more, &fewer)?.added().len(), 4);
@@ -126,7 +136,40 @@ fn checkpoints_stand_for_later_heaps(rt: HostRuntime) -> Result<(), Fail> {
         };
         assert!(rt; made.same(last));
     }
-    let as_it_is = Checkpoint::of(more.share()?);
+    let as_it_is = Checkpoint::of(alloc, more.share()?);
     assert!(rt; as_it_is.heap(alloc)?.same(&more));
+    Ok(())
+}
+
+// The checkpoint once more, as another heap and then as itself again.
+fn there_and_back(
+    alloc: Global,
+    here: &Heap,
+    there: &Heap,
+    checkpoint: &Checkpoint,
+) -> Result<Option<Checkpoint>, AllocError>
+    requires { checkpoint.now ≡ here.now }
+    ensures { IfOk result (λ r. IfSome r (λ c. c ≡ here.now)) }
+{
+    match kept_as_last(alloc, there, here, checkpoint)? {
+        None => Ok(None),
+        Some(further) => kept_as_last(alloc, here, there, &further),
+    }
+}
+
+// More exchanges than may be pending at once.
+#[test]
+fn many_exchanges_are_pending(rt: HostRuntime) -> Result<(), Fail> {
+    let alloc = rt.alloc();
+    let here = fewer_leaks(alloc)?;
+    let there = more_leaks(alloc)?;
+    let mut checkpoint = Checkpoint::of(alloc, here.share()?);
+    for _ in 0..20 {
+        let Some(next) = there_and_back(alloc, &here, &there, &checkpoint)? else {
+            return Err(Fail::from("they agree"));
+        };
+        assert!(rt; next.heap(alloc)?.same(&here));
+        checkpoint = next;
+    }
     Ok(())
 }

@@ -51,7 +51,7 @@ impl Segment {
     pub fn of(alloc: Global, chunk: &ChunkRun) -> Result<Self, AllocError>
         ensures { IfOk result (λ s. s ≡ record { mark = Some chunk.now.start; ops = chunk.now.ops; outcomes = outcomes_from chunk.now.start chunk.now.ops }) }
     {
-        let start = Checkpoint::of(chunk.start().share()?);
+        let start = Checkpoint::of(alloc, chunk.start().share()?);
         Ok(Segment {
             mark: Some(Arc::new(alloc, start)?),
             body: Arc::try_clone(chunk.replayed())?,

@@ -1,4 +1,4 @@
-use Rattle.std.proofs.Common.{◌≡◌, ◌∙◌, [], ap, refl, sym, subst}
+use Rattle.std.proofs.Common.{◌∙◌, [], ap, refl, sym, subst}
 use Rattle.std.specs.Prelude.{Option, IfSome}
 use Rattle.std.specs.Arc.{arc_value}
 use Rattle.ownership_model.specs.declared.link.Link.TheVariants.{StrongOrWeak}

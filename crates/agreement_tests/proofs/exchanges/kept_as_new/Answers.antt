@@ -1,4 +1,4 @@
-use Rattle.std.proofs.Common.{◌≡◌, ◌∙◌, [], ap, refl, sym, subst}
+use Rattle.std.proofs.Common.{◌∙◌, [], ap, refl, sym, subst}
 use Rattle.std.specs.Prelude.{Option, IfSome}
 use Rattle.std.specs.Arc.{arc_value}
 use Rattle.ownership_model.specs.declared.link.Link.TheVariants.{StrongOrWeak}
@@ -17,23 +17,23 @@ stops new old x alike = patches.later (is_apart new old) new old x alike [] [] r
 is_there : (new old : State) (x : Remains) → AreRemains new old x → AreThere old x
 is_there new old x is = patches.there (λ o. is_reached StrongOrWeak new o) new old old x is (λ q apart. refl)
 
-pub over-requires-clause-sound : goal.over-requires-clause-sound
-over-requires-clause-sound c =
+pub patched-requires-clause-sound : goal.patched-requires-clause-sound
+patched-requires-clause-sound c =
     let new = c.args.new.now in
     let old = c.args.old.now in
     let alike : ReplayAlike (is_apart new old) new old c.in-Some.remains = subst (λ (r : Option Remains). IfSome r (λ x. ReplayAlike (is_apart new old) new old x)) c.in-Some.is c.in_ok-agree.ensures.law in
-    rw (c.in_ok-kept-in-Some.ensures, c.in_ok-pending-in-Some.ensures.ok) (stops new old c.in-Some.remains alike).sound
+    rw (c.of-kept.ensures, c.in_ok-share-in-Some.ensures, c.in_ok-pending-in-Some.ensures.ok) (stops new old c.in-Some.remains alike).sound
 
-pub over-requires-clause-there : goal.over-requires-clause-there
-over-requires-clause-there c =
+pub patched-requires-clause-there : goal.patched-requires-clause-there
+patched-requires-clause-there c =
     let new = c.args.new.now in
     let old = c.args.old.now in
     let remains : AreRemains new old c.in-Some.remains = subst (λ (r : Option Remains). IfSome r (λ x. AreRemains new old x)) c.in-Some.is c.in_ok-agree.ensures.remains in
-    rw (c.in_ok-kept-in-Some.ensures, c.in_ok-pending-in-Some.ensures.ok) (is_there new old c.in-Some.remains remains)
+    rw (c.of-kept.ensures, c.in_ok-share-in-Some.ensures, c.in_ok-pending-in-Some.ensures.ok) (is_there new old c.in-Some.remains remains)
 
-pub returns-in_ok-kept-in-Some : goal.returns-in_ok-kept-in-Some
-returns-in_ok-kept-in-Some c =
+pub returns-in_ok-later-in-Some : goal.returns-in_ok-later-in-Some
+returns-in_ok-later-in-Some c =
     let new = c.args.new.now in
     let old = c.args.old.now in
     let alike : ReplayAlike (is_apart new old) new old c.in-Some.remains = subst (λ (r : Option Remains). IfSome r (λ x. ReplayAlike (is_apart new old) new old x)) c.in-Some.is c.in_ok-agree.ensures.law in
-    c.over.ensures ∙ ap (λ (m : State). patched m (arc_value c.in_ok-pending-in-Some.pending)) c.in_ok-kept-in-Some.ensures ∙ ap (patched old) c.in_ok-pending-in-Some.ensures.ok ∙ sym (stops new old c.in-Some.remains alike).state
+    c.in_ok-later-in-Some.ensures ∙ ap (λ (m : State). patched m (arc_value c.in_ok-pending-in-Some.pending)) (c.of-kept.ensures ∙ c.in_ok-share-in-Some.ensures) ∙ ap (patched old) c.in_ok-pending-in-Some.ensures.ok ∙ sym (stops new old c.in-Some.remains alike).state
