@@ -22,8 +22,8 @@ pub enum Meeting {
 }
 
 /// Compares a new heap with an old one. Where the trail still leads to a difference nothing else is looked at. Heaps that are the
-/// same are told as such. Else the trail is replaced by one to a difference, if any is found: then they don't agree. Only where none
-/// is found all that can be reached is compared.
+/// same are told as such: only where their sums are equal both are walked for it. Else the trail is replaced by one to a difference, if
+/// any is found: then they don't agree. Only where none is found all that can be reached is compared.
 pub fn meet(
     alloc: Global,
     new: &Heap,
@@ -35,7 +35,7 @@ pub fn meet(
     if is_refuted(seen, new, old) {
         return Ok(Meeting::Apart);
     }
-    if new.same(old) {
+    if new.sum() == old.sum() && new.same(old) {
         return Ok(Meeting::Same);
     }
     *seen = trail_between(alloc, new, old)?;
