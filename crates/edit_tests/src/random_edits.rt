@@ -16,7 +16,10 @@ use trace_types::trace::Trace;
 
 const TRACES: u32 = 100;
 
-const EDITS: u32 = 20;
+const EDITS: u32 = 21;
+
+// How many edits are made at least, of all that are tried.
+const MADE: u32 = 2_000;
 
 const OPS: u32 = 400;
 
@@ -110,13 +113,14 @@ fn is_replay(alloc: Global, run: &Run) -> Result<bool, Fail> {
     Ok(same && outcomes.as_slice().len() == run.len())
 }
 
-// How many edits of one trace stop early though the ends differ, and how many step nothing.
-fn told(alloc: Global, seed: u32) -> Result<(u32, u32), Fail> {
+// How many edits of one trace are made, how many of them stop early though the ends differ, and how many step nothing.
+fn told(alloc: Global, seed: u32) -> Result<(u32, u32, u32), Fail> {
     let mut dice = Dice { state: seed };
     let mut run = Run::load(alloc, &rolled_trace(alloc, &mut dice)?, &mut Meter::new())?;
     // a shelf with few names answers most that an edit touches
     let marks = if seed % 2 == 0 { 64 } else { 3 };
     let mut shelf = MarkShelf::new(alloc, marks, 32, 32)?;
+    let mut made = 0u32;
     let mut early = 0u32;
     let mut known = 0u32;
     let mut is_there = false;
@@ -140,22 +144,26 @@ fn told(alloc: Global, seed: u32) -> Result<(u32, u32), Fail> {
             if meter.count() == 0 {
                 known = known.saturating_add(1);
             }
+            made = made.saturating_add(1);
             is_there = is_there != turns;
             run = edited;
         }
     }
-    Ok((early, known))
+    Ok((made, early, known))
 }
 
 #[test]
 fn edited_runs_are_replays(rt: HostRuntime) -> Result<(), Fail> {
+    let mut made = 0u32;
     let mut early = 0u32;
     let mut known = 0u32;
     for seed in 0..TRACES {
-        let (stopped, found) = told(rt.alloc(), seed)?;
+        let (edited, stopped, found) = told(rt.alloc(), seed)?;
+        made = made.saturating_add(edited);
         early = early.saturating_add(stopped);
         known = known.saturating_add(found);
     }
+    assert!(rt; made >= MADE);
     assert!(rt; early > 0);
     assert!(rt; known > 0);
     Ok(())
