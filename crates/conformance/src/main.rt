@@ -10,7 +10,7 @@ use command_serve::exits::Exit;
 use command_serve::replay::serve_replay;
 use command_serve::script::serve_script;
 use command_serve::whatif::serve_whatif;
-use op_step::meter::Meter;
+use op_step::Meter;
 use op_step::replay::replay;
 use ownership_model::plain::plain_replay;
 use std::alloc::{AllocError, Global};

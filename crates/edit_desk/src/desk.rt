@@ -18,7 +18,7 @@ use crate::prepared::Prepared;
 use crate::published::{Published, revised};
 use crate::replies::Reply;
 use mark_shelf::MarkShelf;
-use op_step::meter::Meter;
+use op_step::Meter;
 use run_engine::run::Run;
 use std::alloc::{AllocError, Global};
 use std::marker::Model;

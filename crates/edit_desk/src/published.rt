@@ -10,7 +10,7 @@ ghost use Rattle.trace_reader.specs.Writing.{lines_text};
 
 use crate::kept::KEPT_MARKS;
 use mark_shelf::MarkShelf;
-use op_step::meter::Meter;
+use op_step::Meter;
 use run_engine::edits::try_size;
 use run_engine::faults::RunFault;
 use run_engine::run::Run;

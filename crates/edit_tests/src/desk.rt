@@ -5,7 +5,7 @@ use edit_desk::desk::Desk;
 use edit_desk::entries::Request;
 use edit_desk::published::{export, what_if};
 use edit_desk::replies::{Reply, push_reply};
-use op_step::meter::Meter;
+use op_step::Meter;
 use run_engine::faults::Refusal;
 use std::test::Fail;
 use trace_types::edits::{Batch, Edit};

@@ -1,6 +1,6 @@
 //! A trace with as many operations as there may be, and its edits.
 use crate::small_traces::edited_alone;
-use op_step::meter::Meter;
+use op_step::Meter;
 use run_engine::faults::RunFault;
 use run_engine::run::Run;
 use std::alloc::Global;

@@ -4,10 +4,10 @@ use crate::small_traces::{
     has_outcome, new, op, two,
 };
 use leak_report::leaks::find_leaks;
-use object_heap::heap::Heap;
-use op_step::meter::Meter;
+use object_heap::Heap;
+use op_step::Meter;
 use op_step::replay::replay;
-use ownership_model::leaks::Holder;
+use ownership_model::Holder;
 use run_engine::run::Run;
 use std::alloc::Global;
 use std::test::Fail;

@@ -4,7 +4,7 @@ ghost use Rattle.std.specs.Prelude.{◌<◌};
 
 use crate::small_traces::{add, batch, has_outcome, new, op_of};
 use mark_shelf::MarkShelf;
-use op_step::meter::Meter;
+use op_step::Meter;
 use op_step::replay::replay;
 use run_engine::run::Run;
 use std::alloc::Global;

@@ -2,7 +2,7 @@
 use crate::small_traces::{add, add_pairs, batch, edited_alone, new, op_of};
 use leak_report::report::{report, report_of_stretches};
 use leak_report::text::text_of;
-use op_step::meter::Meter;
+use op_step::Meter;
 use op_step::replay::replay;
 use run_engine::run::Run;
 use std::alloc::Global;

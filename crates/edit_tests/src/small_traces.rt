@@ -1,7 +1,7 @@
 //! Small traces of known operations, and what is asked of their runs.
 use edit_desk::kept::{KEPT_CHUNKS, KEPT_MARKS, KEPT_NAMES};
 use mark_shelf::MarkShelf;
-use op_step::meter::Meter;
+use op_step::Meter;
 use run_engine::faults::RunFault;
 use run_engine::run::Run;
 use std::alloc::Global;

@@ -6,8 +6,8 @@ ghost use Rattle.ownership_model.specs.Bounds.{ChangesFit};
 ghost use Rattle.ownership_model.proofs.WorkedReleases as Worked;
 
 use leak_report::leaks::find_leaks;
-use object_heap::heap::Heap;
-use ownership_model::leaks::{Holder, HuskLeft};
+use object_heap::Heap;
+use ownership_model::{Holder, HuskLeft};
 use std::alloc::{AllocError, Global};
 use std::test::Fail;
 use trace_types::sequence::Sequence;

@@ -14,7 +14,7 @@ use live_sessions::pass::Pass;
 use live_sessions::publisher::Publisher;
 use live_sessions::receipt::Receipt;
 use live_sessions::shown::Shown;
-use op_step::meter::Meter;
+use op_step::Meter;
 use op_step::replay::replay;
 use ownership_model::plain::plain_replay;
 use run_engine::edits::apply;
