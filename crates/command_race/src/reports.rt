@@ -4,8 +4,8 @@ ghost use Rattle.command_serve.specs.Replay.{report_of_replay};
 ghost use Rattle.live_sessions.specs.Fronts.{IsFront, trace_after};
 ghost use Rattle.live_sessions.specs.Views.{Reads};
 
-use command_serve::replay::report_on_run;
-use edit_desk::desk::Desk;
+use command_serve::report_on_run;
+use edit_desk::Desk;
 use live_sessions::book::Naming;
 use live_sessions::laws::stands_after;
 use live_sessions::pass::Pass;

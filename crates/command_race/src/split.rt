@@ -2,7 +2,7 @@
 ghost use Rattle.std.specs.Prelude.{◌≡◌, ℕ, [], IfOk, IfSome, slice_index_or, vec_len};
 ghost use Rattle.command_race.specs.Race.{requests_of, others_of};
 
-use edit_desk::entries::Request;
+use edit_desk::Request;
 use live_sessions::limits::PLACES;
 use std::alloc::{AllocError, Global};
 use trace_reader::RequestLine;

@@ -1,11 +1,8 @@
 //! Each call, made once more where memory was refused to it: the answer is `Memory`, what stood stands, and the second call
 //! gives the ordinary answer. `tools/refused_memory` refuses each allocation in turn.
-use command_serve::exits::Exit;
-use command_serve::replay::serve_replay;
-use leak_report::leaks::find_leaks;
+use command_serve::{Exit, serve_replay};
 use leak_report::report::report;
-use leak_report::shown::Report;
-use leak_report::write::{WriteFault, write_report};
+use leak_report::{Report, WriteFault, find_leaks, write_report};
 use object_heap::Heap;
 use op_step::chunk_run::run;
 use op_step::{ChunkRun, Meter};

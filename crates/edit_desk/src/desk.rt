@@ -19,7 +19,7 @@ use crate::published::{Published, revised};
 use crate::replies::Reply;
 use mark_shelf::MarkShelf;
 use op_step::Meter;
-use run_engine::run::Run;
+use run_engine::Run;
 use std::alloc::{AllocError, Global};
 use std::marker::Model;
 use std::sync::Arc;

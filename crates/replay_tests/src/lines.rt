@@ -1,8 +1,7 @@
 //! Each kind of line of a report.
 use crate::replayed::{Replayed, counts};
 use leak_report::lives::lives;
-use leak_report::shown::Report;
-use leak_report::text::text_of;
+use leak_report::{Report, text_of};
 use ownership_model::{Holder, HuskLeft, Leak, Leaks};
 use std::alloc::Global;
 use std::test::Fail;

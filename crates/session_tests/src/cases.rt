@@ -3,7 +3,7 @@ ghost use Rattle.std.specs.Prelude.{◌≡◌, [], IfOk};
 ghost use Rattle.live_sessions.specs.Events.{opening_of};
 
 use crate::{order, places, refused, sixteen};
-use edit_desk::desk::Desk;
+use edit_desk::Desk;
 use live_sessions::book::Naming;
 use live_sessions::live::{Live, Started, open};
 use live_sessions::publisher::Publisher;

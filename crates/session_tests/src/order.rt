@@ -2,16 +2,14 @@
 use crate::cases::{Case, both, desk_after};
 use crate::requests::{insertion, new_and_clone, one_new, removal, wait_for};
 use crate::steps::{leaves, submits};
-use edit_desk::published::Published;
-use edit_desk::replies::Reply;
+use edit_desk::{Published, Reply};
 use live_sessions::book::Naming;
 use live_sessions::live::Live;
 use live_sessions::pass::Pass;
 use live_sessions::publisher::Publisher;
 use live_sessions::receipt::Receipt;
 use live_sessions::shown::Shown;
-use run_engine::faults::Refusal;
-use run_engine::run::Run;
+use run_engine::{Refusal, Run};
 use std::alloc::Global;
 use std::process::Abort;
 use std::sync::Wait;

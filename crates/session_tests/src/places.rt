@@ -2,7 +2,7 @@
 use crate::cases::{Case, both, desk_after};
 use crate::requests::{no_edits, one_new, removal};
 use crate::steps::{joins, leaves, reads, submits};
-use edit_desk::replies::Reply;
+use edit_desk::Reply;
 use live_sessions::book::Naming;
 use live_sessions::limits::PLACES;
 use live_sessions::live::Live;

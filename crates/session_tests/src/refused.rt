@@ -2,9 +2,7 @@
 use crate::cases::{Case, desk_after};
 use crate::requests::{new_and_clone, removal};
 use crate::steps::leaves;
-use edit_desk::desk::Desk;
-use edit_desk::entries::Request;
-use edit_desk::replies::Reply;
+use edit_desk::{Desk, Reply, Request};
 use live_sessions::book::Naming;
 use live_sessions::faults::SubmitFault;
 use live_sessions::live::Live;

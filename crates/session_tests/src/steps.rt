@@ -1,6 +1,5 @@
 //! What a session of a test does, one step a function.
-use edit_desk::entries::Request;
-use edit_desk::replies::Reply;
+use edit_desk::{Reply, Request};
 use live_sessions::book::Naming;
 use live_sessions::live::Live;
 use live_sessions::pass::Pass;
