@@ -3,7 +3,7 @@ ghost use Rattle.std.specs.Prelude.{◌≤◌};
 
 use command_race::serve_race;
 use command_serve::Exit;
-use live_sessions::limits::PLACES;
+use live_sessions::PLACES;
 use std::alloc::{AllocError, Global};
 use std::sync::Wait;
 use std::test::Fail;
