@@ -7,8 +7,7 @@ ghost use Rattle.run_engine.specs.Segments.{bare_segment, IsPiece};
 ghost use Rattle.run_engine.specs.Memo.{IsAmong, IsSearched};
 
 use crate::segment::{Segment, append};
-use mark_shelf::MarkShelf;
-use mark_shelf::laws::finds_what_was_there;
+use mark_shelf::{MarkShelf, finds_what_was_there};
 use object_heap::Heap;
 use op_step::chunk_run::run_of;
 use op_step::replay::replay_from;
