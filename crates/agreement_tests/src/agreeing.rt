@@ -1,12 +1,13 @@
 //! Heaps that agree on what can be reached, what they have for themselves, and trails to differences.
+use agreement::Remains;
 use agreement::agree::agree;
-use agreement::remains::{Remains, patch};
+use agreement::remains::patch;
 use agreement::search::{Meeting, meet};
 use agreement::trail::{Path, Root, Trail, refutes};
-use object_heap::heap::Heap;
-use op_step::meter::Meter;
+use object_heap::Heap;
+use op_step::Meter;
 use op_step::replay::replay;
-use ownership_model::remaining::Remaining;
+use ownership_model::Remaining;
 use std::alloc::{AllocError, Global};
 use std::test::Fail;
 use trace_reader::read_trace;

@@ -2,8 +2,8 @@
 use agreement::agree::agree;
 use agreement::search::{Meeting, meet};
 use agreement::trail::Trail;
-use object_heap::heap::Heap;
-use op_step::meter::Meter;
+use object_heap::Heap;
+use op_step::Meter;
 use op_step::replay::replay;
 use std::alloc::Global;
 use std::test::Fail;

@@ -3,9 +3,8 @@ ghost use Rattle.std.specs.Prelude.{◌≡◌, IfOk, IfSome};
 
 use crate::agreeing::{BREAK, CYCLE, LET_GO, heap_of};
 use agreement::agree::agree;
-use agreement::checkpoint::Checkpoint;
-use agreement::remains::Remains;
-use object_heap::heap::Heap;
+use agreement::{Checkpoint, Remains};
+use object_heap::Heap;
 use std::alloc::{AllocError, Global};
 use std::sync::Arc;
 use std::test::Fail;

@@ -1,6 +1,6 @@
 //! Sums of heaps: they tell heaps apart that differ in one place, and equal heaps have equal ones, however they came about.
 use crate::agreeing::heap_of;
-use object_heap::heap::Heap;
+use object_heap::Heap;
 use std::alloc::Global;
 use std::test::Fail;
 

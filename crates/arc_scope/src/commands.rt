@@ -3,11 +3,8 @@ ghost use Rattle.std.specs.Prelude.{◌≡◌, ◌≢◌, ◌⊎◌, true};
 ghost use Rattle.command_words.specs.Named.{HasWorkers};
 ghost use Rattle.arc_scope.specs.Commands.{IsServed};
 
-use command_race::race::serve_race;
-use command_serve::exits::Exit;
-use command_serve::replay::serve_replay;
-use command_serve::script::serve_script;
-use command_serve::whatif::serve_whatif;
+use command_race::serve_race;
+use command_serve::{Exit, serve_replay, serve_script, serve_whatif};
 use command_words::Command;
 use std::alloc::Global;
 use std::sync::Wait;

@@ -9,7 +9,7 @@ ghost use Rattle.arc_scope.specs.Commands.{IsServed};
 
 mod commands;
 
-use command_serve::exits::Exit;
+use command_serve::Exit;
 use command_words::{WordsFault, read_words};
 use commands::serve_command;
 use std::alloc::Global;

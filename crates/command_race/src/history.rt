@@ -3,9 +3,7 @@ ghost use Rattle.std.specs.Prelude.{◌≡◌, ◌++◌, OnOk, IfOk, string_byte
 ghost use Rattle.command_race.specs.Race.{entry_text, history_text, race_text};
 
 use crate::reports::report_of_desk;
-use edit_desk::desk::Desk;
-use edit_desk::entries::Entry;
-use edit_desk::replies::push_reply;
+use edit_desk::{Desk, Entry, push_reply};
 use std::alloc::{AllocError, Global};
 
 // Adds the line of an entry: its session, and the reply.

@@ -6,13 +6,9 @@ ghost use Rattle.command_race.specs.Race.{IsRaced, MayAnswer, ServesRace, race_t
 
 use crate::history::text_on;
 use crate::split::by_session;
-use command_serve::due::{Due, fault_due, too_long};
-use command_serve::exits::Exit;
-use command_serve::input::{InputFault, read_all};
-use command_serve::serve::write_due;
-use live_sessions::book::Naming;
-use live_sessions::live::{Started, open};
+use command_serve::{Due, Exit, InputFault, fault_due, read_all, too_long, write_due};
 use live_sessions::race::race;
+use live_sessions::{Naming, Started, open};
 use std::alloc::{AllocError, Global};
 use std::marker::Brand;
 use std::sync::Wait;

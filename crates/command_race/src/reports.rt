@@ -4,11 +4,9 @@ ghost use Rattle.command_serve.specs.Replay.{report_of_replay};
 ghost use Rattle.live_sessions.specs.Fronts.{IsFront, trace_after};
 ghost use Rattle.live_sessions.specs.Views.{Reads};
 
-use command_serve::replay::report_on_run;
-use edit_desk::desk::Desk;
-use live_sessions::book::Naming;
-use live_sessions::laws::stands_after;
-use live_sessions::pass::Pass;
+use command_serve::report_on_run;
+use edit_desk::Desk;
+use live_sessions::{Naming, Pass, stands_after};
 use std::alloc::{AllocError, Global};
 
 /// The text of the report of what a session reads now: it is the report of the replay, from nothing, of the trace after the

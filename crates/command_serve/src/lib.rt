@@ -1,10 +1,18 @@
 //! What each command reads, and what it writes.
 #![tactic(auto)]
 
-pub mod due;
-pub mod exits;
-pub mod input;
-pub mod replay;
-pub mod script;
-pub mod serve;
-pub mod whatif;
+mod due;
+mod exits;
+mod input;
+mod replay;
+mod script;
+mod serve;
+mod whatif;
+
+pub use due::{Due, fault_due, too_long};
+pub use exits::Exit;
+pub use input::{InputFault, read_all};
+pub use replay::{report_on, report_on_run, serve_replay};
+pub use script::serve_script;
+pub use serve::write_due;
+pub use whatif::serve_whatif;

@@ -1,7 +1,5 @@
 //! What `whatif` and `script` write.
-use command_serve::exits::Exit;
-use command_serve::script::serve_script;
-use command_serve::whatif::serve_whatif;
+use command_serve::{Exit, serve_script, serve_whatif};
 use std::alloc::Global;
 use std::process::Abort;
 use std::test::Fail;

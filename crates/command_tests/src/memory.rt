@@ -1,15 +1,12 @@
 //! Each call, made once more where memory was refused to it: the answer is `Memory`, what stood stands, and the second call
 //! gives the ordinary answer. `tools/refused_memory` refuses each allocation in turn.
-use command_serve::exits::Exit;
-use command_serve::replay::serve_replay;
-use leak_report::leaks::find_leaks;
+use command_serve::{Exit, serve_replay};
 use leak_report::report::report;
-use leak_report::shown::Report;
-use leak_report::write::{WriteFault, write_report};
-use object_heap::heap::Heap;
-use op_step::chunk_run::{ChunkRun, run};
-use op_step::meter::Meter;
-use ownership_model::leaks::Leaks;
+use leak_report::{Report, WriteFault, find_leaks, write_report};
+use object_heap::Heap;
+use op_step::chunk_run::run;
+use op_step::{ChunkRun, Meter};
+use ownership_model::Leaks;
 use std::alloc::{AllocError, Global};
 use std::process::Abort;
 use std::test::Fail;

@@ -1,6 +1,5 @@
 //! What `replay` writes: worked traces, cut inputs, devices that fail, and the limits.
-use command_serve::exits::Exit;
-use command_serve::replay::serve_replay;
+use command_serve::{Exit, serve_replay};
 use std::alloc::{AllocError, Global};
 use std::process::Abort;
 use std::test::Fail;

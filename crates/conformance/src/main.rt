@@ -5,12 +5,9 @@
 ghost use Rattle.std.specs.Prelude.{◌≢◌};
 ghost use Rattle.command_serve.specs.declared.exits.Exit.TheVariants.{Usage};
 
-use command_race::race::serve_race;
-use command_serve::exits::Exit;
-use command_serve::replay::serve_replay;
-use command_serve::script::serve_script;
-use command_serve::whatif::serve_whatif;
-use op_step::meter::Meter;
+use command_race::serve_race;
+use command_serve::{Exit, serve_replay, serve_script, serve_whatif};
+use op_step::Meter;
 use op_step::replay::replay;
 use ownership_model::plain::plain_replay;
 use std::alloc::{AllocError, Global};

@@ -10,10 +10,8 @@ ghost use Rattle.trace_reader.specs.Writing.{lines_text};
 
 use crate::kept::KEPT_MARKS;
 use mark_shelf::MarkShelf;
-use op_step::meter::Meter;
-use run_engine::edits::try_size;
-use run_engine::faults::RunFault;
-use run_engine::run::Run;
+use op_step::Meter;
+use run_engine::{Run, RunFault, try_size};
 use std::alloc::{AllocError, Global};
 use std::marker::Model;
 use std::sync::Arc;

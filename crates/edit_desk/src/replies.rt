@@ -2,7 +2,7 @@
 ghost use Rattle.std.specs.Prelude.{◌≡◌, ◌++◌, ◌∷◌, [], Some, IfOk, OnOk, string_bytes};
 ghost use Rattle.edit_desk.specs.ReplyText.{cause_text, edit_index, reply_text};
 
-use run_engine::faults::Refusal;
+use run_engine::Refusal;
 use std::alloc::AllocError;
 
 /// What a desk replies to a request. The causes are tried in the order `HistoryFull`, `Stale`, `Refused`, `Accepted`.

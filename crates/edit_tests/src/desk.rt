@@ -1,12 +1,9 @@
 //! Requests to a desk.
 ghost use Rattle.std.specs.Prelude.{◌≡◌, [], IfOk};
 
-use edit_desk::desk::Desk;
-use edit_desk::entries::Request;
-use edit_desk::published::{export, what_if};
-use edit_desk::replies::{Reply, push_reply};
-use op_step::meter::Meter;
-use run_engine::faults::Refusal;
+use edit_desk::{Desk, Reply, Request, export, push_reply, what_if};
+use op_step::Meter;
+use run_engine::Refusal;
 use std::test::Fail;
 use trace_types::edits::{Batch, Edit};
 use trace_types::kinds::Kind;

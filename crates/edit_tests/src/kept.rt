@@ -1,15 +1,11 @@
 //! How many checkpoints a desk keeps, and which stretches it steps no second time.
 use crate::small_traces::{add, add_pairs, batch, broken_cycle, new, op, two};
-use edit_desk::desk::Desk;
-use edit_desk::entries::Request;
-use edit_desk::kept::{KEPT_CHUNKS, KEPT_MARKS, KEPT_NAMES};
-use edit_desk::replies::Reply;
+use edit_desk::{Desk, KEPT_CHUNKS, KEPT_MARKS, KEPT_NAMES, Reply, Request};
 use mark_shelf::MarkShelf;
 use object_heap::Heap;
-use op_step::ChunkRun;
 use op_step::chunk_run::run;
-use op_step::meter::Meter;
-use run_engine::run::Run;
+use op_step::{ChunkRun, Meter};
+use run_engine::Run;
 use std::alloc::Global;
 use std::test::Fail;
 use trace_types::edits::{Batch, Edit};

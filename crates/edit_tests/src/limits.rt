@@ -1,8 +1,7 @@
 //! A trace with as many operations as there may be, and its edits.
 use crate::small_traces::edited_alone;
-use op_step::meter::Meter;
-use run_engine::faults::RunFault;
-use run_engine::run::Run;
+use op_step::Meter;
+use run_engine::{Run, RunFault};
 use std::alloc::Global;
 use std::test::Fail;
 use trace_types::edits::{Batch, Edit};

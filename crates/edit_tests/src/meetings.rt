@@ -3,12 +3,12 @@ use crate::small_traces::{
     add, add_cycle, add_pairs, are_marks, batch, broken_cycle, counts, did, edited_alone,
     has_outcome, new, op, two,
 };
-use leak_report::leaks::find_leaks;
-use object_heap::heap::Heap;
-use op_step::meter::Meter;
+use leak_report::find_leaks;
+use object_heap::Heap;
+use op_step::Meter;
 use op_step::replay::replay;
-use ownership_model::leaks::Holder;
-use run_engine::run::Run;
+use ownership_model::Holder;
+use run_engine::Run;
 use std::alloc::Global;
 use std::test::Fail;
 use trace_types::edits::Edit;

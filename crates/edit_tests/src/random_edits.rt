@@ -4,9 +4,9 @@ ghost use Rattle.std.specs.Prelude.{◌<◌};
 
 use crate::small_traces::{add, batch, has_outcome, new, op_of};
 use mark_shelf::MarkShelf;
-use op_step::meter::Meter;
+use op_step::Meter;
 use op_step::replay::replay;
-use run_engine::run::Run;
+use run_engine::Run;
 use std::alloc::Global;
 use std::test::Fail;
 use trace_types::edits::{Batch, Edit};

@@ -1,10 +1,10 @@
 //! An operation of another label: where the replay stops, and what the report says.
 use crate::small_traces::{add, add_pairs, batch, edited_alone, new, op_of};
-use leak_report::report::{report, report_of_stretches};
-use leak_report::text::text_of;
-use op_step::meter::Meter;
+use leak_report::report::report;
+use leak_report::{report_of_stretches, text_of};
+use op_step::Meter;
 use op_step::replay::replay;
-use run_engine::run::Run;
+use run_engine::Run;
 use std::alloc::Global;
 use std::test::Fail;
 use trace_reader::read_trace;

@@ -2,10 +2,8 @@
 use crate::small_traces::{
     add_cycle, are_marks, batch, broken_cycle, edited_alone, has_outcome, new, op, op_of, two,
 };
-use op_step::meter::Meter;
-use run_engine::edits::apply;
-use run_engine::faults::RunFault;
-use run_engine::run::Run;
+use op_step::Meter;
+use run_engine::{Run, RunFault, apply};
 use std::test::Fail;
 use trace_types::edits::Edit;
 use trace_types::kinds::Kind;

@@ -1,9 +1,8 @@
 //! Small traces of known operations, and what is asked of their runs.
-use edit_desk::kept::{KEPT_CHUNKS, KEPT_MARKS, KEPT_NAMES};
+use edit_desk::{KEPT_CHUNKS, KEPT_MARKS, KEPT_NAMES};
 use mark_shelf::MarkShelf;
-use op_step::meter::Meter;
-use run_engine::faults::RunFault;
-use run_engine::run::Run;
+use op_step::Meter;
+use run_engine::{Run, RunFault};
 use std::alloc::Global;
 use std::test::Fail;
 use trace_types::edits::{Batch, Edit};

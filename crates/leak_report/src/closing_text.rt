@@ -4,7 +4,7 @@ ghost use Rattle.leak_report.specs.Text.{ending_text, freed_text, fate_text, lif
 
 use crate::lives::{Ending, Life};
 use crate::shown::Report;
-use ownership_model::leaks::{Holder, HuskLeft, Leak};
+use ownership_model::{Holder, HuskLeft, Leak};
 use std::alloc::AllocError;
 
 /// Adds a line for each object that was made.

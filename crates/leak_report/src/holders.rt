@@ -8,8 +8,8 @@ ghost use Rattle.ownership_model.specs.Bounds.{ObjectFits};
 ghost use Rattle.ownership_model.specs.Leaks.{holds, fields_holding, entry_holding, holders_in};
 ghost use Rattle.leak_report.specs.HolderPass.{with_holders, unheld, leak_names};
 
-use object_heap::heap::Heap;
-use ownership_model::leaks::{Holder, Leak};
+use object_heap::Heap;
+use ownership_model::{Holder, Leak};
 use std::alloc::{AllocError, Global};
 use trace_types::limits::MAX_FIELDS;
 use trace_types::sequence::Sequence;

@@ -8,10 +8,9 @@ ghost use Rattle.ownership_model.specs.State as definition;
 ghost use Rattle.ownership_model.specs.Leaks.{leaks_of, leaked_in, husk_of, husks_in};
 
 use crate::holders::{push_holders, without_holders};
-use object_heap::heap::Heap;
+use object_heap::Heap;
 use object_heap::reach::reach;
-use ownership_model::leaks::{HuskLeft, Leaks};
-use ownership_model::link::Link;
+use ownership_model::{HuskLeft, Leaks, Link};
 use std::alloc::{AllocError, Global};
 use std::collections::BTreeSet;
 use trace_types::sequence::Sequence;

@@ -4,10 +4,17 @@
 mod closing_text;
 mod fates;
 mod holders;
-pub mod leaks;
+mod leaks;
 mod line_text;
 pub mod lives;
 pub mod report;
-pub mod shown;
-pub mod text;
-pub mod write;
+mod shown;
+mod text;
+mod write;
+
+pub use leaks::find_leaks;
+pub use lives::{Ending, Life};
+pub use report::report_of_stretches;
+pub use shown::Report;
+pub use text::text_of;
+pub use write::{WriteFault, write_report};

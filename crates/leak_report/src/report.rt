@@ -6,7 +6,7 @@ ghost use Rattle.leak_report.specs.Report.{report_of};
 use crate::leaks::find_leaks;
 use crate::lives::lives;
 use crate::shown::Report;
-use object_heap::heap::Heap;
+use object_heap::Heap;
 use std::alloc::{AllocError, Global};
 use trace_types::limits::MAX_OPS;
 use trace_types::outcomes::Outcome;

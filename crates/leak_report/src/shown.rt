@@ -7,7 +7,7 @@ ghost use Rattle.leak_report.specs.Text.{lines_text};
 
 use crate::line_text::push_all_lines;
 use crate::lives::Life;
-use ownership_model::leaks::Leaks;
+use ownership_model::Leaks;
 use std::alloc::AllocError;
 use std::marker::Model;
 use trace_types::limits::MAX_OPS;

@@ -6,11 +6,7 @@ ghost use Rattle.live_sessions.specs.Desks.{Follows, IsAfter};
 ghost use Rattle.live_sessions.specs.Fronts.{is_full, count_of, standing_of, IsFront};
 
 use crate::limits::PLACES;
-use edit_desk::desk::Desk;
-use edit_desk::entries::Request;
-use edit_desk::prepared::Prepared;
-use edit_desk::published::Published;
-use edit_desk::replies::Reply;
+use edit_desk::{Desk, Prepared, Published, Reply, Request};
 use std::alloc::{AllocError, Global};
 use std::marker::Model;
 use trace_types::limits::MAX_ENTRIES;

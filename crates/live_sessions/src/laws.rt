@@ -2,7 +2,7 @@
 ghost use Rattle.std.specs.Prelude.{◌≡◌};
 ghost use Rattle.live_sessions.specs.Fronts.{IsFront, trace_after};
 
-use edit_desk::desk::Desk;
+use edit_desk::Desk;
 
 /// The trace that stands is the one after the desk's history, each reply of which was the one that was due.
 pub fn stands_after(desk: &Desk)

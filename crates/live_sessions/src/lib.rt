@@ -1,17 +1,29 @@
 //! Sessions on threads: up to sixteen edit and read one trace at once, over one legal history.
 #![tactic(auto)]
 
-pub mod book;
-pub mod counted;
-pub mod faults;
-pub mod laws;
-pub mod limits;
-pub mod live;
-pub mod locked;
-pub mod pass;
-pub mod places;
-pub mod publisher;
+mod book;
+mod counted;
+mod faults;
+mod laws;
+mod limits;
+mod live;
+mod locked;
+mod pass;
+mod places;
+mod publisher;
 pub mod race;
-pub mod receipt;
-pub mod shown;
-pub mod submitter;
+mod receipt;
+mod shown;
+mod submitter;
+
+pub use book::{Book, Front, Naming};
+pub use counted::CountedDesk;
+pub use faults::{NoMeeting, NoPlace, OpenFault, SubmitFault};
+pub use laws::stands_after;
+pub use limits::{PLACES, READERS};
+pub use live::{Live, Started, Writer, open, writer_of};
+pub use pass::Pass;
+pub use places::Places;
+pub use publisher::Publisher;
+pub use receipt::Receipt;
+pub use shown::Shown;

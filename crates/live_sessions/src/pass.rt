@@ -11,7 +11,7 @@ ghost use Rattle.live_sessions.specs.Fronts.{count_of, IsFront};
 use crate::book::{Front, Naming};
 use crate::limits::PLACES;
 use crate::shown::Shown;
-use edit_desk::published::Published;
+use edit_desk::Published;
 use left_right::ReadHandle;
 use std::marker::Model;
 

@@ -5,8 +5,7 @@ ghost use Rattle.live_sessions.specs.Fronts.{IsFront};
 ghost use Rattle.live_sessions.specs.ShownView.{shown_view};
 
 use crate::book::{Front, Naming};
-use edit_desk::entries::Entry;
-use edit_desk::published::Published;
+use edit_desk::{Entry, Published};
 use left_right::Absorb;
 use std::alloc::AllocError;
 use std::collections::LinkedList;

@@ -10,6 +10,7 @@ use Rattle.op_step.specs.Chunk.{Chunk, chunk_code}
 use Rattle.mark_shelf.specs.declared.names.ChunkName.{ChunkName}
 use Rattle.mark_shelf.specs.contracts.names.ChunkName as name
 
+-- what is kept that serves a replay again, and how much of it there may be
 pub record Shelf : Type 0 where
   -- the names of checkpoints, the one used last first
   pub marks : List ℕ
@@ -60,6 +61,7 @@ Touches old id new answer = ((new ≡ touched old id) × (answer ≡ dropped old
 abbrev pub name_of : List Operation → ChunkName
 name_of ops = record { first = option_map_or (λ (o : Operation). o.id) (slice_get ops 0) 0; count = length ops }
 
+-- whether two chunks go by one name
 abbrev pub name_eq : ChunkName → ChunkName → Bool
 name_eq m n = nat_eq m.first n.first && nat_eq m.count n.count
 

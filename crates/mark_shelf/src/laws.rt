@@ -1,4 +1,4 @@
-//! What follows of the definitions.
+//! What follows from the definitions.
 ghost use Rattle.std.specs.Prelude.{◌≡◌, ℕ, Some, Contains};
 ghost use Rattle.op_step.specs.Chunk.{Chunk};
 ghost use Rattle.mark_shelf.specs.Shelf.{Shelf, named, sought};

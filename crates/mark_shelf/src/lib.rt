@@ -1,10 +1,12 @@
 //! Bounded lists of what serves a replay again: which checkpoints are kept, by last use, and which chunks were replayed.
 #![tactic(auto)]
 
-pub mod laws;
+mod laws;
 mod marks;
 mod memo;
-pub mod names;
-pub mod shelf;
+mod names;
+mod shelf;
 
+pub use laws::finds_what_was_there;
+pub use names::ChunkName;
 pub use shelf::MarkShelf;

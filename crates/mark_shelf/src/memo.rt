@@ -9,8 +9,8 @@ ghost use Rattle.mark_shelf.specs.Shelf.{name_eq, newest};
 use crate::names::{ChunkName, same_ops};
 use indexmap::IndexMap;
 use lru::LruCache;
-use object_heap::heap::Heap;
-use op_step::chunk_run::ChunkRun;
+use object_heap::Heap;
+use op_step::ChunkRun;
 use trace_types::ops::Op;
 
 /// Puts a chunk in front, under a number above all. False where memory is refused: then the chunk is lost, and all stay.

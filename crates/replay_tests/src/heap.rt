@@ -5,7 +5,7 @@ ghost use Rattle.ownership_model.specs.Changes.{changed, CanChange};
 ghost use Rattle.ownership_model.specs.Bounds.{ChangesFit};
 ghost use Rattle.ownership_model.proofs.WorkedReleases as Worked;
 
-use object_heap::heap::Heap;
+use object_heap::Heap;
 use std::alloc::{AllocError, Global};
 use std::test::Fail;
 use trace_types::outcomes::Event;

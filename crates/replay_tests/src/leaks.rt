@@ -5,9 +5,9 @@ ghost use Rattle.ownership_model.specs.Changes.{changed, CanChange};
 ghost use Rattle.ownership_model.specs.Bounds.{ChangesFit};
 ghost use Rattle.ownership_model.proofs.WorkedReleases as Worked;
 
-use leak_report::leaks::find_leaks;
-use object_heap::heap::Heap;
-use ownership_model::leaks::{Holder, HuskLeft};
+use leak_report::find_leaks;
+use object_heap::Heap;
+use ownership_model::{Holder, HuskLeft};
 use std::alloc::{AllocError, Global};
 use std::test::Fail;
 use trace_types::sequence::Sequence;

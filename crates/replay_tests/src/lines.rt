@@ -1,9 +1,8 @@
 //! Each kind of line of a report.
 use crate::replayed::{Replayed, counts};
 use leak_report::lives::lives;
-use leak_report::shown::Report;
-use leak_report::text::text_of;
-use ownership_model::leaks::{Holder, HuskLeft, Leak, Leaks};
+use leak_report::{Report, text_of};
+use ownership_model::{Holder, HuskLeft, Leak, Leaks};
 use std::alloc::Global;
 use std::test::Fail;
 use trace_types::kinds::Kind;

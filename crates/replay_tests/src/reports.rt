@@ -2,10 +2,9 @@
 ghost use Rattle.std.specs.Prelude.{Some};
 
 use crate::replayed::{Replayed, counts};
-use leak_report::leaks::find_leaks;
 use leak_report::report::report;
-use leak_report::write::{WriteFault, write_report};
-use object_heap::heap::Heap;
+use leak_report::{WriteFault, find_leaks, write_report};
+use object_heap::Heap;
 use std::alloc::Global;
 use std::test::Fail;
 use trace_types::devices::{Failed, Sink, StdSink};

@@ -1,8 +1,8 @@
 //! The ends of scopes: small traces with their reports, and large ones.
 use leak_report::report::report;
-use leak_report::text::text_of;
-use object_heap::heap::Heap;
-use op_step::meter::Meter;
+use leak_report::text_of;
+use object_heap::Heap;
+use op_step::Meter;
 use op_step::replay::replay;
 use std::alloc::Global;
 use std::process::Abort;

@@ -1,5 +1,5 @@
 //! What is wanted of each operation of a small program.
-use op_step::meter::Meter;
+use op_step::Meter;
 use op_step::replay::replay;
 use std::alloc::Global;
 use std::process::Abort;

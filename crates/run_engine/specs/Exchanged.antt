@@ -18,5 +18,6 @@ pub record CanExchange (x : Remains) (m : State) : Type 0 where
 abbrev pub IsExchangeable : Remains → SegmentView → Type 0
 IsExchangeable x s = IfSome s.mark (CanExchange x)
 
+-- and the checkpoint of each segment, where it has one
 abbrev pub AreExchangeable : Remains → List SegmentView → Type 0
 AreExchangeable x segments = AllByRecursion (IsExchangeable x) segments

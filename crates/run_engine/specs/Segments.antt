@@ -9,6 +9,7 @@ use Rattle.run_engine.specs.SegmentView.{SegmentView}
 use Rattle.run_engine.specs.Marks.{IsGreatest}
 use Rattle.ownership_model.specs.Step.{end_from, outcomes_from}
 
+-- the operations of a segment
 abbrev pub ops_of : SegmentView → List Operation
 ops_of s = s.ops
 

@@ -29,6 +29,7 @@ abbrev pub Fits : ℕ → Span → Type 0
 Fits n (Old from len) = from + len ≤ n
 Fits n (New op) = Unit {0}
 
+-- each span lies within it
 abbrev pub AreFit : ℕ → List Span → Type 0
 AreFit n spans = AllByRecursion (Fits n) spans
 

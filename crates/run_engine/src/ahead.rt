@@ -15,7 +15,7 @@ use crate::names::is_among;
 use crate::piece::{Piece, STRIDE, found, joined, replayed_on, stepped};
 use crate::touching::{inner_name, touch_ahead};
 use mark_shelf::MarkShelf;
-use op_step::meter::Meter;
+use op_step::Meter;
 use std::alloc::{AllocError, Global};
 use trace_types::ops::Op;
 

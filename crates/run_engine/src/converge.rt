@@ -21,8 +21,8 @@ use crate::segment::{Segment, append};
 use crate::stretch::{may_begin, old_stretch};
 use crate::touching::touch_at;
 use mark_shelf::MarkShelf;
-use object_heap::heap::Heap;
-use op_step::meter::Meter;
+use object_heap::Heap;
+use op_step::Meter;
 use std::alloc::{AllocError, Global};
 
 /// Where the operations begin that both traces end with, in the old trace and in the edited one.

@@ -14,6 +14,9 @@ use trace_types::limits::{MAX_EDITS, MAX_OPS};
 use trace_types::ops::Op;
 use trace_types::trace::Trace;
 
+// How many operations a part of a whole trace has, but for the last one.
+const PART: usize = 64;
+
 /// The trace after the edits. The size of the batch is tried first, which takes no memory. Then the edits are tried in
 /// order, each on the result of those before it.
 pub fn apply(alloc: Global, trace: &Trace, batch: &Batch) -> Result<Trace, RunFault>
@@ -28,15 +31,15 @@ pub fn apply(alloc: Global, trace: &Trace, batch: &Batch) -> Result<Trace, RunFa
     Ok(copied(alloc, &ops)?)
 }
 
-// The operations, where they stand, in parts of 64.
+// The operations, where they stand, in parts.
 fn parted<'a>(alloc: Global, all: &'a [Op]) -> Result<Original<'a>, AllocError>
     requires { length all.now ≤ MAX_OPS }
     ensures { IfOk result (λ l. l ≡ all.now) }
 {
-    let mut parts = Vec::with_capacity(alloc, all.len() / 64 + 1)?;
+    let mut parts = Vec::with_capacity(alloc, all.len() / PART + 1)?;
     let mut at = 0;
     while at < all.len() {
-        let to = at + (all.len() - at).min(64);
+        let to = at + (all.len() - at).min(PART);
         let ops = &all[at..to];
         parts.push(Part::new(ops, bounds_of(ops)))?;
         at = to;

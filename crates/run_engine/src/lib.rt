@@ -4,8 +4,8 @@
 mod ahead;
 mod contents;
 mod converge;
-pub mod edits;
-pub mod faults;
+mod edits;
+mod faults;
 mod head_and_tail;
 mod listing;
 mod loading;
@@ -16,10 +16,14 @@ mod piece;
 mod rejoin;
 mod restart;
 mod revision;
-pub mod run;
+mod run;
 mod seek;
 mod segment;
 mod spans;
 mod starts;
 mod stretch;
 mod touching;
+
+pub use edits::{apply, try_size};
+pub use faults::{Refusal, RunFault};
+pub use run::Run;

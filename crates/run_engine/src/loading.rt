@@ -10,9 +10,9 @@ ghost use Rattle.run_engine.specs.Loaded.{is_gone, kept_below, loaded_view};
 
 use crate::piece::{Piece, STRIDE, joined, replayed, replayed_on};
 use mark_shelf::MarkShelf;
-use object_heap::heap::Heap;
+use object_heap::Heap;
+use op_step::Meter;
 use op_step::chunk_run::copy_ops;
-use op_step::meter::Meter;
 use std::alloc::{AllocError, Global};
 use std::collections::BTreeSet;
 use trace_types::ops::Op;

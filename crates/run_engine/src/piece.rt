@@ -7,13 +7,11 @@ ghost use Rattle.run_engine.specs.Segments.{bare_segment, IsPiece};
 ghost use Rattle.run_engine.specs.Memo.{IsAmong, IsSearched};
 
 use crate::segment::{Segment, append};
-use mark_shelf::MarkShelf;
-use mark_shelf::laws::finds_what_was_there;
-use object_heap::heap::Heap;
-use op_step::chunk_run::{ChunkRun, run_of};
-use op_step::meter::Meter;
+use mark_shelf::{MarkShelf, finds_what_was_there};
+use object_heap::Heap;
+use op_step::chunk_run::run_of;
 use op_step::replay::replay_from;
-use op_step::see_kept;
+use op_step::{ChunkRun, Meter, see_kept};
 use std::alloc::{AllocError, Global};
 use std::collections::BTreeSet;
 use trace_types::ops::Op;

@@ -8,11 +8,11 @@ ghost use Rattle.run_engine.specs.Segments.{trace_of, marks_from, IsRunFrom};
 ghost use Rattle.run_engine.specs.Exchanged.{exchanged, AreExchangeable};
 
 use crate::segment::{Segment, share_segments};
-use agreement::checkpoint::Checkpoint;
-use agreement::remains::{Remains, patch};
+use agreement::remains::patch;
 use agreement::search::{Meeting, meet};
 use agreement::trail::Trail;
-use object_heap::heap::Heap;
+use agreement::{Checkpoint, Remains};
+use object_heap::Heap;
 use std::alloc::{AllocError, Global};
 use std::sync::Arc;
 

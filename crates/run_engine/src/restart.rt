@@ -15,10 +15,10 @@ use crate::listing::Listing;
 use crate::piece::Piece;
 use crate::revision::Revision;
 use crate::segment::{Segment, share_segments};
-use agreement::checkpoint::Checkpoint;
+use agreement::Checkpoint;
 use mark_shelf::MarkShelf;
-use object_heap::heap::Heap;
-use op_step::meter::Meter;
+use object_heap::Heap;
+use op_step::Meter;
 use std::alloc::{AllocError, Global};
 use std::collections::BTreeSet;
 

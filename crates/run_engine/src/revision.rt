@@ -6,7 +6,7 @@ ghost use Rattle.run_engine.specs.Revision.{IsRevision, IsLastFrom};
 use crate::listing::Listing;
 use crate::segment::Segment;
 use crate::starts::part_at;
-use object_heap::heap::Heap;
+use object_heap::Heap;
 use std::alloc::{AllocError, Global};
 use trace_types::limits::MAX_OPS;
 

@@ -7,9 +7,9 @@ ghost use Rattle.run_engine.specs.Cleared.{last_name};
 ghost use Rattle.run_engine.specs.Exchanged.{exchanged, IsExchangeable};
 
 use crate::part::{Bounds, Part, bounds_of};
-use agreement::checkpoint::Checkpoint;
-use agreement::remains::Remains;
-use op_step::chunk_run::{ChunkRun, Replayed};
+use agreement::{Checkpoint, Remains};
+use op_step::ChunkRun;
+use op_step::chunk_run::Replayed;
 use std::alloc::{AllocError, Global};
 use std::marker::Model;
 use std::sync::Arc;

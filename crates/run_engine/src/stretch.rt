@@ -11,7 +11,7 @@ use crate::contents::len_in;
 use crate::piece::Piece;
 use crate::revision::Revision;
 use crate::segment::{Segment, share_segments};
-use object_heap::heap::Heap;
+use object_heap::Heap;
 use std::alloc::{AllocError, Global};
 use std::collections::BTreeSet;
 

@@ -10,7 +10,7 @@ use crate::listing::Listing;
 use crate::names::add_name;
 use crate::piece::STRIDE;
 use mark_shelf::MarkShelf;
-use op_step::chunk_run::ChunkRun;
+use op_step::ChunkRun;
 use std::alloc::AllocError;
 use std::collections::BTreeSet;
 

@@ -3,12 +3,8 @@ ghost use Rattle.std.specs.Prelude.{◌≡◌, [], IfOk};
 ghost use Rattle.live_sessions.specs.Events.{opening_of};
 
 use crate::{order, places, refused, sixteen};
-use edit_desk::desk::Desk;
-use live_sessions::book::Naming;
-use live_sessions::live::{Live, Started, open};
-use live_sessions::publisher::Publisher;
-use live_sessions::receipt::Receipt;
-use live_sessions::shown::Shown;
+use edit_desk::Desk;
+use live_sessions::{Live, Naming, Publisher, Receipt, Shown, Started, open};
 use std::alloc::Global;
 use std::marker::Brand;
 use std::process::Abort;

@@ -5,16 +5,10 @@ ghost use Rattle.live_sessions.specs.Events.{opening_of};
 use crate::cases::both;
 use crate::requests::{one_new, removal, wait_for};
 use crate::steps::{leaves, submits};
-use edit_desk::desk::Desk;
-use edit_desk::replies::Reply;
-use live_sessions::book::Naming;
-use live_sessions::counted::CountedDesk;
-use live_sessions::live::{Live, Started, writer_of};
-use live_sessions::pass::Pass;
-use live_sessions::places::Places;
-use live_sessions::publisher::Publisher;
-use live_sessions::receipt::Receipt;
-use live_sessions::shown::Shown;
+use edit_desk::{Desk, Reply};
+use live_sessions::{
+    CountedDesk, Live, Naming, Pass, Places, Publisher, Receipt, Shown, Started, writer_of,
+};
 use std::alloc::Global;
 use std::marker::Brand;
 use std::process::Abort;

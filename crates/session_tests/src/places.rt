@@ -2,14 +2,8 @@
 use crate::cases::{Case, both, desk_after};
 use crate::requests::{no_edits, one_new, removal};
 use crate::steps::{joins, leaves, reads, submits};
-use edit_desk::replies::Reply;
-use live_sessions::book::Naming;
-use live_sessions::limits::PLACES;
-use live_sessions::live::Live;
-use live_sessions::pass::Pass;
-use live_sessions::publisher::Publisher;
-use live_sessions::receipt::Receipt;
-use live_sessions::shown::Shown;
+use edit_desk::Reply;
+use live_sessions::{Live, Naming, PLACES, Pass, Publisher, Receipt, Shown};
 use std::alloc::Global;
 use std::process::Abort;
 use std::sync::Wait;

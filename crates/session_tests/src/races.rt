@@ -1,9 +1,9 @@
 //! `race` over memory. What is compared is the same whatever the order in which the sessions come to the lock.
 ghost use Rattle.std.specs.Prelude.{◌≤◌};
 
-use command_race::race::serve_race;
-use command_serve::exits::Exit;
-use live_sessions::limits::PLACES;
+use command_race::serve_race;
+use command_serve::Exit;
+use live_sessions::PLACES;
 use std::alloc::{AllocError, Global};
 use std::sync::Wait;
 use std::test::Fail;

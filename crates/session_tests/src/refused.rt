@@ -2,16 +2,8 @@
 use crate::cases::{Case, desk_after};
 use crate::requests::{new_and_clone, removal};
 use crate::steps::leaves;
-use edit_desk::desk::Desk;
-use edit_desk::entries::Request;
-use edit_desk::replies::Reply;
-use live_sessions::book::Naming;
-use live_sessions::faults::SubmitFault;
-use live_sessions::live::Live;
-use live_sessions::pass::Pass;
-use live_sessions::publisher::Publisher;
-use live_sessions::receipt::Receipt;
-use live_sessions::shown::Shown;
+use edit_desk::{Desk, Reply, Request};
+use live_sessions::{Live, Naming, Pass, Publisher, Receipt, Shown, SubmitFault};
 use std::alloc::Global;
 use std::process::Abort;
 use std::sync::Wait;

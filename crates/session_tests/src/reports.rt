@@ -2,10 +2,9 @@
 ghost use Rattle.std.specs.Prelude.{◌≡◌, []};
 ghost use Rattle.live_sessions.specs.Events.{opening_of};
 
-use command_race::reports::{report_of_desk, report_of_front};
-use edit_desk::entries::Request;
-use live_sessions::book::Naming;
-use live_sessions::live::{Started, open};
+use command_race::{report_of_desk, report_of_front};
+use edit_desk::Request;
+use live_sessions::{Naming, Started, open};
 use std::alloc::Global;
 use std::marker::Brand;
 use std::sync::Wait;

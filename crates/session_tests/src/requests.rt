@@ -1,5 +1,5 @@
 //! Traces and requests of the tests.
-use edit_desk::entries::Request;
+use edit_desk::Request;
 use std::alloc::Global;
 use std::sync::Wait;
 use std::sync::atomic::{AtomicU64, Ordering};

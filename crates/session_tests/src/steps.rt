@@ -1,12 +1,6 @@
 //! What a session of a test does, one step a function.
-use edit_desk::entries::Request;
-use edit_desk::replies::Reply;
-use live_sessions::book::Naming;
-use live_sessions::live::Live;
-use live_sessions::pass::Pass;
-use live_sessions::publisher::Publisher;
-use live_sessions::receipt::Receipt;
-use live_sessions::shown::Shown;
+use edit_desk::{Reply, Request};
+use live_sessions::{Live, Naming, Pass, Publisher, Receipt, Shown};
 use std::process::Abort;
 use std::sync::Wait;
 

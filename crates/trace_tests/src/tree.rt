@@ -1,5 +1,5 @@
 //! What no clause says: that each call succeeds, and that a tree goes on where memory was refused once.
-use share_tree::tree::ShareTree;
+use share_tree::ShareTree;
 use std::alloc::{AllocError, Global};
 use std::test::Fail;
 use trace_types::same::Same;
