@@ -13,7 +13,6 @@ use object_heap::heap::Heap;
 use op_step::chunk_run::{ChunkRun, run_of};
 use op_step::meter::Meter;
 use op_step::replay::replay_from;
-use op_step::see_kept;
 use std::alloc::{AllocError, Global};
 use std::collections::BTreeSet;
 use trace_types::ops::Op;
@@ -158,7 +157,7 @@ pub fn replayed_on(
     ensures rise { meter.new ≤ meter.old + length ops.items }
 {
     let len = front.len + ops.len();
-    see_kept(&front.end);
+    front.end.kept();
     let (outcomes, end) = replay_from(alloc, front.end, &ops, meter)?;
     let mut segments = front.segments;
     segments.push(Segment::bare(alloc, ops, outcomes)?)?;
