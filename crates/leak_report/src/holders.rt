@@ -47,12 +47,12 @@ pub fn push_holders(
     Ok(())
 }
 
-// What stands for an object. Each heap is within the limits, as the clauses of `holding` say.
+// What stands for an object. Each heap is within the limits, as the clauses of `kept` say.
 fn entry(heap: &Heap, object: u32) -> Option<&Entry>
     ensures value { option_copied result ≡ get heap.now.objects object }
     ensures fits { ObjectFits object (option_copied result) }
 {
-    let _ = heap.holding(0);
+    heap.kept();
     heap.object(object)
 }
 

@@ -5,18 +5,20 @@ ghost use Rattle.ownership_model.specs.Scopes.{scope_of, entered, left, times_in
 ghost use Rattle.object_heap.specs.Links.{first_of, earlier_in, relinked_later, relinked_earlier, last_without};
 
 use crate::place::Place;
-use crate::summed::Summed;
+use crate::weight::placed;
 use share_tree::ShareTree;
 use std::alloc::{AllocError, Global};
 use std::marker::Model;
 
 /// The scope of each label: the handles that its operations made and that are still held. Contracts see their list.
 ///
-/// Two of them share what is the same in both.
+/// Two of them share what is the same in both. It also keeps a sum, to which each handle adds a number made of its label and of the
+/// handle made before it: a hint, of which no clause speaks.
 #[derive(Drop)]
 pub struct Scopes {
-    places: Summed<Place>,
+    places: ShareTree<Place>,
     last: ShareTree<u32>,
+    sum: u64,
 }
 
 impl Model for Scopes {
@@ -38,8 +40,9 @@ impl Scopes {
         ensures { result ≡ [] }
     {
         Scopes {
-            places: Summed::empty(),
+            places: ShareTree::empty(),
             last: ShareTree::empty(),
+            sum: 0,
         }
     }
 
@@ -50,6 +53,7 @@ impl Scopes {
         Ok(Scopes {
             places: self.places.share()?,
             last: self.last.share()?,
+            sum: self.sum,
         })
     }
 
@@ -60,9 +64,9 @@ impl Scopes {
         self.places.same(&other.places) && self.last.same(&other.last)
     }
 
-    /// A number that equal scopes have in common: a handle's neighbours tell which is the last.
+    /// A number that equal scopes have in common.
     pub fn sum(&self) -> u64 {
-        self.places.sum()
+        self.sum
     }
 
     /// The handle of the label's scope that was made last.
@@ -87,8 +91,11 @@ impl Scopes {
         requires { times_in handle self.old ≡ 0 }
         ensures { OnOk result (self.new ≡ entered label handle self.old) }
     {
-        if let Err(error) = link(alloc, &mut self.places, &mut self.last, label, handle) {
+        let earlier = self.last.get(label).copied();
+        self.sum = self.sum.wrapping_add(placed(handle, label, earlier));
+        if let Err(error) = link(alloc, &mut self.places, &mut self.last, label, earlier, handle) {
             clear(&mut self.places, &mut self.last);
+            self.sum = 0;
             return Err(error);
         }
         Ok(())
@@ -101,8 +108,10 @@ impl Scopes {
         let Some(place) = self.places.get(handle).copied() else {
             return Ok(());
         };
+        self.sum = sum_without(self.sum, handle, place);
         if let Err(error) = unlink(alloc, &mut self.places, &mut self.last, handle, place) {
             clear(&mut self.places, &mut self.last);
+            self.sum = 0;
             return Err(error);
         }
         Ok(())
@@ -111,26 +120,38 @@ impl Scopes {
 
 // Nothing is linked any more.
 #[inline(never)]
-fn clear(places: &mut Summed<Place>, last: &mut ShareTree<u32>)
+fn clear(places: &mut ShareTree<Place>, last: &mut ShareTree<u32>)
     ensures places { places.new ≡ map.empty }
     ensures last { last.new ≡ map.empty }
 {
-    *places = Summed::empty();
+    *places = ShareTree::empty();
     *last = ShareTree::empty();
 }
 
-// The handle is the last of the label's scope.
+// The sum where the handle of this place is left out: the one made after it has another one before it.
+fn sum_without(sum: u64, handle: u32, place: Place) -> u64 {
+    let rest = sum.wrapping_sub(placed(handle, place.label, place.earlier));
+    match place.later {
+        Some(later) => rest
+            .wrapping_sub(placed(later, place.label, Some(handle)))
+            .wrapping_add(placed(later, place.label, place.earlier)),
+        None => rest,
+    }
+}
+
+// The handle is the last of the label's scope, behind the one that was.
 fn link(
     alloc: Global,
-    places: &mut Summed<Place>,
+    places: &mut ShareTree<Place>,
     last: &mut ShareTree<u32>,
     label: u32,
+    earlier: Option<u32>,
     handle: u32,
 ) -> Result<(), AllocError>
+    requires { earlier ≡ map.get last.old label }
     ensures places { OnOk result (places.new ≡ map.insert (relinked_later places.old (map.get last.old label) (Some handle)) handle (record { label = label; earlier = map.get last.old label; later = None })) }
     ensures last { OnOk result (last.new ≡ map.insert last.old label handle) }
 {
-    let earlier = last.get(label).copied();
     set_later(alloc, places, earlier, Some(handle))?;
     let place = Place {
         label,
@@ -144,7 +165,7 @@ fn link(
 // The handle of this place stands in no scope any more, and its neighbours are each other's.
 fn unlink(
     alloc: Global,
-    places: &mut Summed<Place>,
+    places: &mut ShareTree<Place>,
     last: &mut ShareTree<u32>,
     handle: u32,
     place: Place,
@@ -161,7 +182,7 @@ fn unlink(
 // The handle, if there is one, has another neighbour after it.
 fn set_later(
     alloc: Global,
-    places: &mut Summed<Place>,
+    places: &mut ShareTree<Place>,
     handle: Option<u32>,
     later: Option<u32>,
 ) -> Result<(), AllocError>
@@ -179,7 +200,7 @@ fn set_later(
 // The handle, if there is one, has another neighbour before it.
 fn set_earlier(
     alloc: Global,
-    places: &mut Summed<Place>,
+    places: &mut ShareTree<Place>,
     handle: Option<u32>,
     earlier: Option<u32>,
 ) -> Result<(), AllocError>

@@ -1,5 +1,4 @@
 //! What stands in a place of a heap, as one number.
-use crate::place::Place;
 use trace_types::sequence::Sequence;
 use trace_types::slots::{Entry, Holding, Slot};
 
@@ -37,14 +36,6 @@ impl Weigh for Entry {
     }
 }
 
-impl Weigh for Place {
-    fn weight(&self) -> u64 {
-        let earlier = finalized(of_handle(self.earlier));
-        let beside = finalized(earlier.wrapping_add(of_handle(self.later)));
-        scattered(self.label, beside)
-    }
-}
-
 // A handle's number, and another where there is none.
 fn of_handle(handle: Option<u32>) -> u64 {
     match handle {
@@ -62,6 +53,12 @@ fn of_fields(fields: &Sequence<Slot>) -> u64 {
             .wrapping_add(slot.weight());
     }
     weight
+}
+
+/// What a handle adds to the sum of scopes: its scope's label and the handle made before it tell where it stands.
+pub fn placed(handle: u32, label: u32, earlier: Option<u32>) -> u64 {
+    let scope = (label as u64).wrapping_mul(0x1_0000_0000);
+    scattered(handle, scope.wrapping_add(of_handle(earlier)))
 }
 
 /// What a value of this weight adds to a sum from its place.

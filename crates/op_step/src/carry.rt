@@ -1,8 +1,8 @@
 //! One operation carried out on a heap.
 ghost use Rattle.std.specs.Prelude.{◌≡◌, ◌++◌, [], None, IfOk, OnOk, OnErr, option_to_list};
 ghost use Rattle.std.specs.FinMap.{get};
-ghost use Rattle.ownership_model.specs.State.{IsSound, nothing_held};
-ghost use Rattle.ownership_model.specs.Bounds.{IsBounded, PlanFits};
+ghost use Rattle.ownership_model.specs.State.{nothing_held};
+ghost use Rattle.ownership_model.specs.Bounds.{PlanFits};
 ghost use Rattle.ownership_model.specs.Carry.{IsCarriable};
 ghost use Rattle.ownership_model.specs.Step.{step, carried_out};
 ghost use Rattle.ownership_model.specs.Step as Step;
@@ -86,7 +86,7 @@ fn carried(alloc: Global, heap: &mut Heap, op: &Op) -> Result<Outcome, AllocErro
     ensures outcome { IfOk result (λ r. r ≡ (step heap.old op.now).outcome) }
 {
     let planned = plan(alloc, heap, op)?;
-    see_kept(heap);
+    heap.kept();
     let outcome = carry_out(alloc, heap, op.id(), planned)?;
     Ok(outcome)
 }
@@ -97,14 +97,6 @@ fn let_go(heap: &mut Heap)
     ensures { heap.new ≡ nothing_held }
 {
     *heap = Heap::empty();
-}
-
-// What every heap keeps, which a look at it tells.
-pub fn see_kept(heap: &Heap)
-    ensures sound { IsSound heap.now [] }
-    ensures bounded { IsBounded heap.now }
-{
-    let _held = heap.holding(0);
 }
 
 fn carry_out(alloc: Global, heap: &mut Heap, id: u32, plan: Plan) -> Result<Outcome, AllocError>

@@ -5,7 +5,6 @@ ghost use Rattle.trace_types.specs.Trace.{has_distinct_numbers};
 ghost use Rattle.ownership_model.specs.Step.{outcomes_from, end_from, AreUnused};
 ghost use Rattle.op_step.specs.Meter.{raised};
 
-use crate::carry::see_kept;
 use crate::meter::Meter;
 use crate::replay::replay_from;
 use object_heap::Heap;
@@ -79,7 +78,7 @@ pub fn run_of(
     ensures never_less { meter.old ≤ meter.new }
     ensures never_more { meter.new ≤ meter.old + length ops.items }
 {
-    see_kept(start);
+    start.kept();
     let (outcomes, end) = replay_from(alloc, start.share()?, &ops, meter)?;
     let replayed = Replayed { ops, outcomes };
     Ok(ChunkRun {

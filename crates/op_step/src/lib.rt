@@ -15,7 +15,7 @@ mod scope;
 mod unique;
 mod wants;
 
-pub use carry::{see_kept, step, step_in_place, stepped};
+pub use carry::{step, step_in_place, stepped};
 pub use chunk_run::ChunkRun;
 pub use meter::Meter;
 pub use rows::plan;

@@ -11,7 +11,7 @@ use mark_shelf::{MarkShelf, finds_what_was_there};
 use object_heap::Heap;
 use op_step::chunk_run::run_of;
 use op_step::replay::replay_from;
-use op_step::{ChunkRun, Meter, see_kept};
+use op_step::{ChunkRun, Meter};
 use std::alloc::{AllocError, Global};
 use std::collections::BTreeSet;
 use trace_types::ops::Op;
@@ -156,7 +156,7 @@ pub fn replayed_on(
     ensures rise { meter.new ≤ meter.old + length ops.items }
 {
     let len = front.len + ops.len();
-    see_kept(&front.end);
+    front.end.kept();
     let (outcomes, end) = replay_from(alloc, front.end, &ops, meter)?;
     let mut segments = front.segments;
     segments.push(Segment::bare(alloc, ops, outcomes)?)?;
