@@ -17,7 +17,7 @@ use trace_types::outcomes::Event;
 use trace_types::slots::{Entry, Item, Slot};
 
 impl Draft {
-    /// All items are pending, in order. Where memory runs out the draft is only good to be let go.
+    /// All items are pending, in order. Where memory runs out the draft is unspecified: let it go.
     pub fn add_all(
         &mut self,
         alloc: Global,
@@ -55,7 +55,7 @@ impl Draft {
         Ok(pending.push_back(item)?)
     }
 
-    /// Drops what is pending, one item after another. Where memory runs out the draft is only good to be let go.
+    /// Drops what is pending, one item after another. Where memory runs out the draft is unspecified: let it go.
     pub fn release(
         &mut self,
         alloc: Global,
@@ -111,16 +111,12 @@ impl Draft {
             self.destroy(alloc, object, pending, events)?;
             let last = Counters {
                 strong,
-                weak: was.weak,
                 ends: was.ends + 1,
+                ..was
             };
             return set_counters(alloc, &mut self.counts, object, last);
         }
-        let less = Counters {
-            strong,
-            weak: was.weak,
-            ends: was.ends,
-        };
+        let less = Counters { strong, ..was };
         set_counters(alloc, &mut self.counts, object, less)
     }
 
@@ -137,9 +133,8 @@ impl Draft {
     {
         let was = counters_of(&self.counts, object);
         let less = Counters {
-            strong: was.strong,
             weak: was.weak - 1,
-            ends: was.ends,
+            ..was
         };
         set_counters(alloc, &mut self.counts, object, less)?;
         if self.is_last(object, less) {
@@ -161,9 +156,8 @@ impl Draft {
     {
         let was = counters_of(&self.counts, object);
         let less = Counters {
-            strong: was.strong,
-            weak: was.weak,
             ends: was.ends - 1,
+            ..was
         };
         set_counters(alloc, &mut self.counts, object, less)?;
         if less.weak == 0 {

@@ -23,7 +23,7 @@ use trace_types::sequence::Sequence;
 use trace_types::slots::{Change, Entry, Holding, Slot};
 
 impl Draft {
-    /// Makes the changes in order. Where memory runs out some are made, and the draft is only good to be let go.
+    /// Makes the changes in order. Where memory runs out some are made, and the draft is unspecified: let it go.
     pub fn apply(&mut self, alloc: Global, changes: &[Change]) -> Result<(), AllocError>
         requires scoped { IsScoped self.old.handles self.old.scopes }
         requires counted { IsCounted self.old.counts (state_of self.old) [] }

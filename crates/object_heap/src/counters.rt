@@ -59,17 +59,15 @@ pub fn hold(alloc: Global, counts: &mut ShareTree<Counters>, slot: Slot) -> Resu
             let was = counters_of(counts, object);
             let more = Counters {
                 strong: was.strong + 1,
-                weak: was.weak,
-                ends: was.ends,
+                ..was
             };
             set_counters(alloc, counts, object, more)
         }
         Slot::Weak(object) => {
             let was = counters_of(counts, object);
             let more = Counters {
-                strong: was.strong,
                 weak: was.weak + 1,
-                ends: was.ends,
+                ..was
             };
             set_counters(alloc, counts, object, more)
         }
@@ -87,17 +85,15 @@ pub fn let_go(alloc: Global, counts: &mut ShareTree<Counters>, slot: Slot) -> Re
             let was = counters_of(counts, object);
             let less = Counters {
                 strong: was.strong - 1,
-                weak: was.weak,
-                ends: was.ends,
+                ..was
             };
             set_counters(alloc, counts, object, less)
         }
         Slot::Weak(object) => {
             let was = counters_of(counts, object);
             let less = Counters {
-                strong: was.strong,
                 weak: was.weak - 1,
-                ends: was.ends,
+                ..was
             };
             set_counters(alloc, counts, object, less)
         }
@@ -119,9 +115,8 @@ pub fn hold_item(
         Item::End(object) => {
             let was = counters_of(counts, object);
             let more = Counters {
-                strong: was.strong,
-                weak: was.weak,
                 ends: was.ends + 1,
+                ..was
             };
             set_counters(alloc, counts, object, more)
         }

@@ -52,7 +52,7 @@ impl Draft {
     }
 
     /// Makes the changes, drops all that is then pending, and tells what became of objects, in order. Where memory runs out the
-    /// draft is only good to be let go.
+    /// draft is unspecified: let it go.
     pub fn carry_out(
         &mut self,
         alloc: Global,

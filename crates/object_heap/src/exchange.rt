@@ -19,7 +19,7 @@ use std::alloc::{AllocError, Global};
 use trace_types::slots::Entry;
 
 impl Draft {
-    /// Objects go, and others come. Where memory runs out the draft is only good to be let go.
+    /// Objects go, and others come. Where memory runs out the draft is unspecified: let it go.
     pub fn exchange(
         &mut self,
         alloc: Global,

@@ -93,7 +93,14 @@ impl Scopes {
     {
         let earlier = self.last.get(label).copied();
         self.sum = self.sum.wrapping_add(placed(handle, label, earlier));
-        if let Err(error) = link(alloc, &mut self.places, &mut self.last, label, earlier, handle) {
+        if let Err(error) = link(
+            alloc,
+            &mut self.places,
+            &mut self.last,
+            label,
+            earlier,
+            handle,
+        ) {
             clear(&mut self.places, &mut self.last);
             self.sum = 0;
             return Err(error);
