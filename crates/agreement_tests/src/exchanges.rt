@@ -7,7 +7,6 @@ use agreement::checkpoint::Checkpoint;
 use agreement::remains::Remains;
 use object_heap::heap::Heap;
 use std::alloc::{AllocError, Global};
-use std::sync::Arc;
 use std::test::Fail;
 
 fn remains_of(alloc: Global, new: &Heap, old: &Heap) -> Result<Remains, Fail> {
@@ -24,9 +23,8 @@ fn kept_as_new(alloc: Global, new: &Heap, old: &Heap) -> Result<Option<Checkpoin
     match agree(alloc, new, old)? {
         None => Ok(None),
         Some(remains) => {
-            let pending = Arc::new(alloc, remains)?;
             let kept = Checkpoint::of(alloc, old.share()?);
-            let later = kept.patched(alloc, &pending)?;
+            let later = kept.patched(alloc, &remains)?;
             Ok(Some(later))
         }
     }
@@ -45,8 +43,7 @@ fn kept_as_last(
     match agree(alloc, last, middle)? {
         None => Ok(None),
         Some(remains) => {
-            let pending = Arc::new(alloc, remains)?;
-            let further = checkpoint.patched(alloc, &pending)?;
+            let further = checkpoint.patched(alloc, &remains)?;
             Ok(Some(further))
         }
     }
