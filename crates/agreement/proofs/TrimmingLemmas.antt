@@ -1,11 +1,11 @@
 -- What is the same on both sides is left out, one number after another; and what is left makes the same patch.
 use Rattle.std.proofs.Common.{◌≡◌, ℕ, ◌+◌, ◌<◌, List, [], length, drop, get_or, refl, ap, ◌∙◌, sym, subst, arith, Bool, true, false}
-use Rattle.std.specs.Prelude.{Option, Some, None, ◌==◌, ◌&&◌, ◌||◌, not, if◌then◌else◌, is_some, IsTrue, ◌↔◌}
+use Rattle.std.specs.Prelude.{Result, Ok, Err, OnOk, OnErr, Option, Some, None, ◌==◌, ◌&&◌, ◌||◌, not, if◌then◌else◌, is_some, IsTrue, ◌↔◌}
 use Rattle.std.proofs.lemmas.Bool.Decides.{nat_tests}
 use Rattle.std.proofs.lemmas.List.{drop_more}
 use Rattle.std.specs.Ordering.{nat_cmp}
 use Rattle.std.specs.Cmp.{nat_cmp_total}
-use Rattle.std.specs.FinMap.{FinMap, get, empty, keys, len, len-empty, empty_of_len, get-empty, same_map, nat_cmp-IsAntisymmetric, contains_key-keys}
+use Rattle.std.specs.FinMap.{FinMap, get, empty, remove, keys, len, len-empty, empty_of_len, get-empty, same_map, nat_cmp-IsAntisymmetric, contains_key-keys}
 use Rattle.ownership_model.specs.declared.remaining.Remaining.{Remaining}
 use Rattle.ownership_model.specs.State.{State}
 use Rattle.ownership_model.specs.Bounds.{ObjectFits}
@@ -180,12 +180,11 @@ nothing_of_same x z t same =
 pub patched_trimmed : (x z : Remains) (m : State) → IsTrimmed x z → AreThere m x → patched m z ≡ patched m x
 patched_trimmed x z m t there = patches.less (is_left_out x z) m x z t.less there
 
--- so it is where remains are told in another way
-pub same_patch : (x z told : Remains) (m n : State) (removed added : FinMap nat_cmp Remaining) → IsTrimmed x z → x ≡ told → AreThere m told → n ≡ m → removed ≡ z.removed → added ≡ z.added
-    → patched n (record { removed = removed; added = added }) ≡ patched m told
-same_patch x z told m n removed added t is there same r a =
-    let exchanged : patched n (record { removed = removed; added = added }) ≡ patched m z = λ i. patched (same i) (record { removed = r i; added = a i }) in
-    exchanged ∙ patched_trimmed x z m t (subst (λ (w : Remains). AreThere m w) (sym is) there) ∙ ap (patched m) is
+-- so it is of the same state again
+pub same_patch : (x z w : Remains) (m n : State) → IsTrimmed x z → w ≡ z → AreThere m x → n ≡ m → patched n w ≡ patched m x
+same_patch x z w m n t is there same =
+    let exchanged : patched n w ≡ patched m z = λ i. patched (same i) (is i) in
+    exchanged ∙ patched_trimmed x z m t there
 
 -- and with nothing it is the state again
 patched_nothing : (m : State) → m ≡ patched m nothing
@@ -202,5 +201,10 @@ cut_fits true q x f = tt
 cut_fits false q x f = f
 
 -- what is left keeps the limits
-pub trimmed_within : (x z : Remains) → IsTrimmed x z → AreWithinLimits x.added → AreWithinLimits z.added
-trimmed_within x z t within q = subst (λ r. ObjectFits q (entry_of r)) (sym (t.less.added q)) (cut_fits (is_left_out x z q) q (get x.added q) (within q))
+removed_within : (xs : FinMap nat_cmp Remaining) (o : ℕ) → AreWithinLimits xs → AreWithinLimits (remove xs o)
+removed_within xs o within q = subst (λ r. ObjectFits q (entry_of r)) (sym (get_removed xs o q)) (cut_fits (o == q) q (get xs q) (within q))
+
+-- so it is where a call may have failed
+pub left_within : {T E : Type 0} (r : Result T E) (old new : FinMap nat_cmp Remaining) (o : ℕ) → OnOk r (new ≡ remove old o) → OnErr r (new ≡ old) → AreWithinLimits old → AreWithinLimits new
+left_within (Ok x) old new o ok err within = subst (λ xs. AreWithinLimits xs) (sym ok) (removed_within old o within)
+left_within (Err e) old new o ok err within = subst (λ xs. AreWithinLimits xs) (sym err) within

@@ -1,18 +1,13 @@
--- A state that is kept as an older one, with remains that are still to be exchanged.
+-- A state that is kept as an older one, with exchanges that are still to be made.
 use Rattle.std.specs.Prelude.{List, [], ◌∷◌, ⊤, fold}
 use Rattle.ownership_model.specs.State.{State, IsSound}
-use Rattle.ownership_model.specs.Patch.{Remains, patched, AreThere}
+use Rattle.ownership_model.specs.Patch.{Remains, patched}
 
--- the state that is meant: the remains are exchanged in their order
+-- the state that is meant: the exchanges are made in their order
 abbrev pub with_pending : State → List Remains → State
 with_pending m xs = fold patched m xs
 
--- what a patch asks for
-pub record CanBePatched (m : State) (x : Remains) : Type 0 where
-  pub sound : IsSound (patched m x) []
-  pub there : AreThere m x
-
--- what patches one after the other ask for
-abbrev pub CanAllBePatched : State → List Remains → Type 0
-CanAllBePatched m [] = ⊤
-CanAllBePatched m (x ∷ xs) = CanBePatched m x × CanAllBePatched (patched m x) xs
+-- each of them leaves a sound state
+abbrev pub StaysSound : State → List Remains → Type 0
+StaysSound m [] = ⊤
+StaysSound m (x ∷ xs) = IsSound (patched m x) [] × StaysSound (patched m x) xs

@@ -2,7 +2,6 @@
 use Rattle.std.specs.Prelude.{ℕ, ◌≡◌, ◌&&◌, Bool, None, not, is_some}
 use Rattle.std.specs.FinMap.{get, empty, remove}
 use Rattle.ownership_model.specs.Patch.{Remains, entry_of, AreLess}
-use Rattle.object_heap.specs.Exchange.{AreWithinLimits}
 
 -- what comes at the number is what is to go
 abbrev pub IsSameAt : Remains → ℕ → Type 0
@@ -28,8 +27,3 @@ is_left_out x z q = is_some (get x.removed q) && not (is_some (get z.removed q))
 pub record IsTrimmed (x z : Remains) : Type 0 where
   pub less : AreLess (is_left_out x z) x z
   pub all : (q : ℕ) → IsSameAt x q → get z.removed q ≡ None
-
--- what is true of all remains and of those that differ, which are kept beside each other
-pub record IsKept (all differing : Remains) : Type 0 where
-  pub within : AreWithinLimits all.added
-  pub trimmed : IsTrimmed all differing

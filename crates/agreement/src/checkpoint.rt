@@ -4,21 +4,22 @@ ghost use Rattle.std.specs.Arc.{arc_value};
 ghost use Rattle.ownership_model.specs.State.{IsSound};
 ghost use Rattle.ownership_model.specs.Patch.{patched, AreThere};
 
-use crate::remains::{Remains, exchanged};
+use crate::exchange::Exchange;
+use crate::remains::Remains;
 use object_heap::heap::Heap;
 use std::alloc::{AllocError, Global};
 use std::marker::Model;
 use std::sync::Arc;
 
-// How many remains may be pending in a checkpoint. Where there are as many, its heap is made.
+// How many exchanges may be pending in a checkpoint. Where there are as many, its heap is made.
 const MOST_PENDING: usize = 16;
 
-/// A heap of a replay. Where remains are to be exchanged in many heaps, each is kept as it was with the remains beside it, which
-/// they share, and the exchanges are made when the heap is asked for. Contracts see the heap that it stands for.
+/// A heap of a replay. Where remains are to be exchanged in many heaps, each is kept as it was with what differs in them beside it,
+/// which they share, and the exchanges are made when the heap is asked for. Contracts see the heap that it stands for.
 #[derive(Drop)]
 pub struct Checkpoint {
     base: Heap,
-    pending: Vec<Arc<Remains>>,
+    pending: Vec<Arc<Exchange>>,
 }
 
 impl Model for Checkpoint {
@@ -26,7 +27,7 @@ impl Model for Checkpoint {
     ghost use Rattle.std.specs.Arc.{arc_value};
     ghost use Rattle.ownership_model.specs.State.{State};
     ghost use Rattle.object_heap.specs.StateCode.{state_code};
-    ghost use Rattle.agreement.specs.Pending.{with_pending, CanAllBePatched};
+    ghost use Rattle.agreement.specs.Pending.{with_pending, StaysSound};
 
     ghost Value = { State };
 
@@ -34,7 +35,7 @@ impl Model for Checkpoint {
 
     ghost view = { λ c. with_pending c.base (map arc_value c.pending.items) };
 
-    ghost invariant = { λ c. CanAllBePatched c.base (map arc_value c.pending.items) };
+    ghost invariant = { λ c. StaysSound c.base (map arc_value c.pending.items) };
 }
 
 impl Checkpoint {
@@ -63,29 +64,30 @@ impl Checkpoint {
         ensures { IfOk result (λ h. h ≡ self.now) }
     {
         let mut heap = self.base.share()?;
-        for remains in &self.pending {
-            heap = exchanged(alloc, heap, remains)?;
+        for exchange in &self.pending {
+            heap = exchange.made_in(alloc, heap)?;
         }
         Ok(heap)
     }
 
     /// The checkpoint with further remains to be exchanged. This one stays as it is.
     ///
-    /// Where many are pending already its heap is made, which takes the memory of what these exchange. Else it takes that of their list.
-    pub fn patched(&self, alloc: Global, remains: &Arc<Remains>) -> Result<Checkpoint, AllocError>
-        requires sound { IsSound (patched self.now (arc_value remains.now)) [] }
-        requires there { AreThere self.now (arc_value remains.now) }
-        ensures { IfOk result (λ c. c ≡ patched self.now (arc_value remains.now)) }
+    /// Where many exchanges are pending already its heap is made, which takes the memory of what these exchange. Else it takes that of
+    /// their list. What the remains have beside what differs isn't kept.
+    pub fn patched(&self, alloc: Global, remains: &Remains) -> Result<Checkpoint, AllocError>
+        requires sound { IsSound (patched self.now remains.now) [] }
+        requires there { AreThere self.now remains.now }
+        ensures { IfOk result (λ c. c ≡ patched self.now remains.now) }
     {
         if remains.changes_nothing() {
             return self.share(alloc);
         }
         let Checkpoint { base, mut pending } = self.with_room(alloc)?;
-        pending.push(Arc::try_clone(remains)?)?;
+        pending.push(Arc::try_clone(remains.differing())?)?;
         Ok(Checkpoint { base, pending })
     }
 
-    // The same checkpoint, with room for further remains.
+    // The same checkpoint, with room for a further exchange.
     fn with_room(&self, alloc: Global) -> Result<Checkpoint, AllocError>
         ensures { IfOk result (λ c. c ≡ self.now) }
     {
@@ -96,13 +98,13 @@ impl Checkpoint {
     }
 }
 
-// The same remains again.
-fn shares(alloc: Global, pending: &[Arc<Remains>]) -> Result<Vec<Arc<Remains>>, AllocError>
+// The same exchanges again.
+fn shares(alloc: Global, pending: &[Arc<Exchange>]) -> Result<Vec<Arc<Exchange>>, AllocError>
     ensures { IfOk result (λ v. map arc_value v.items ≡ map arc_value pending.now) }
 {
     let mut all = Vec::with_capacity(alloc, pending.len() + 1)?;
-    for remains in pending {
-        all.push(Arc::try_clone(remains)?)?;
+    for exchange in pending {
+        all.push(Arc::try_clone(exchange)?)?;
     }
     Ok(all)
 }

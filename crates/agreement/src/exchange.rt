@@ -1,14 +1,18 @@
 //! Objects that are to go and others that come, and what of them differs.
-ghost use Rattle.std.specs.Prelude.{◌≡◌, ◌↔◌, IfOk, OnOk, IsTrue};
+ghost use Rattle.std.specs.Prelude.{◌≡◌, ◌↔◌, [], IfOk, OnOk, IsTrue};
+ghost use Rattle.ownership_model.specs.State.{IsSound};
+ghost use Rattle.ownership_model.specs.Patch.{patched};
+ghost use Rattle.object_heap.specs.Exchange.{AreWithinLimits};
 ghost use Rattle.agreement.specs.Trimmed.{nothing, without_number, IsSameAt, IsTrimmed};
 
+use object_heap::heap::Heap;
 use ownership_model::remaining::Remaining;
 use share_tree::ShareTree;
 use std::alloc::{AllocError, Global};
 use std::marker::Model;
 use trace_types::same::Same;
 
-/// Objects that are to go, and those that come in their place.
+/// Objects that are to go, and those that come in their place, which are within the limits.
 #[derive(Drop)]
 pub struct Exchange {
     removed: ShareTree<Remaining>,
@@ -17,6 +21,7 @@ pub struct Exchange {
 
 impl Model for Exchange {
     ghost use Rattle.ownership_model.specs.Patch as patch;
+    ghost use Rattle.object_heap.specs.Exchange.{AreWithinLimits};
     ghost use Rattle.agreement.specs.RemainsCode.{remains_code};
 
     ghost Value = { patch.Remains };
@@ -24,11 +29,14 @@ impl Model for Exchange {
     ghost coded = { remains_code };
 
     ghost view = { λ x. record { removed = x.removed; added = x.added } };
+
+    ghost invariant = { λ x. AreWithinLimits x.added };
 }
 
 impl Exchange {
     /// What is to go, and what comes.
     pub fn new(removed: ShareTree<Remaining>, added: ShareTree<Remaining>) -> Exchange
+        requires { AreWithinLimits added }
         ensures { result ≡ record { removed = removed; added = added } }
     {
         Exchange { removed, added }
@@ -53,6 +61,14 @@ impl Exchange {
         ensures { IsTrue result ↔ (self.now ≡ nothing) }
     {
         self.removed.len() == 0 && self.added.len() == 0
+    }
+
+    /// A heap with the exchange made in it. The result is to be sound. What the heap alone holds is changed in place.
+    pub fn made_in(&self, alloc: Global, heap: Heap) -> Result<Heap, AllocError>
+        requires { IsSound (patched heap self.now) [] }
+        ensures { IfOk result (λ h. h ≡ patched heap self.now) }
+    {
+        heap.exchanged(alloc, &self.removed, &self.added)
     }
 
     /// The exchange without each object that is the same on both sides. It shares what is left.

@@ -1,9 +1,10 @@
 //! What two heaps that agree have for themselves, and a later heap with it exchanged.
 ghost use Rattle.std.specs.Prelude.{◌≡◌, ◌↔◌, [], IfOk, IsTrue};
+ghost use Rattle.std.specs.Arc.{arc_value};
 ghost use Rattle.ownership_model.specs.State.{State, IsSound};
 ghost use Rattle.ownership_model.specs.Patch.{patched, AreThere};
 ghost use Rattle.object_heap.specs.Exchange.{AreWithinLimits};
-ghost use Rattle.agreement.specs.Trimmed.{AreTheSame};
+ghost use Rattle.agreement.specs.Trimmed.{AreTheSame, IsTrimmed};
 
 use crate::exchange::Exchange;
 use object_heap::heap::Heap;
@@ -11,20 +12,22 @@ use ownership_model::remaining::Remaining;
 use share_tree::ShareTree;
 use std::alloc::{AllocError, Global};
 use std::marker::Model;
+use std::sync::Arc;
 
 /// Objects that can't be reached: those of an old heap, which are to go, and those of a new one, which come.
 ///
-/// Beside all of them it keeps those that differ, over the same nodes: only these are exchanged.
+/// Beside all of them they keep those that differ, over the same nodes: only these are exchanged, and a checkpoint shares these alone.
 #[derive(Drop)]
 pub struct Remains {
     all: Exchange,
-    differing: Exchange,
+    differing: Arc<Exchange>,
 }
 
 impl Model for Remains {
+    ghost use Rattle.std.specs.Arc.{arc_value};
     ghost use Rattle.ownership_model.specs.Patch as patch;
     ghost use Rattle.agreement.specs.RemainsCode.{remains_code};
-    ghost use Rattle.agreement.specs.Trimmed.{IsKept};
+    ghost use Rattle.agreement.specs.Trimmed.{IsTrimmed};
 
     ghost Value = { patch.Remains };
 
@@ -32,7 +35,7 @@ impl Model for Remains {
 
     ghost view = { λ r. r.all };
 
-    ghost invariant = { λ r. IsKept r.all r.differing };
+    ghost invariant = { λ r. IsTrimmed r.all (arc_value r.differing) };
 }
 
 impl Remains {
@@ -46,7 +49,7 @@ impl Remains {
         ensures { IfOk result (λ r. r ≡ record { removed = removed; added = added }) }
     {
         let all = Exchange::new(removed, added);
-        let differing = all.trimmed(alloc)?;
+        let differing = Arc::new(alloc, all.trimmed(alloc)?)?;
         Ok(Remains { all, differing })
     }
 
@@ -71,6 +74,13 @@ impl Remains {
     {
         self.differing.is_nothing()
     }
+
+    /// Those that differ, which make the same patch.
+    pub(crate) fn differing(&self) -> &Arc<Exchange>
+        ensures { IsTrimmed self.now (arc_value result.now) }
+    {
+        &self.differing
+    }
 }
 
 /// A later heap of the old replay, made one of the new replay. The later heap stays as it is.
@@ -82,15 +92,5 @@ pub fn patch(alloc: Global, later: &Heap, remains: &Remains) -> Result<Heap, All
     requires there { AreThere later.now remains.now }
     ensures { IfOk result (λ h. h ≡ patched later.now remains.now) }
 {
-    exchanged(alloc, later.share()?, remains)
-}
-
-/// As `patch`, of a heap that is used up: what it alone holds is changed in place.
-pub fn exchanged(alloc: Global, later: Heap, remains: &Remains) -> Result<Heap, AllocError>
-    requires sound { IsSound (patched later remains.now) [] }
-    requires there { AreThere later remains.now }
-    ensures { IfOk result (λ h. h ≡ patched later remains.now) }
-{
-    let differing = &remains.differing;
-    later.exchanged(alloc, differing.removed(), differing.added())
+    remains.differing().made_in(alloc, later.share()?)
 }

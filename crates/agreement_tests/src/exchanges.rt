@@ -6,7 +6,6 @@ use agreement::agree::agree;
 use agreement::{Checkpoint, Remains};
 use object_heap::Heap;
 use std::alloc::{AllocError, Global};
-use std::sync::Arc;
 use std::test::Fail;
 
 fn remains_of(alloc: Global, new: &Heap, old: &Heap) -> Result<Remains, Fail> {
@@ -23,9 +22,8 @@ fn kept_as_new(alloc: Global, new: &Heap, old: &Heap) -> Result<Option<Checkpoin
     match agree(alloc, new, old)? {
         None => Ok(None),
         Some(remains) => {
-            let pending = Arc::new(alloc, remains)?;
             let kept = Checkpoint::of(alloc, old.share()?);
-            let later = kept.patched(alloc, &pending)?;
+            let later = kept.patched(alloc, &remains)?;
             Ok(Some(later))
         }
     }
@@ -44,8 +42,7 @@ fn kept_as_last(
     match agree(alloc, last, middle)? {
         None => Ok(None),
         Some(remains) => {
-            let pending = Arc::new(alloc, remains)?;
-            let further = checkpoint.patched(alloc, &pending)?;
+            let further = checkpoint.patched(alloc, &remains)?;
             Ok(Some(further))
         }
     }

@@ -1,6 +1,5 @@
 //! What an old run becomes behind a checkpoint, where a replay comes together with it.
 ghost use Rattle.std.specs.Prelude.{◌≡◌, ◌↔◌, ℕ, map, is_some, IfOk, IfSome, IsTrue};
-ghost use Rattle.std.specs.Arc.{arc_value};
 ghost use Rattle.trace_types.specs.Trace.{has_distinct_numbers};
 ghost use Rattle.ownership_model.specs.Step.{AreUnused};
 ghost use Rattle.agreement.specs.Agreement.{Agree};
@@ -14,7 +13,6 @@ use agreement::trail::Trail;
 use agreement::{Checkpoint, Remains};
 use object_heap::Heap;
 use std::alloc::{AllocError, Global};
-use std::sync::Arc;
 
 /// The rest of an old run and its end, as they follow the heap of a replay, where it agrees with the checkpoint that the rest
 /// begins with. The outcomes are those of the old run, and shared.
@@ -46,7 +44,7 @@ pub fn rejoined(
         }
         Meeting::Alike(remains) => {
             let end = patch(alloc, end, &remains)?;
-            let segments = exchanged_segments(alloc, rest, &Arc::new(alloc, remains)?)?;
+            let segments = exchanged_segments(alloc, rest, &remains)?;
             Ok(Some((segments, end)))
         }
     }
@@ -56,10 +54,10 @@ pub fn rejoined(
 fn exchanged_segments(
     alloc: Global,
     segments: &[Segment],
-    remains: &Arc<Remains>,
+    remains: &Remains,
 ) -> Result<Vec<Segment>, AllocError>
-    requires { AreExchangeable (arc_value remains.now) segments.now }
-    ensures { IfOk result (λ v. v.items ≡ map (exchanged (arc_value remains.now)) segments.now) }
+    requires { AreExchangeable remains.now segments.now }
+    ensures { IfOk result (λ v. v.items ≡ map (exchanged remains.now) segments.now) }
 {
     let mut all = Vec::new(alloc);
     for segment in segments {

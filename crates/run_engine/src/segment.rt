@@ -1,6 +1,5 @@
 //! A segment of a run.
 ghost use Rattle.std.specs.Prelude.{◌≡◌, ◌++◌, length, IfOk, OnOk, None, Some, is_some};
-ghost use Rattle.std.specs.Arc.{arc_value};
 ghost use Rattle.std.specs.Option.{option_copied};
 ghost use Rattle.ownership_model.specs.Step.{outcomes_from};
 ghost use Rattle.run_engine.specs.Cleared.{last_name};
@@ -95,9 +94,9 @@ impl Segment {
     }
 
     /// The same operations and outcomes, which are shared, with the remains exchanged in the checkpoint.
-    pub fn exchanged(&self, alloc: Global, remains: &Arc<Remains>) -> Result<Self, AllocError>
-        requires { IsExchangeable (arc_value remains.now) self.now }
-        ensures { IfOk result (λ s. s ≡ exchanged (arc_value remains.now) self.now) }
+    pub fn exchanged(&self, alloc: Global, remains: &Remains) -> Result<Self, AllocError>
+        requires { IsExchangeable remains.now self.now }
+        ensures { IfOk result (λ s. s ≡ exchanged remains.now self.now) }
     {
         let mark = match &self.mark {
             None => None,

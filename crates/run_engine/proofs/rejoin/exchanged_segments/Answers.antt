@@ -1,6 +1,5 @@
-use Rattle.std.specs.Arc.{arc_value}
 use Rattle.run_engine.proofs.RejoinLemmas.{exchangeable-at}
 use Rattle.run_engine.proofs.rejoin.exchanged_segments.Goals as goal
 
 pub exchanged-requires : goal.exchanged-requires
-exchanged-requires c = exchangeable-at (arc_value c.args.remains.now) c.args.segments.now c.loop-segment.segment-index c.segment-item.result c.requires c.loop-segment-test.true c.segment-item.is
+exchanged-requires c = exchangeable-at c.args.remains.now c.args.segments.now c.loop-segment.segment-index c.segment-item.result c.requires c.loop-segment-test.true c.segment-item.is

@@ -1,7 +1,5 @@
-use Rattle.std.proofs.Common.{ap, subst, sym, ◌∙◌}
-use Rattle.std.specs.Arc.{arc_value}
+use Rattle.std.proofs.Common.{ap, subst, ◌∙◌}
 use Rattle.run_engine.specs.Segments.{trace_of, marks_from}
-use Rattle.run_engine.specs.Exchanged.{AreExchangeable}
 use Rattle.agreement.specs.Meeting.{AgreeBut}
 use Rattle.run_engine.proofs.RejoinLemmas.{GoOnAlike, exchangeable, IsRunFrom-exchanged, end-exchangeable, trace_of-exchanged, marks_from-exchanged}
 use Rattle.run_engine.proofs.rejoin.rejoined.Goals as goal
@@ -28,8 +26,7 @@ exchanged_segments-requires c =
     subst (λ m. AgreeBut c.args.heap.now m c.in-Alike.remains) c.in_ok-old.ensures (rw c.in-Alike.is at c.in_ok-meet.ensures) in
     let alike : GoOnAlike c.args.heap.now c.args.mark.now c.in-Alike.remains (trace_of c.args.rest.now) =
     record { agree = agree; distinct = c.requires.distinct; unused = c.requires.unused; old_unused = c.requires.old_unused } in
-    subst (λ x. AreExchangeable x c.args.rest.now) (sym c.in_ok-new-in-Alike.ensures.ok)
-    (exchangeable c.args.heap.now c.args.mark.now c.in-Alike.remains c.args.rest.now alike c.requires.run.replay)
+    exchangeable c.args.heap.now c.args.mark.now c.in-Alike.remains c.args.rest.now alike c.requires.run.replay
 
 pub returns-clause-run : goal.returns-clause-run
 returns-clause-run c =
@@ -37,11 +34,11 @@ returns-clause-run c =
     subst (λ m. AgreeBut c.args.heap.now m c.in-Alike.remains) c.in_ok-old.ensures (rw c.in-Alike.is at c.in_ok-meet.ensures) in
     let alike : GoOnAlike c.args.heap.now c.args.mark.now c.in-Alike.remains (trace_of c.args.rest.now) =
     record { agree = agree; distinct = c.requires.distinct; unused = c.requires.unused; old_unused = c.requires.old_unused } in
-    rw (c.in_ok-segments-in-Alike.ensures, c.in_ok-new-in-Alike.ensures.ok, c.in_ok-end-in-Alike.ensures)
+    rw (c.in_ok-segments-in-Alike.ensures, c.in_ok-end-in-Alike.ensures)
     (IsRunFrom-exchanged c.args.heap.now c.args.mark.now c.in-Alike.remains c.args.rest.now c.args.end.now alike c.requires.run)
 
 pub returns-clause-trace : goal.returns-clause-trace
-returns-clause-trace c = ap trace_of c.in_ok-segments-in-Alike.ensures ∙ trace_of-exchanged (arc_value c.in_ok-new-in-Alike.field-0) c.args.rest.now
+returns-clause-trace c = ap trace_of c.in_ok-segments-in-Alike.ensures ∙ trace_of-exchanged c.in-Alike.remains c.args.rest.now
 
 pub returns-clause-marks : goal.returns-clause-marks
-returns-clause-marks c at = ap (marks_from at) c.in_ok-segments-in-Alike.ensures ∙ marks_from-exchanged (arc_value c.in_ok-new-in-Alike.field-0) at c.args.rest.now
+returns-clause-marks c at = ap (marks_from at) c.in_ok-segments-in-Alike.ensures ∙ marks_from-exchanged c.in-Alike.remains at c.args.rest.now
