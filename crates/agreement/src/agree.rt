@@ -9,7 +9,7 @@ ghost use Rattle.agreement.specs.Agreement.{Agree, AreRemains, is_apart};
 ghost use Rattle.agreement.specs.Gathering.{AgreeAt, AgreeOn, with_remaining};
 
 use crate::remains::Remains;
-use object_heap::heap::Heap;
+use object_heap::Heap;
 use object_heap::reach::reach;
 use ownership_model::link::Link;
 use ownership_model::remaining::Remaining;

@@ -6,7 +6,7 @@ ghost use Rattle.ownership_model.specs.Patch.{patched, AreThere};
 
 use crate::exchange::Exchange;
 use crate::remains::Remains;
-use object_heap::heap::Heap;
+use object_heap::Heap;
 use std::alloc::{AllocError, Global};
 use std::marker::Model;
 use std::sync::Arc;

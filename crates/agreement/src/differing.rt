@@ -1,7 +1,7 @@
 //! A trail to an object that can be reached and at which two heaps differ.
 use crate::agree::agree_at;
 use crate::trail::{Path, Root, Trail};
-use object_heap::heap::Heap;
+use object_heap::Heap;
 use std::alloc::{AllocError, Global};
 use std::collections::BTreeMap;
 use trace_types::limits::MAX_ID;

@@ -5,7 +5,7 @@ ghost use Rattle.ownership_model.specs.Patch.{patched};
 ghost use Rattle.object_heap.specs.Exchange.{AreWithinLimits};
 ghost use Rattle.agreement.specs.Trimmed.{nothing, without_number, IsSameAt, IsTrimmed};
 
-use object_heap::heap::Heap;
+use object_heap::Heap;
 use ownership_model::remaining::Remaining;
 use share_tree::ShareTree;
 use std::alloc::{AllocError, Global};
@@ -105,7 +105,7 @@ impl Exchange {
         }
     }
 
-    // Where memory runs out the exchange is only good to be let go.
+    // Where memory runs out the exchange is unspecified: let it go.
     fn leave_out(&mut self, alloc: Global, object: u32) -> Result<(), AllocError>
         ensures { OnOk result (self.new ≡ without_number self.old object) }
     {

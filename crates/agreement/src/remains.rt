@@ -7,7 +7,7 @@ ghost use Rattle.object_heap.specs.Exchange.{AreWithinLimits};
 ghost use Rattle.agreement.specs.Trimmed.{AreTheSame, IsTrimmed};
 
 use crate::exchange::Exchange;
-use object_heap::heap::Heap;
+use object_heap::Heap;
 use ownership_model::remaining::Remaining;
 use share_tree::ShareTree;
 use std::alloc::{AllocError, Global};

@@ -7,7 +7,7 @@ use crate::agree::agree;
 use crate::differing::differing_object;
 use crate::remains::Remains;
 use crate::trail::{Trail, refutes};
-use object_heap::heap::Heap;
+use object_heap::Heap;
 use std::alloc::{AllocError, Global};
 use trace_types::limits::MAX_THREAD;
 

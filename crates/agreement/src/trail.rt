@@ -6,7 +6,7 @@ ghost use Rattle.ownership_model.specs.Reach.{has, is_reached, named, slots_name
 ghost use Rattle.agreement.specs.Agreement.{Agree};
 
 use crate::agree::agree_at;
-use object_heap::heap::Heap;
+use object_heap::Heap;
 use trace_types::same::Same;
 use trace_types::slots::{Entry, Holding, Slot};
 
