@@ -66,7 +66,7 @@ fn other_heaps_have_other_sums(rt: HostRuntime) -> Result<(), Fail> {
 }
 
 // What each way made is undone by other operations, or made again in another order.
-const SAME: [(&str, &str); 6] = [
+const SAME: [(&str, &str); 9] = [
     (
         "",
         "{\"from\":1,\"id\":4,\"op\":\"clone\",\"t\":3,\"to\":3}\n{\"h\":3,\"id\":5,\"op\":\"drop\",\"t\":0}\n",
@@ -90,6 +90,19 @@ const SAME: [(&str, &str); 6] = [
     (
         "{\"h\":2,\"id\":4,\"op\":\"drop\",\"t\":0}\n",
         "{\"h\":2,\"id\":4,\"op\":\"try_unwrap\",\"t\":0}\n{\"h\":2,\"id\":5,\"op\":\"drop\",\"t\":0}\n",
+    ),
+    // a handle leaves its scope from the middle, from its beginning, and beside one that left, and enters another again
+    (
+        "{\"id\":4,\"op\":\"null\",\"t\":0,\"to\":4}\n",
+        "{\"id\":4,\"op\":\"null\",\"t\":0,\"to\":3}\n{\"id\":5,\"op\":\"null\",\"t\":0,\"to\":4}\n{\"h\":3,\"id\":6,\"op\":\"drop\",\"t\":0}\n",
+    ),
+    (
+        "{\"id\":4,\"op\":\"null\",\"t\":1,\"to\":4}\n",
+        "{\"id\":4,\"op\":\"null\",\"t\":1,\"to\":3}\n{\"id\":5,\"op\":\"null\",\"t\":1,\"to\":4}\n{\"h\":3,\"id\":6,\"op\":\"drop\",\"t\":0}\n",
+    ),
+    (
+        "{\"id\":4,\"op\":\"null\",\"t\":0,\"to\":5}\n{\"id\":5,\"op\":\"null\",\"t\":1,\"to\":3}\n",
+        "{\"id\":4,\"op\":\"null\",\"t\":0,\"to\":3}\n{\"id\":5,\"op\":\"null\",\"t\":0,\"to\":4}\n{\"id\":6,\"op\":\"null\",\"t\":0,\"to\":5}\n{\"h\":4,\"id\":7,\"op\":\"drop\",\"t\":0}\n{\"h\":3,\"id\":8,\"op\":\"drop\",\"t\":0}\n{\"id\":9,\"op\":\"null\",\"t\":1,\"to\":3}\n",
     ),
 ];
 
