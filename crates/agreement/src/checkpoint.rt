@@ -18,7 +18,7 @@ const MOST_PENDING: usize = 16;
 /// which they share, and the exchanges are made when the heap is asked for. Contracts see the heap that it stands for.
 #[derive(Drop)]
 pub struct Checkpoint {
-    base: Heap,
+    base: Arc<Heap>,
     pending: Vec<Arc<Exchange>>,
 }
 
@@ -33,20 +33,20 @@ impl Model for Checkpoint {
 
     ghost coded = { state_code };
 
-    ghost view = { λ c. with_pending c.base (map arc_value c.pending.items) };
+    ghost view = { λ c. with_pending (arc_value c.base) (map arc_value c.pending.items) };
 
-    ghost invariant = { λ c. StaysSound c.base (map arc_value c.pending.items) };
+    ghost invariant = { λ c. StaysSound (arc_value c.base) (map arc_value c.pending.items) };
 }
 
 impl Checkpoint {
-    /// A heap as it is. Takes no memory.
-    pub fn of(alloc: Global, heap: Heap) -> Checkpoint
-        ensures { result ≡ heap }
+    /// A heap as it is.
+    pub fn of(alloc: Global, heap: Heap) -> Result<Checkpoint, AllocError>
+        ensures { IfOk result (λ c. c ≡ heap) }
     {
-        Checkpoint {
-            base: heap,
+        Ok(Checkpoint {
+            base: Arc::new(alloc, heap)?,
             pending: Vec::new(alloc),
-        }
+        })
     }
 
     /// The same checkpoint again.
@@ -54,7 +54,7 @@ impl Checkpoint {
         ensures { IfOk result (λ c. c ≡ self.now) }
     {
         Ok(Checkpoint {
-            base: self.base.share()?,
+            base: Arc::try_clone(&self.base)?,
             pending: shares(alloc, &self.pending)?,
         })
     }
@@ -94,7 +94,7 @@ impl Checkpoint {
         if self.pending.len() < MOST_PENDING {
             return self.share(alloc);
         }
-        Ok(Checkpoint::of(alloc, self.heap(alloc)?))
+        Checkpoint::of(alloc, self.heap(alloc)?)
     }
 }
 

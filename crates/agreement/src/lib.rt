@@ -3,12 +3,14 @@
 #![tactic(auto)]
 
 pub mod agree;
-pub mod checkpoint;
+mod checkpoint;
 mod differing;
 mod exchange;
-pub mod remains;
-pub mod search;
-pub mod trail;
+mod remains;
+mod search;
+mod trail;
 
 pub use checkpoint::Checkpoint;
-pub use remains::Remains;
+pub use remains::{Remains, patch};
+pub use search::{Meeting, meet};
+pub use trail::{Path, Root, Trail, refutes};

@@ -1,9 +1,6 @@
 //! Heaps that agree on what can be reached, what they have for themselves, and trails to differences.
-use agreement::Remains;
 use agreement::agree::agree;
-use agreement::remains::patch;
-use agreement::search::{Meeting, meet};
-use agreement::trail::{Path, Root, Trail, refutes};
+use agreement::{Meeting, Path, Remains, Root, Trail, meet, patch, refutes};
 use object_heap::Heap;
 use op_step::Meter;
 use op_step::replay::replay;

@@ -1,7 +1,6 @@
 //! Two replays compared as a chain of objects grows that differs deep down.
 use agreement::agree::agree;
-use agreement::search::{Meeting, meet};
-use agreement::trail::Trail;
+use agreement::{Meeting, Trail, meet};
 use object_heap::Heap;
 use op_step::Meter;
 use op_step::replay::replay;

@@ -22,7 +22,7 @@ fn kept_as_new(alloc: Global, new: &Heap, old: &Heap) -> Result<Option<Checkpoin
     match agree(alloc, new, old)? {
         None => Ok(None),
         Some(remains) => {
-            let kept = Checkpoint::of(alloc, old.share()?);
+            let kept = Checkpoint::of(alloc, old.share()?)?;
             let later = kept.patched(alloc, &remains)?;
             Ok(Some(later))
         }
@@ -132,7 +132,7 @@ fn checkpoints_stand_for_later_heaps(rt: HostRuntime) -> Result<(), Fail> {
         };
         assert!(rt; made.same(last));
     }
-    let as_it_is = Checkpoint::of(alloc, more.share()?);
+    let as_it_is = Checkpoint::of(alloc, more.share()?)?;
     assert!(rt; as_it_is.heap(alloc)?.same(&more));
     Ok(())
 }
@@ -159,7 +159,7 @@ fn many_exchanges_are_pending(rt: HostRuntime) -> Result<(), Fail> {
     let alloc = rt.alloc();
     let here = fewer_leaks(alloc)?;
     let there = more_leaks(alloc)?;
-    let mut checkpoint = Checkpoint::of(alloc, here.share()?);
+    let mut checkpoint = Checkpoint::of(alloc, here.share()?)?;
     for _ in 0..20 {
         let Some(next) = there_and_back(alloc, &here, &there, &checkpoint)? else {
             return Err(Fail::from("they agree"));

@@ -1,8 +1,7 @@
 //! Shelves with little room.
 use mark_shelf::MarkShelf;
 use object_heap::Heap;
-use op_step::chunk_run::run;
-use op_step::{ChunkRun, Meter};
+use op_step::{ChunkRun, Meter, run};
 use std::alloc::Global;
 use std::test::Fail;
 use trace_types::kinds::{Field, Kind};

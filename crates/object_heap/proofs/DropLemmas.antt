@@ -19,7 +19,7 @@ use Rattle.ownership_model.specs.State.{State, strong, weak, ends, weight, names
 use Rattle.ownership_model.specs.Release.{Fate, Stays, Goes, fate, fall, is_husk, left_by, drop_first, Becomes, Released, after, release, work}
 use Rattle.object_heap.specs.declared.counters.Counters.{Counters}
 use Rattle.object_heap.specs.declared.draft.Draft.{Draft}
-use Rattle.object_heap.specs.Counted.{counters_at, state_of, IsCounted}
+use Rattle.object_heap.specs.Counted.{counters_at, drafted, IsCounted}
 use Rattle.object_heap.specs.Gains.{IsSetAt}
 use Rattle.object_heap.specs.Drops.{DropsFirst}
 use Rattle.object_heap.proofs.GainLemmas.{chosen}
@@ -174,66 +174,66 @@ is_some n h = grind (arith, nat_tests)
 
 -- an item of any kind: the counters of the object that it names, and the step
 module _ (old new : Draft) (x : Item) (o : ℕ) (xs left : List Item) (before told : List Event) (c : Counters)
-    (sound : IsSound (state_of old) (x ∷ xs)) (counted : IsCounted old.counts (state_of old) (x ∷ xs)) (only : NamesOnly (state_of old) x xs o) (set : IsSetAt old.counts new.counts o c) where
-  drops_by : (f : Fate) → fate (state_of old) x xs ≡ f → c.strong ≡ strong (state_of old) xs o → c.weak ≡ weak (state_of old) xs o → c.ends ≡ ends o (left_by (state_of old) xs f).pending
-      → Becomes (state_of new) left before told (left_by (state_of old) xs f) → DropsFirst old new x xs left before told
+    (sound : IsSound (drafted old) (x ∷ xs)) (counted : IsCounted old.counts (drafted old) (x ∷ xs)) (only : NamesOnly (drafted old) x xs o) (set : IsSetAt old.counts new.counts o c) where
+  drops_by : (f : Fate) → fate (drafted old) x xs ≡ f → c.strong ≡ strong (drafted old) xs o → c.weak ≡ weak (drafted old) xs o → c.ends ≡ ends o (left_by (drafted old) xs f).pending
+      → Becomes (drafted new) left before told (left_by (drafted old) xs f) → DropsFirst old new x xs left before told
   drops_by f is s w e step =
-      let next : IsCounted new.counts (drop_first (state_of old) x xs).state (drop_first (state_of old) x xs).pending =
-      counted_next (state_of old) x xs old.counts new.counts o c sound counted only set s w (e ∙ ap (λ (g : Fate). ends o (left_by (state_of old) xs g).pending) (sym is)) in
-      let here : Becomes (state_of new) left before told (drop_first (state_of old) x xs) = subst (λ (g : Fate). Becomes (state_of new) left before told (left_by (state_of old) xs g)) (sym is) step in
+      let next : IsCounted new.counts (drop_first (drafted old) x xs).state (drop_first (drafted old) x xs).pending =
+      counted_next (drafted old) x xs old.counts new.counts o c sound counted only set s w (e ∙ ap (λ (g : Fate). ends o (left_by (drafted old) xs g).pending) (sym is)) in
+      let here : Becomes (drafted new) left before told (drop_first (drafted old) x xs) = subst (λ (g : Fate). Becomes (drafted new) left before told (left_by (drafted old) xs g)) (sym is) step in
       record {
         step = here;
-        counted = subst (λ (p : List Item). IsCounted new.counts (state_of new) p) (sym here.pending) (subst (λ (m : State). IsCounted new.counts m (drop_first (state_of old) x xs).pending) (sym here.state) next);
+        counted = subst (λ (p : List Item). IsCounted new.counts (drafted new) p) (sym here.pending) (subst (λ (m : State). IsCounted new.counts m (drop_first (drafted old) x xs).pending) (sym here.state) next);
       }
 
 module _ (old new : Draft) (o : ℕ) (xs left : List Item) (before told : List Event) (c : Counters)
-    (sound : IsSound (state_of old) (item.Slot (Strong o) ∷ xs)) (counted : IsCounted old.counts (state_of old) (item.Slot (Strong o) ∷ xs))
+    (sound : IsSound (drafted old) (item.Slot (Strong o) ∷ xs)) (counted : IsCounted old.counts (drafted old) (item.Slot (Strong o) ∷ xs))
     (set : IsSetAt old.counts new.counts o c) (less : c.strong ≡ (counters_at (get old.counts o)).strong - 1) (same : c.weak ≡ (counters_at (get old.counts o)).weak) where
-  strong_rest : c.strong ≡ strong (state_of old) xs o
+  strong_rest : c.strong ≡ strong (drafted old) xs o
   strong_rest = omega (arith, less, counted.strong_is o, self_strong o)
 
-  weak_rest : c.weak ≡ weak (state_of old) xs o
+  weak_rest : c.weak ≡ weak (drafted old) xs o
   weak_rest = omega (arith, same, counted.weak_is o)
 
   -- the last strong slot
-  pub drops_last : c.strong ≡ 0 → c.ends ≡ 1 + (counters_at (get old.counts o)).ends → Becomes (state_of new) left before told (left_by (state_of old) xs (fall o (get old.objects o))) → DropsFirst old new (item.Slot (Strong o)) xs left before told
+  pub drops_last : c.strong ≡ 0 → c.ends ≡ 1 + (counters_at (get old.counts o)).ends → Becomes (drafted new) left before told (left_by (drafted old) xs (fall o (get old.objects o))) → DropsFirst old new (item.Slot (Strong o)) xs left before told
   unfolding EndsAt
   drops_last none more step =
-      let is : fate (state_of old) (item.Slot (Strong o)) xs ≡ fall o (get old.objects o) = fate_by true (strong (state_of old) xs o == 0) (fall o (get old.objects o)) Stays (sym (is_none (strong (state_of old) xs o) (sym strong_rest ∙ none))) in
-      drops_by old new (item.Slot (Strong o)) o xs left before told c sound counted (strong_names_only (state_of old) xs o) set (fall o (get old.objects o)) is strong_rest weak_rest
-      (more ∙ ap (λ n. 1 + n) (counted.ends_is o) ∙ sym (fall_ends_self (state_of old) xs o _ _ (get old.objects o) (first_strong (state_of old) xs o sound))) step
+      let is : fate (drafted old) (item.Slot (Strong o)) xs ≡ fall o (get old.objects o) = fate_by true (strong (drafted old) xs o == 0) (fall o (get old.objects o)) Stays (sym (is_none (strong (drafted old) xs o) (sym strong_rest ∙ none))) in
+      drops_by old new (item.Slot (Strong o)) o xs left before told c sound counted (strong_names_only (drafted old) xs o) set (fall o (get old.objects o)) is strong_rest weak_rest
+      (more ∙ ap (λ n. 1 + n) (counted.ends_is o) ∙ sym (fall_ends_self (drafted old) xs o _ _ (get old.objects o) (first_strong (drafted old) xs o sound))) step
 
   -- one of several
-  pub drops_more : (c.strong ≡ 0 → ⊥) → c.ends ≡ (counters_at (get old.counts o)).ends → Becomes (state_of new) left before told (left_by (state_of old) xs Stays) → DropsFirst old new (item.Slot (Strong o)) xs left before told
+  pub drops_more : (c.strong ≡ 0 → ⊥) → c.ends ≡ (counters_at (get old.counts o)).ends → Becomes (drafted new) left before told (left_by (drafted old) xs Stays) → DropsFirst old new (item.Slot (Strong o)) xs left before told
   drops_more some kept step =
-      let is : fate (state_of old) (item.Slot (Strong o)) xs ≡ Stays = fate_by false (strong (state_of old) xs o == 0) (fall o (get old.objects o)) Stays (sym (is_some (strong (state_of old) xs o) (λ z. some (strong_rest ∙ z)))) in
-      drops_by old new (item.Slot (Strong o)) o xs left before told c sound counted (strong_names_only (state_of old) xs o) set Stays is strong_rest weak_rest (kept ∙ counted.ends_is o) step
+      let is : fate (drafted old) (item.Slot (Strong o)) xs ≡ Stays = fate_by false (strong (drafted old) xs o == 0) (fall o (get old.objects o)) Stays (sym (is_some (strong (drafted old) xs o) (λ z. some (strong_rest ∙ z)))) in
+      drops_by old new (item.Slot (Strong o)) o xs left before told c sound counted (strong_names_only (drafted old) xs o) set Stays is strong_rest weak_rest (kept ∙ counted.ends_is o) step
 
 module _ (old new : Draft) (o : ℕ) (xs : List Item) (before told : List Event) (c : Counters)
     (set : IsSetAt old.counts new.counts o c) (same : c.strong ≡ (counters_at (get old.counts o)).strong) where
-  pub drops_weak : (b : Bool) → IsSound (state_of old) (item.Slot (Weak o) ∷ xs) → IsCounted old.counts (state_of old) (item.Slot (Weak o) ∷ xs) → c.weak ≡ (counters_at (get old.counts o)).weak - 1 → c.ends ≡ (counters_at (get old.counts o)).ends
-      → b ≡ ((c.weak == 0) && (is_husk (get old.objects o) && (c.ends == 0))) → Becomes (state_of new) xs before told (left_by (state_of old) xs (if b then Goes o else Stays)) → DropsFirst old new (item.Slot (Weak o)) xs xs before told
+  pub drops_weak : (b : Bool) → IsSound (drafted old) (item.Slot (Weak o) ∷ xs) → IsCounted old.counts (drafted old) (item.Slot (Weak o) ∷ xs) → c.weak ≡ (counters_at (get old.counts o)).weak - 1 → c.ends ≡ (counters_at (get old.counts o)).ends
+      → b ≡ ((c.weak == 0) && (is_husk (get old.objects o) && (c.ends == 0))) → Becomes (drafted new) xs before told (left_by (drafted old) xs (if b then Goes o else Stays)) → DropsFirst old new (item.Slot (Weak o)) xs xs before told
   drops_weak b sound counted less kept test step =
-      let s : c.strong ≡ strong (state_of old) xs o = omega (arith, same, counted.strong_is o) in
-      let w : c.weak ≡ weak (state_of old) xs o = omega (arith, less, counted.weak_is o, self_weak o) in
+      let s : c.strong ≡ strong (drafted old) xs o = omega (arith, same, counted.strong_is o) in
+      let w : c.weak ≡ weak (drafted old) xs o = omega (arith, less, counted.weak_is o, self_weak o) in
       let e : c.ends ≡ ends o xs = kept ∙ counted.ends_is o in
-      let tested : b ≡ ((weak (state_of old) xs o == 0) && (is_husk (get old.objects o) && (ends o xs == 0))) = test ∙ ap (λ n. (n == 0) && (is_husk (get old.objects o) && (c.ends == 0))) w ∙ ap (λ n. (weak (state_of old) xs o == 0) && (is_husk (get old.objects o) && (n == 0))) e in
-      let is : fate (state_of old) (item.Slot (Weak o)) xs ≡ (if b then Goes o else Stays) = fate_by b ((weak (state_of old) xs o == 0) && (is_husk (get old.objects o) && (ends o xs == 0))) (Goes o) Stays tested in
-      drops_by old new (item.Slot (Weak o)) o xs xs before told c sound counted (weak_names_only (state_of old) xs o) set (if b then Goes o else Stays) is s w (e ∙ ap (ends o) (sym (weak_pending (state_of old) xs o)) ∙ ap (λ (g : Fate). ends o (left_by (state_of old) xs g).pending) is) step
+      let tested : b ≡ ((weak (drafted old) xs o == 0) && (is_husk (get old.objects o) && (ends o xs == 0))) = test ∙ ap (λ n. (n == 0) && (is_husk (get old.objects o) && (c.ends == 0))) w ∙ ap (λ n. (weak (drafted old) xs o == 0) && (is_husk (get old.objects o) && (n == 0))) e in
+      let is : fate (drafted old) (item.Slot (Weak o)) xs ≡ (if b then Goes o else Stays) = fate_by b ((weak (drafted old) xs o == 0) && (is_husk (get old.objects o) && (ends o xs == 0))) (Goes o) Stays tested in
+      drops_by old new (item.Slot (Weak o)) o xs xs before told c sound counted (weak_names_only (drafted old) xs o) set (if b then Goes o else Stays) is s w (e ∙ ap (ends o) (sym (weak_pending (drafted old) xs o)) ∙ ap (λ (g : Fate). ends o (left_by (drafted old) xs g).pending) is) step
 
-  pub drops_end : (b : Bool) → IsSound (state_of old) (item.End o ∷ xs) → IsCounted old.counts (state_of old) (item.End o ∷ xs) → c.weak ≡ (counters_at (get old.counts o)).weak → c.ends ≡ (counters_at (get old.counts o)).ends - 1
-      → b ≡ (c.weak == 0) → Becomes (state_of new) xs before told (left_by (state_of old) xs (if b then Goes o else Stays)) → DropsFirst old new (item.End o) xs xs before told
+  pub drops_end : (b : Bool) → IsSound (drafted old) (item.End o ∷ xs) → IsCounted old.counts (drafted old) (item.End o ∷ xs) → c.weak ≡ (counters_at (get old.counts o)).weak → c.ends ≡ (counters_at (get old.counts o)).ends - 1
+      → b ≡ (c.weak == 0) → Becomes (drafted new) xs before told (left_by (drafted old) xs (if b then Goes o else Stays)) → DropsFirst old new (item.End o) xs xs before told
   drops_end b sound counted kept less test step =
-      let s : c.strong ≡ strong (state_of old) xs o = same ∙ counted.strong_is o in
-      let w : c.weak ≡ weak (state_of old) xs o = kept ∙ counted.weak_is o in
+      let s : c.strong ≡ strong (drafted old) xs o = same ∙ counted.strong_is o in
+      let w : c.weak ≡ weak (drafted old) xs o = kept ∙ counted.weak_is o in
       let e : c.ends ≡ ends o xs = omega (arith, less, counted.ends_is o, self_end o (ends o xs)) in
-      let tested : b ≡ (weak (state_of old) xs o == 0) = test ∙ ap (λ n. n == 0) w in
-      let is : fate (state_of old) (item.End o) xs ≡ (if b then Goes o else Stays) = fate_by b (weak (state_of old) xs o == 0) (Goes o) Stays tested in
-      drops_by old new (item.End o) o xs xs before told c sound counted (end_names_only (state_of old) xs o) set (if b then Goes o else Stays) is s w (e ∙ ap (ends o) (sym (end_pending (state_of old) xs o)) ∙ ap (λ (g : Fate). ends o (left_by (state_of old) xs g).pending) is) step
+      let tested : b ≡ (weak (drafted old) xs o == 0) = test ∙ ap (λ n. n == 0) w in
+      let is : fate (drafted old) (item.End o) xs ≡ (if b then Goes o else Stays) = fate_by b (weak (drafted old) xs o == 0) (Goes o) Stays tested in
+      drops_by old new (item.End o) o xs xs before told c sound counted (end_names_only (drafted old) xs o) set (if b then Goes o else Stays) is s w (e ∙ ap (ends o) (sym (end_pending (drafted old) xs o)) ∙ ap (λ (g : Fate). ends o (left_by (drafted old) xs g).pending) is) step
 
-pub drops_nothing : (old : Draft) (s : Slot) (xs : List Item) (before : List Event) → fate (state_of old) (item.Slot s) xs ≡ Stays → ((w : ℕ) → names_alike (Strong w) s ≡ 0) → ((w : ℕ) → names_alike (Weak w) s ≡ 0) → IsCounted old.counts (state_of old) (item.Slot s ∷ xs) → DropsFirst old old (item.Slot s) xs xs before before
+pub drops_nothing : (old : Draft) (s : Slot) (xs : List Item) (before : List Event) → fate (drafted old) (item.Slot s) xs ≡ Stays → ((w : ℕ) → names_alike (Strong w) s ≡ 0) → ((w : ℕ) → names_alike (Weak w) s ≡ 0) → IsCounted old.counts (drafted old) (item.Slot s ∷ xs) → DropsFirst old old (item.Slot s) xs xs before before
 drops_nothing old s xs before is a b counted = record {
-  step = subst (λ (g : Fate). Becomes (state_of old) xs before before (left_by (state_of old) xs g)) (sym is) (record { state = refl; pending = refl; events = sym (append-nil before) });
+  step = subst (λ (g : Fate). Becomes (drafted old) xs before before (left_by (drafted old) xs g)) (sym is) (record { state = refl; pending = refl; events = sym (append-nil before) });
   counted = record {
     strong_is = λ o. omega (arith, counted.strong_is o, a o);
     weak_is = λ o. omega (arith, counted.weak_is o, b o);
@@ -246,25 +246,25 @@ after-after a b r = ap (λ (es : List Event). record { state = r.state; events =
 
 -- one item of a release
 module _ (old new : Draft) (x : Item) (xs whole left : List Item) (before told : List Event) (first : whole ≡ x ∷ xs) (dropped : DropsFirst old new x xs left before told) where
-  pub sound_next : IsSound (state_of old) whole → IsSound (state_of new) left
+  pub sound_next : IsSound (drafted old) whole → IsSound (drafted new) left
   sound_next sound =
-      let now : IsSound (drop_first (state_of old) x xs).state (drop_first (state_of old) x xs).pending = in_turn.sound (state_of old) x xs (subst (λ (p : List Item). IsSound (state_of old) p) first sound) in
-      subst (λ (p : List Item). IsSound (state_of new) p) (sym dropped.step.pending) (subst (λ (m : State). IsSound m (drop_first (state_of old) x xs).pending) (sym dropped.step.state) now)
+      let now : IsSound (drop_first (drafted old) x xs).state (drop_first (drafted old) x xs).pending = in_turn.sound (drafted old) x xs (subst (λ (p : List Item). IsSound (drafted old) p) first sound) in
+      subst (λ (p : List Item). IsSound (drafted new) p) (sym dropped.step.pending) (subst (λ (m : State). IsSound m (drop_first (drafted old) x xs).pending) (sym dropped.step.state) now)
 
-  pub work_next : work (state_of new) left < work (state_of old) whole
+  pub work_next : work (drafted new) left < work (drafted old) whole
   work_next =
-      let smaller : work (state_of new) left ≡ work (drop_first (state_of old) x xs).state (drop_first (state_of old) x xs).pending = ap (λ (p : List Item). work (state_of new) p) dropped.step.pending ∙ ap (λ (m : State). work m (drop_first (state_of old) x xs).pending) dropped.step.state in
-      let larger : work (state_of old) whole ≡ work (state_of old) (x ∷ xs) = ap (λ (p : List Item). work (state_of old) p) first in
-      omega (arith, smaller, larger, in_turn.less (state_of old) x xs)
+      let smaller : work (drafted new) left ≡ work (drop_first (drafted old) x xs).state (drop_first (drafted old) x xs).pending = ap (λ (p : List Item). work (drafted new) p) dropped.step.pending ∙ ap (λ (m : State). work m (drop_first (drafted old) x xs).pending) dropped.step.state in
+      let larger : work (drafted old) whole ≡ work (drafted old) (x ∷ xs) = ap (λ (p : List Item). work (drafted old) p) first in
+      omega (arith, smaller, larger, in_turn.less (drafted old) x xs)
 
-  pub release_next : after told (release (state_of new) left) ≡ after before (release (state_of old) whole)
+  pub release_next : after told (release (drafted new) left) ≡ after before (release (drafted old) whole)
   release_next =
-      let d = drop_first (state_of old) x xs in
-      let same : release (state_of new) left ≡ release d.state d.pending = ap (λ (p : List Item). release (state_of new) p) dropped.step.pending ∙ ap (λ (m : State). release m d.pending) dropped.step.state in
+      let d = drop_first (drafted old) x xs in
+      let same : release (drafted new) left ≡ release d.state d.pending = ap (λ (p : List Item). release (drafted new) p) dropped.step.pending ∙ ap (λ (m : State). release m d.pending) dropped.step.state in
       ap (λ (r : Released). after told r) same
       ∙ ap (λ (es : List Event). after es (release d.state d.pending)) dropped.step.events
       ∙ after-after before d.events (release d.state d.pending)
-      ∙ ap (λ (r : Released). after before r) (sym (in_turn.first (state_of old) x xs) ∙ ap (λ (p : List Item). release (state_of old) p) (sym first))
+      ∙ ap (λ (r : Released). after before r) (sym (in_turn.first (drafted old) x xs) ∙ ap (λ (p : List Item). release (drafted old) p) (sym first))
 
 -- nothing is left
 pub release_end : (m : State) (before told : List Event) (left : List Item) (r : Released) → after told (release m left) ≡ after before r → left ≡ [] → (m ≡ r.state) × (told ≡ before ++ r.events)

@@ -17,7 +17,7 @@ use Rattle.ownership_model.proofs.Counting.{weight_at, total-insert, total-remov
 use Rattle.ownership_model.proofs.Searching.{has_as_any}
 use Rattle.object_heap.specs.declared.counters.Counters.{Counters}
 use Rattle.object_heap.specs.declared.draft.Draft.{Draft}
-use Rattle.object_heap.specs.Counted.{state_of, IsCounted}
+use Rattle.object_heap.specs.Counted.{drafted, IsCounted}
 use Rattle.object_heap.specs.Gains.{CountsMore, HasSlots}
 use Rattle.object_heap.specs.Exchange.{without_object, with_object, without_keys, with_one, with_keys, TakesOut, PutsIn}
 
@@ -73,18 +73,18 @@ bounded_in m q e b within few = record {
   labels = b.labels;
 }
 
-pub took_out : (old new : Draft) (q : ℕ) → IsBounded (state_of old) → state_of new ≡ without_object (state_of old) q → IsCounted new.counts (without_object (state_of old) q) [] → TakesOut old new q
+pub took_out : (old new : Draft) (q : ℕ) → IsBounded (drafted old) → drafted new ≡ without_object (drafted old) q → IsCounted new.counts (without_object (drafted old) q) [] → TakesOut old new q
 took_out old new q bounded is counted = record {
   state = is;
   counted = subst (λ (n : State). IsCounted new.counts n []) (sym is) counted;
-  bounded = subst (λ (n : State). IsBounded n) (sym is) (bounded_out (state_of old) q bounded);
+  bounded = subst (λ (n : State). IsBounded n) (sym is) (bounded_out (drafted old) q bounded);
 }
 
-pub put_in : (old new : Draft) (q : ℕ) (e : Entry) → IsBounded (state_of old) → q ≤ MAX_ID → EntryFits e → state_of new ≡ with_object (state_of old) q e → IsCounted new.counts (with_object (state_of old) q e) [] → PutsIn old new q e
+pub put_in : (old new : Draft) (q : ℕ) (e : Entry) → IsBounded (drafted old) → q ≤ MAX_ID → EntryFits e → drafted new ≡ with_object (drafted old) q e → IsCounted new.counts (with_object (drafted old) q e) [] → PutsIn old new q e
 put_in old new q e bounded within few is counted = record {
   state = is;
   counted = subst (λ (n : State). IsCounted new.counts n []) (sym is) counted;
-  bounded = subst (λ (n : State). IsBounded n) (sym is) (bounded_in (state_of old) q e bounded within few);
+  bounded = subst (λ (n : State). IsBounded n) (sym is) (bounded_in (drafted old) q e bounded within few);
 }
 
 -- what stands after all

@@ -22,7 +22,7 @@ use Rattle.ownership_model.proofs.LawsHold.{bounds, scopes}
 use Rattle.ownership_model.proofs.Counting.{weight_at, total-insert, total-remove, total-set, self_strong, self_weak, other_strong, other_weak, same_number, get_inserted, get_removed, names_alike-le}
 use Rattle.object_heap.specs.declared.counters.Counters.{Counters}
 use Rattle.object_heap.specs.declared.draft.Draft.{Draft}
-use Rattle.object_heap.specs.Counted.{counters_at, state_of, IsCounted}
+use Rattle.object_heap.specs.Counted.{counters_at, drafted, IsCounted}
 use Rattle.object_heap.specs.Gains.{IsSetAt, CountsMore, HasSlots, HasRoom, Changes}
 use Rattle.object_heap.proofs.ChangeWeights.{field_weight, gained, lost}
 
@@ -213,7 +213,7 @@ module _ (counts mid : FinMap nat_cmp Counters) (m : State) (c : Change) (can : 
     ends_is = λ o. sym (fewer.ends_is o) ∙ more.ends_is o ∙ counted.ends_is o;
   }
 
-  pub changes : (old new : Draft) → ◌≡◌ {A = State} (state_of old) m → CountsMore new.counts mid (lost m c) → state_of new ≡ changed_by m c → Changes old new c
+  pub changes : (old new : Draft) → ◌≡◌ {A = State} (drafted old) m → CountsMore new.counts mid (lost m c) → drafted new ≡ changed_by m c → Changes old new c
   changes old new was fewer is = record {
     state = is ∙ ap (λ (n : State). changed_by n c) (sym was);
     counted = subst (λ (n : State). IsCounted new.counts n []) (sym is) (counted_after new.counts fewer);

@@ -10,7 +10,7 @@ use Rattle.ownership_model.specs.Bounds.{IsBounded}
 use Rattle.ownership_model.proofs.LawsHold.{soundness, bounds}
 use Rattle.object_heap.specs.declared.counters.Counters.{Counters}
 use Rattle.object_heap.specs.declared.draft.Draft.{Draft}
-use Rattle.object_heap.specs.Counted.{counters_at, state_of, IsCounted, IsKept}
+use Rattle.object_heap.specs.Counted.{counters_at, drafted, IsCounted, IsKept}
 
 no_items : {A : Type 0} (xs : List A) → length xs ≡ 0 → xs ≡ []
 no_items [] h = refl
@@ -36,9 +36,9 @@ counted_nothing = record {
 }
 
 -- a draft of nothing is that of a heap
-pub kept_nothing : (d : Draft) → state_of d ≡ nothing_held → d.counts ≡ empty → IsKept d
+pub kept_nothing : (d : Draft) → drafted d ≡ nothing_held → d.counts ≡ empty → IsKept d
 kept_nothing d held none = record {
   sound = subst (λ (m : State). IsSound m []) (sym held) soundness.start;
   bounded = subst (λ (m : State). IsBounded m) (sym held) bounds.start;
-  counted = subst (λ (counts : FinMap nat_cmp Counters). IsCounted counts (state_of d) []) (sym none) (subst (λ (m : State). IsCounted empty m []) (sym held) counted_nothing);
+  counted = subst (λ (counts : FinMap nat_cmp Counters). IsCounted counts (drafted d) []) (sym none) (subst (λ (m : State). IsCounted empty m []) (sym held) counted_nothing);
 }

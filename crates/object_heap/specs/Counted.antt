@@ -13,8 +13,8 @@ abbrev pub counters_at : Option Counters → Counters
 counters_at kept = unwrap_or kept (record { strong = 0; weak = 0; ends = 0 })
 
 -- the state that a draft holds: all of it but the counters
-abbrev pub state_of : Draft → State
-state_of d = record { handles = d.handles; cells = d.cells; objects = d.objects; scopes = d.scopes }
+abbrev pub drafted : Draft → State
+drafted d = record { handles = d.handles; cells = d.cells; objects = d.objects; scopes = d.scopes }
 
 -- the counters count the slots that stand and what is pending
 pub record IsCounted (counts : FinMap nat_cmp Counters) (m : State) (pending : List Item) : Type 0 where
@@ -24,6 +24,6 @@ pub record IsCounted (counts : FinMap nat_cmp Counters) (m : State) (pending : L
 
 -- what is true of each heap
 pub record IsKept (d : Draft) : Type 0 where
-  pub sound : IsSound (state_of d) []
-  pub bounded : IsBounded (state_of d)
-  pub counted : IsCounted d.counts (state_of d) []
+  pub sound : IsSound (drafted d) []
+  pub bounded : IsBounded (drafted d)
+  pub counted : IsCounted d.counts (drafted d) []

@@ -8,7 +8,7 @@ use Rattle.ownership_model.specs.State.{State}
 use Rattle.ownership_model.specs.Bounds.{IsBounded, ObjectFits}
 use Rattle.ownership_model.specs.Patch.{entry_of}
 use Rattle.object_heap.specs.declared.draft.Draft.{Draft}
-use Rattle.object_heap.specs.Counted.{state_of, IsCounted}
+use Rattle.object_heap.specs.Counted.{drafted, IsCounted}
 
 -- each of these objects is within the limits of a state
 abbrev pub AreWithinLimits : FinMap nat_cmp Remaining → Type 0
@@ -39,12 +39,12 @@ with_keys xs (q ∷ qs) m = with_keys xs qs (with_one m q (get xs q))
 
 -- an object went
 pub record TakesOut (old new : Draft) (q : ℕ) : Type 0 where
-  pub state : state_of new ≡ without_object (state_of old) q
-  pub counted : IsCounted new.counts (state_of new) []
-  pub bounded : IsBounded (state_of new)
+  pub state : drafted new ≡ without_object (drafted old) q
+  pub counted : IsCounted new.counts (drafted new) []
+  pub bounded : IsBounded (drafted new)
 
 -- an object came, whatever was there
 pub record PutsIn (old new : Draft) (q : ℕ) (e : Entry) : Type 0 where
-  pub state : state_of new ≡ with_object (state_of old) q e
-  pub counted : IsCounted new.counts (state_of new) []
-  pub bounded : IsBounded (state_of new)
+  pub state : drafted new ≡ with_object (drafted old) q e
+  pub counted : IsCounted new.counts (drafted new) []
+  pub bounded : IsBounded (drafted new)

@@ -11,7 +11,7 @@ use Rattle.ownership_model.specs.State.{names_alike, items_weight, ends}
 use Rattle.ownership_model.specs.Changes.{changed_by}
 use Rattle.object_heap.specs.declared.counters.Counters.{Counters}
 use Rattle.object_heap.specs.declared.draft.Draft.{Draft}
-use Rattle.object_heap.specs.Counted.{counters_at, state_of, IsCounted}
+use Rattle.object_heap.specs.Counted.{counters_at, drafted, IsCounted}
 
 -- one object has other counters, and the others have theirs
 abbrev pub IsSetAt : FinMap nat_cmp Counters → FinMap nat_cmp Counters → ℕ → Counters → Type 0
@@ -42,5 +42,5 @@ pub record HasRoom (counts : FinMap nat_cmp Counters) (n : ℕ) : Type 0 where
 
 -- one change was made
 pub record Changes (old new : Draft) (c : Change) : Type 0 where
-  pub state : state_of new ≡ changed_by (state_of old) c
-  pub counted : IsCounted new.counts (state_of new) []
+  pub state : drafted new ≡ changed_by (drafted old) c
+  pub counted : IsCounted new.counts (drafted new) []

@@ -6,7 +6,7 @@ ghost use Rattle.trace_types.specs.declared.slots.Slot.TheVariants as slot;
 ghost use Rattle.ownership_model.specs.State.{IsSound};
 ghost use Rattle.ownership_model.specs.Release.{release, drops, fall, is_husk, left_by, Becomes, Goes};
 ghost use Rattle.ownership_model.specs.Bounds.{IsBounded};
-ghost use Rattle.object_heap.specs.Counted.{counters_at, state_of, IsCounted};
+ghost use Rattle.object_heap.specs.Counted.{counters_at, drafted, IsCounted};
 ghost use Rattle.object_heap.specs.Drops.{DropsFirst};
 
 use crate::counters::{Counters, counters_of, hold_item, set_counters};
@@ -24,12 +24,12 @@ impl Draft {
         items: &[Item],
         pending: &mut VecDeque<Item>,
     ) -> Result<(), AllocError>
-        requires counted { IsCounted self.old.counts (state_of self.old) [] }
-        requires bounded { IsBounded (state_of self.old) }
+        requires counted { IsCounted self.old.counts (drafted self.old) [] }
+        requires bounded { IsBounded (drafted self.old) }
         requires none { pending.old.items ≡ [] }
-        ensures state { OnOk result (state_of self.new ≡ state_of self.old) }
+        ensures state { OnOk result (drafted self.new ≡ drafted self.old) }
         ensures pending { OnOk result (pending.new.items ≡ items.now) }
-        ensures counted { OnOk result (IsCounted self.new.counts (state_of self.new) items.now) }
+        ensures counted { OnOk result (IsCounted self.new.counts (drafted self.new) items.now) }
     {
         for item in items {
             self.add(alloc, *item, pending)?;
@@ -44,12 +44,12 @@ impl Draft {
         item: Item,
         pending: &mut VecDeque<Item>,
     ) -> Result<(), AllocError>
-        requires counted { IsCounted self.old.counts (state_of self.old) pending.old.items }
-        requires bounded { IsBounded (state_of self.old) }
+        requires counted { IsCounted self.old.counts (drafted self.old) pending.old.items }
+        requires bounded { IsBounded (drafted self.old) }
         requires short { length pending.old.items < 2 ^ 63 }
-        ensures state { OnOk result (state_of self.new ≡ state_of self.old) }
+        ensures state { OnOk result (drafted self.new ≡ drafted self.old) }
         ensures pending { OnOk result (pending.new.items ≡ pending.old.items ++ item ∷ []) }
-        ensures counted { OnOk result (IsCounted self.new.counts (state_of self.new) pending.new.items) }
+        ensures counted { OnOk result (IsCounted self.new.counts (drafted self.new) pending.new.items) }
     {
         hold_item(alloc, &mut self.counts, item)?;
         Ok(pending.push_back(item)?)
@@ -62,12 +62,12 @@ impl Draft {
         pending: &mut VecDeque<Item>,
         events: &mut Vec<Event>,
     ) -> Result<(), AllocError>
-        requires sound { IsSound (state_of self.old) pending.old.items }
-        requires counted { IsCounted self.old.counts (state_of self.old) pending.old.items }
-        ensures state { OnOk result (state_of self.new ≡ (release (state_of self.old) pending.old.items).state) }
-        ensures events { OnOk result (events.new.items ≡ events.old.items ++ (release (state_of self.old) pending.old.items).events) }
-        ensures sound { OnOk result (IsSound (state_of self.new) []) }
-        ensures counted { OnOk result (IsCounted self.new.counts (state_of self.new) []) }
+        requires sound { IsSound (drafted self.old) pending.old.items }
+        requires counted { IsCounted self.old.counts (drafted self.old) pending.old.items }
+        ensures state { OnOk result (drafted self.new ≡ (release (drafted self.old) pending.old.items).state) }
+        ensures events { OnOk result (events.new.items ≡ events.old.items ++ (release (drafted self.old) pending.old.items).events) }
+        ensures sound { OnOk result (IsSound (drafted self.new) []) }
+        ensures counted { OnOk result (IsCounted self.new.counts (drafted self.new) []) }
     {
         while let Some(item) = pending.pop_front() {
             self.drop_item(alloc, item, pending, events)?;
@@ -82,8 +82,8 @@ impl Draft {
         pending: &mut VecDeque<Item>,
         events: &mut Vec<Event>,
     ) -> Result<(), AllocError>
-        requires sound { IsSound (state_of self.old) (item ∷ pending.old.items) }
-        requires counted { IsCounted self.old.counts (state_of self.old) (item ∷ pending.old.items) }
+        requires sound { IsSound (drafted self.old) (item ∷ pending.old.items) }
+        requires counted { IsCounted self.old.counts (drafted self.old) (item ∷ pending.old.items) }
         ensures { OnOk result (DropsFirst self.old self.new item pending.old.items pending.new.items events.old.items events.new.items) }
     {
         match item {
@@ -101,8 +101,8 @@ impl Draft {
         pending: &mut VecDeque<Item>,
         events: &mut Vec<Event>,
     ) -> Result<(), AllocError>
-        requires sound { IsSound (state_of self.old) (item.Slot (slot.Strong object) ∷ pending.old.items) }
-        requires counted { IsCounted self.old.counts (state_of self.old) (item.Slot (slot.Strong object) ∷ pending.old.items) }
+        requires sound { IsSound (drafted self.old) (item.Slot (slot.Strong object) ∷ pending.old.items) }
+        requires counted { IsCounted self.old.counts (drafted self.old) (item.Slot (slot.Strong object) ∷ pending.old.items) }
         ensures { OnOk result (DropsFirst self.old self.new (item.Slot (slot.Strong object)) pending.old.items pending.new.items events.old.items events.new.items) }
     {
         let was = counters_of(&self.counts, object);
@@ -127,8 +127,8 @@ impl Draft {
         rest: &VecDeque<Item>,
         events: &mut Vec<Event>,
     ) -> Result<(), AllocError>
-        requires sound { IsSound (state_of self.old) (item.Slot (slot.Weak object) ∷ rest.now.items) }
-        requires counted { IsCounted self.old.counts (state_of self.old) (item.Slot (slot.Weak object) ∷ rest.now.items) }
+        requires sound { IsSound (drafted self.old) (item.Slot (slot.Weak object) ∷ rest.now.items) }
+        requires counted { IsCounted self.old.counts (drafted self.old) (item.Slot (slot.Weak object) ∷ rest.now.items) }
         ensures { OnOk result (DropsFirst self.old self.new (item.Slot (slot.Weak object)) rest.now.items rest.now.items events.old.items events.new.items) }
     {
         let was = counters_of(&self.counts, object);
@@ -150,8 +150,8 @@ impl Draft {
         rest: &VecDeque<Item>,
         events: &mut Vec<Event>,
     ) -> Result<(), AllocError>
-        requires sound { IsSound (state_of self.old) (item.End object ∷ rest.now.items) }
-        requires counted { IsCounted self.old.counts (state_of self.old) (item.End object ∷ rest.now.items) }
+        requires sound { IsSound (drafted self.old) (item.End object ∷ rest.now.items) }
+        requires counted { IsCounted self.old.counts (drafted self.old) (item.End object ∷ rest.now.items) }
         ensures { OnOk result (DropsFirst self.old self.new (item.End object) rest.now.items rest.now.items events.old.items events.new.items) }
     {
         let was = counters_of(&self.counts, object);
@@ -174,7 +174,7 @@ impl Draft {
         pending: &mut VecDeque<Item>,
         events: &mut Vec<Event>,
     ) -> Result<(), AllocError>
-        ensures step { OnOk result (Becomes (state_of self.new) pending.new.items events.old.items events.new.items (left_by (state_of self.old) pending.old.items (fall object (map.get self.old.objects object)))) }
+        ensures step { OnOk result (Becomes (drafted self.new) pending.new.items events.old.items events.new.items (left_by (drafted self.old) pending.old.items (fall object (map.get self.old.objects object)))) }
         ensures counts { OnOk result (self.new.counts ≡ self.old.counts) }
     {
         match self.objects.get(object) {
@@ -194,7 +194,7 @@ impl Draft {
         object: u32,
         events: &mut Vec<Event>,
     ) -> Result<(), AllocError>
-        ensures step { OnOk result (Becomes (state_of self.new) [] events.old.items events.new.items (left_by (state_of self.old) [] (Goes object))) }
+        ensures step { OnOk result (Becomes (drafted self.new) [] events.old.items events.new.items (left_by (drafted self.old) [] (Goes object))) }
         ensures counts { OnOk result (self.new.counts ≡ self.old.counts) }
     {
         events.push(Event::Freed(object))?;

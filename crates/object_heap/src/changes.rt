@@ -7,7 +7,7 @@ ghost use Rattle.ownership_model.specs.State.{holding_weight, entry_weight, IsSc
 ghost use Rattle.ownership_model.specs.Scopes.{kept_or_entered};
 ghost use Rattle.ownership_model.specs.Changes.{HasField, CanBeDone, CanChange, changed};
 ghost use Rattle.ownership_model.specs.Bounds.{IsBounded, HoldingFits, AreFew, ChangeFits, ChangesFit};
-ghost use Rattle.object_heap.specs.Counted.{state_of, IsCounted};
+ghost use Rattle.object_heap.specs.Counted.{drafted, IsCounted};
 ghost use Rattle.object_heap.specs.NamesCounted.{AreNamesCounted};
 ghost use Rattle.object_heap.specs.Gains.{Changes, CountsMore, HasRoom, HasSlots};
 
@@ -26,14 +26,14 @@ impl Draft {
     /// Makes the changes in order. Where memory runs out some are made, and the draft is unspecified: let it go.
     pub fn apply(&mut self, alloc: Global, changes: &[Change]) -> Result<(), AllocError>
         requires scoped { IsScoped self.old.handles self.old.scopes }
-        requires counted { IsCounted self.old.counts (state_of self.old) [] }
-        requires bounded { IsBounded (state_of self.old) }
-        requires can { CanChange (state_of self.old) changes.now }
+        requires counted { IsCounted self.old.counts (drafted self.old) [] }
+        requires bounded { IsBounded (drafted self.old) }
+        requires can { CanChange (drafted self.old) changes.now }
         requires fits { ChangesFit changes.now }
-        ensures state { OnOk result (state_of self.new ≡ changed (state_of self.old) changes.now) }
+        ensures state { OnOk result (drafted self.new ≡ changed (drafted self.old) changes.now) }
         ensures scoped { OnOk result (IsScoped self.new.handles self.new.scopes) }
-        ensures counted { OnOk result (IsCounted self.new.counts (state_of self.new) []) }
-        ensures bounded { OnOk result (IsBounded (state_of self.new)) }
+        ensures counted { OnOk result (IsCounted self.new.counts (drafted self.new) []) }
+        ensures bounded { OnOk result (IsBounded (drafted self.new)) }
     {
         for change in changes {
             self.change(alloc, change)?;
@@ -43,9 +43,9 @@ impl Draft {
 
     fn change(&mut self, alloc: Global, change: &Change) -> Result<(), AllocError>
         requires scoped { IsScoped self.old.handles self.old.scopes }
-        requires counted { IsCounted self.old.counts (state_of self.old) [] }
-        requires bounded { IsBounded (state_of self.old) }
-        requires can { CanBeDone (state_of self.old) change.now }
+        requires counted { IsCounted self.old.counts (drafted self.old) [] }
+        requires bounded { IsBounded (drafted self.old) }
+        requires can { CanBeDone (drafted self.old) change.now }
         requires fits { ChangeFits change.now }
         ensures { OnOk result (Changes self.old self.new change.now) }
     {
@@ -73,8 +73,8 @@ impl Draft {
         holding: &Holding,
     ) -> Result<(), AllocError>
         requires scoped { IsScoped self.old.handles self.old.scopes }
-        requires counted { IsCounted self.old.counts (state_of self.old) [] }
-        requires bounded { IsBounded (state_of self.old) }
+        requires counted { IsCounted self.old.counts (drafted self.old) [] }
+        requires bounded { IsBounded (drafted self.old) }
         requires fits { HoldingFits holding.now }
         ensures { OnOk result (Changes self.old self.new (change.SetHandle label handle holding.now)) }
     {
@@ -97,8 +97,8 @@ impl Draft {
     }
 
     fn end_handle(&mut self, alloc: Global, handle: u32) -> Result<(), AllocError>
-        requires counted { IsCounted self.old.counts (state_of self.old) [] }
-        requires can { CanBeDone (state_of self.old) (change.EndHandle handle) }
+        requires counted { IsCounted self.old.counts (drafted self.old) [] }
+        requires can { CanBeDone (drafted self.old) (change.EndHandle handle) }
         ensures { OnOk result (Changes self.old self.new (change.EndHandle handle)) }
     {
         let_go_handle(alloc, &mut self.counts, &self.handles, handle)?;
@@ -107,9 +107,9 @@ impl Draft {
     }
 
     fn set_cell(&mut self, alloc: Global, cell: u32, slot: Slot) -> Result<(), AllocError>
-        requires counted { IsCounted self.old.counts (state_of self.old) [] }
-        requires bounded { IsBounded (state_of self.old) }
-        requires can { CanBeDone (state_of self.old) (change.SetCell cell slot) }
+        requires counted { IsCounted self.old.counts (drafted self.old) [] }
+        requires bounded { IsBounded (drafted self.old) }
+        requires can { CanBeDone (drafted self.old) (change.SetCell cell slot) }
         ensures { OnOk result (Changes self.old self.new (change.SetCell cell slot)) }
     {
         hold(alloc, &mut self.counts, slot)?;
@@ -118,8 +118,8 @@ impl Draft {
     }
 
     fn end_cell(&mut self, alloc: Global, cell: u32) -> Result<(), AllocError>
-        requires counted { IsCounted self.old.counts (state_of self.old) [] }
-        requires can { CanBeDone (state_of self.old) (change.EndCell cell) }
+        requires counted { IsCounted self.old.counts (drafted self.old) [] }
+        requires can { CanBeDone (drafted self.old) (change.EndCell cell) }
         ensures { OnOk result (Changes self.old self.new (change.EndCell cell)) }
     {
         let_go_cell(alloc, &mut self.counts, &self.cells, cell)?;
@@ -133,8 +133,8 @@ impl Draft {
         index: u32,
         slot: Slot,
     ) -> Result<(), AllocError>
-        requires counted { IsCounted self.old.counts (state_of self.old) [] }
-        requires bounded { IsBounded (state_of self.old) }
+        requires counted { IsCounted self.old.counts (drafted self.old) [] }
+        requires bounded { IsBounded (drafted self.old) }
         requires can { HasField (map.get self.old.objects object) index }
         ensures { OnOk result (Changes self.old self.new (change.SetField object index slot)) }
     {
@@ -154,9 +154,9 @@ impl Draft {
         object: u32,
         fields: &Sequence<Slot>,
     ) -> Result<(), AllocError>
-        requires counted { IsCounted self.old.counts (state_of self.old) [] }
-        requires bounded { IsBounded (state_of self.old) }
-        requires can { CanBeDone (state_of self.old) (change.Make object fields.now) }
+        requires counted { IsCounted self.old.counts (drafted self.old) [] }
+        requires bounded { IsBounded (drafted self.old) }
+        requires can { CanBeDone (drafted self.old) (change.Make object fields.now) }
         requires fits { AreFew fields.now }
         ensures { OnOk result (Changes self.old self.new (change.Make object fields.now)) }
     {
@@ -167,8 +167,8 @@ impl Draft {
     }
 
     fn turn_husk(&mut self, alloc: Global, object: u32) -> Result<(), AllocError>
-        requires counted { IsCounted self.old.counts (state_of self.old) [] }
-        requires can { CanBeDone (state_of self.old) (change.TurnHusk object) }
+        requires counted { IsCounted self.old.counts (drafted self.old) [] }
+        requires can { CanBeDone (drafted self.old) (change.TurnHusk object) }
         ensures { OnOk result (Changes self.old self.new (change.TurnHusk object)) }
     {
         let Some(Entry::Alive(fields)) = self.objects.get(object) else {

@@ -5,7 +5,7 @@ ghost use Rattle.ownership_model.specs.State.{nothing_held, IsSound};
 ghost use Rattle.ownership_model.specs.Bounds.{ChangesFit};
 ghost use Rattle.ownership_model.specs.Changes.{changed, CanChange};
 ghost use Rattle.ownership_model.specs.Release.{release};
-ghost use Rattle.object_heap.specs.Counted.{state_of, IsKept};
+ghost use Rattle.object_heap.specs.Counted.{drafted, IsKept};
 
 use crate::counters::Counters;
 use crate::objects::Objects;
@@ -30,7 +30,7 @@ pub struct Draft {
 impl Draft {
     /// Nothing is held.
     pub fn empty() -> Draft
-        ensures state { state_of result ≡ nothing_held }
+        ensures state { drafted result ≡ nothing_held }
         ensures counts { result.counts ≡ map.empty }
     {
         Draft {
@@ -45,7 +45,7 @@ impl Draft {
     /// Nothing is held any more.
     #[inline(never)]
     pub fn let_go(&mut self)
-        ensures state { state_of self.new ≡ nothing_held }
+        ensures state { drafted self.new ≡ nothing_held }
         ensures counts { self.new.counts ≡ map.empty }
     {
         *self = Draft::empty();
@@ -60,12 +60,12 @@ impl Draft {
         pending: &[Item],
     ) -> Result<Vec<Event>, AllocError>
         requires kept { IsKept self.old }
-        requires can { CanChange (state_of self.old) changes.now }
+        requires can { CanChange (drafted self.old) changes.now }
         requires fits { ChangesFit changes.now }
-        requires sound { IsSound (changed (state_of self.old) changes.now) pending.now }
+        requires sound { IsSound (changed (drafted self.old) changes.now) pending.now }
         ensures kept { OnOk result (IsKept self.new) }
-        ensures state { OnOk result (state_of self.new ≡ (release (changed (state_of self.old) changes.now) pending.now).state) }
-        ensures events { IfOk result (λ v. v.items ≡ (release (changed (state_of self.old) changes.now) pending.now).events) }
+        ensures state { OnOk result (drafted self.new ≡ (release (changed (drafted self.old) changes.now) pending.now).state) }
+        ensures events { IfOk result (λ v. v.items ≡ (release (changed (drafted self.old) changes.now) pending.now).events) }
     {
         self.apply(alloc, changes)?;
         let mut list = VecDeque::new(alloc);
@@ -77,7 +77,7 @@ impl Draft {
 
     /// The same again, whose nodes both have.
     pub fn share(&self) -> Result<Draft, AllocError>
-        ensures state { IfOk result (λ d. state_of d ≡ state_of self.now) }
+        ensures state { IfOk result (λ d. drafted d ≡ drafted self.now) }
         ensures counts { IfOk result (λ d. d.counts ≡ self.now.counts) }
     {
         Ok(Draft {
@@ -91,7 +91,7 @@ impl Draft {
 
     /// Whether both hold the same.
     pub fn same(&self, other: &Draft) -> bool
-        ensures { IsTrue result ↔ (state_of self.now ≡ state_of other.now) }
+        ensures { IsTrue result ↔ (drafted self.now ≡ drafted other.now) }
     {
         self.handles.same(&other.handles)
             && self.cells.same(&other.cells)

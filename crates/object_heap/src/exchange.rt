@@ -6,7 +6,7 @@ ghost use Rattle.trace_types.specs.declared.limits.TheConstants.{MAX_FIELDS, MAX
 ghost use Rattle.ownership_model.specs.State.{entry_weight};
 ghost use Rattle.ownership_model.specs.Bounds.{IsBounded, EntryFits};
 ghost use Rattle.ownership_model.specs.Patch.{patched};
-ghost use Rattle.object_heap.specs.Counted.{state_of, IsCounted};
+ghost use Rattle.object_heap.specs.Counted.{drafted, IsCounted};
 ghost use Rattle.object_heap.specs.Exchange.{AreWithinLimits, without_keys, with_keys, PutsIn, TakesOut};
 ghost use Rattle.object_heap.specs.Gains.{CountsMore, HasRoom, HasSlots};
 
@@ -26,12 +26,12 @@ impl Draft {
         removed: &ShareTree<Remaining>,
         added: &ShareTree<Remaining>,
     ) -> Result<(), AllocError>
-        requires counted { IsCounted self.old.counts (state_of self.old) [] }
-        requires bounded { IsBounded (state_of self.old) }
+        requires counted { IsCounted self.old.counts (drafted self.old) [] }
+        requires bounded { IsBounded (drafted self.old) }
         requires fits { AreWithinLimits added.now }
-        ensures state { OnOk result (state_of self.new ≡ patched (state_of self.old) (record { removed = removed.now; added = added.now })) }
-        ensures counted { OnOk result (IsCounted self.new.counts (state_of self.new) []) }
-        ensures bounded { OnOk result (IsBounded (state_of self.new)) }
+        ensures state { OnOk result (drafted self.new ≡ patched (drafted self.old) (record { removed = removed.now; added = added.now })) }
+        ensures counted { OnOk result (IsCounted self.new.counts (drafted self.new) []) }
+        ensures bounded { OnOk result (IsBounded (drafted self.new)) }
     {
         self.take_out_all(alloc, removed)?;
         self.put_in_all(alloc, added)
@@ -42,11 +42,11 @@ impl Draft {
         alloc: Global,
         removed: &ShareTree<Remaining>,
     ) -> Result<(), AllocError>
-        requires counted { IsCounted self.old.counts (state_of self.old) [] }
-        requires bounded { IsBounded (state_of self.old) }
-        ensures state { OnOk result (state_of self.new ≡ without_keys (map.keys removed.now) (state_of self.old)) }
-        ensures counted { OnOk result (IsCounted self.new.counts (state_of self.new) []) }
-        ensures bounded { OnOk result (IsBounded (state_of self.new)) }
+        requires counted { IsCounted self.old.counts (drafted self.old) [] }
+        requires bounded { IsBounded (drafted self.old) }
+        ensures state { OnOk result (drafted self.new ≡ without_keys (map.keys removed.now) (drafted self.old)) }
+        ensures counted { OnOk result (IsCounted self.new.counts (drafted self.new) []) }
+        ensures bounded { OnOk result (IsBounded (drafted self.new)) }
     {
         let keys = removed.keys(alloc)?;
         for key in &keys {
@@ -56,12 +56,12 @@ impl Draft {
     }
 
     fn put_in_all(&mut self, alloc: Global, added: &ShareTree<Remaining>) -> Result<(), AllocError>
-        requires counted { IsCounted self.old.counts (state_of self.old) [] }
-        requires bounded { IsBounded (state_of self.old) }
+        requires counted { IsCounted self.old.counts (drafted self.old) [] }
+        requires bounded { IsBounded (drafted self.old) }
         requires fits { AreWithinLimits added.now }
-        ensures state { OnOk result (state_of self.new ≡ with_keys added.now (map.keys added.now) (state_of self.old)) }
-        ensures counted { OnOk result (IsCounted self.new.counts (state_of self.new) []) }
-        ensures bounded { OnOk result (IsBounded (state_of self.new)) }
+        ensures state { OnOk result (drafted self.new ≡ with_keys added.now (map.keys added.now) (drafted self.old)) }
+        ensures counted { OnOk result (IsCounted self.new.counts (drafted self.new) []) }
+        ensures bounded { OnOk result (IsBounded (drafted self.new)) }
     {
         let keys = added.keys(alloc)?;
         for key in &keys {
@@ -73,8 +73,8 @@ impl Draft {
     }
 
     fn take_out(&mut self, alloc: Global, object: u32) -> Result<(), AllocError>
-        requires counted { IsCounted self.old.counts (state_of self.old) [] }
-        requires bounded { IsBounded (state_of self.old) }
+        requires counted { IsCounted self.old.counts (drafted self.old) [] }
+        requires bounded { IsBounded (drafted self.old) }
         ensures { OnOk result (TakesOut self.old self.new object) }
     {
         let_go_object(alloc, &mut self.counts, &self.objects, object)?;
@@ -83,8 +83,8 @@ impl Draft {
 
     // What comes is counted before what goes, so that no count is ever too small.
     fn put_in(&mut self, alloc: Global, object: u32, entry: &Entry) -> Result<(), AllocError>
-        requires counted { IsCounted self.old.counts (state_of self.old) [] }
-        requires bounded { IsBounded (state_of self.old) }
+        requires counted { IsCounted self.old.counts (drafted self.old) [] }
+        requires bounded { IsBounded (drafted self.old) }
         requires few { EntryFits entry.now }
         requires within { object ≤ MAX_ID }
         ensures { OnOk result (PutsIn self.old self.new object entry.now) }

@@ -40,9 +40,9 @@ impl Model for Heap {
 
     ghost coded = { state_code };
 
-    ghost use Rattle.object_heap.specs.Counted.{state_of, IsKept};
+    ghost use Rattle.object_heap.specs.Counted.{drafted, IsKept};
 
-    ghost view = { λ h. state_of h.draft };
+    ghost view = { λ h. drafted h.draft };
 
     ghost invariant = { λ h. IsKept h.draft };
 }

@@ -3,11 +3,11 @@
 
 mod carry;
 mod cells;
-pub mod chunk_run;
+mod chunk_run;
 mod fields;
 mod handles;
 mod make;
-pub mod meter;
+mod meter;
 mod names;
 pub mod replay;
 mod rows;
@@ -16,6 +16,7 @@ mod unique;
 mod wants;
 
 pub use carry::{step, step_in_place, stepped};
-pub use chunk_run::ChunkRun;
+pub use chunk_run::{ChunkRun, Replayed, copy_ops, run, run_of};
 pub use meter::Meter;
+pub use replay::replay_from;
 pub use rows::plan;

@@ -1,9 +1,8 @@
 //! Small programs, and what each of their operations does.
 use crate::told::{assert_told, did, did_to_none, skipped, trace_of};
 use object_heap::Heap;
-use op_step::chunk_run::run;
 use op_step::replay::replay;
-use op_step::{Meter, step};
+use op_step::{Meter, run, step};
 use std::test::Fail;
 use trace_types::kinds::{Field, Kind};
 use trace_types::ops::Op;

@@ -7,10 +7,7 @@ ghost use Rattle.run_engine.specs.Segments.{trace_of, marks_from, IsRunFrom};
 ghost use Rattle.run_engine.specs.Exchanged.{exchanged, AreExchangeable};
 
 use crate::segment::{Segment, share_segments};
-use agreement::remains::patch;
-use agreement::search::{Meeting, meet};
-use agreement::trail::Trail;
-use agreement::{Checkpoint, Remains};
+use agreement::{Checkpoint, Meeting, Remains, Trail, meet, patch};
 use object_heap::Heap;
 use std::alloc::{AllocError, Global};
 

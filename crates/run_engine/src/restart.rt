@@ -73,7 +73,7 @@ fn front(alloc: Global, revision: &Revision, head: usize) -> Result<Piece, Alloc
     ensures segments { IfOk result (λ f. f.segments.items ≡ take (length f.segments.items) revision.now.segments.now) }
     ensures gone { IfOk result (λ f. AreNames (contains nat_cmp f.gone) []) }
 {
-    let end = Checkpoint::of(alloc, revision.end.share()?);
+    let end = Checkpoint::of(alloc, revision.end.share()?)?;
     let best = greatest_mark(revision, &end, head);
     let kept = share_segments(alloc, &revision.segments[..best.index])?;
     Ok(Piece {

@@ -7,8 +7,7 @@ ghost use Rattle.run_engine.specs.Exchanged.{exchanged, IsExchangeable};
 
 use crate::part::{Bounds, Part, bounds_of};
 use agreement::{Checkpoint, Remains};
-use op_step::ChunkRun;
-use op_step::chunk_run::Replayed;
+use op_step::{ChunkRun, Replayed};
 use std::alloc::{AllocError, Global};
 use std::marker::Model;
 use std::sync::Arc;
@@ -50,7 +49,7 @@ impl Segment {
     pub fn of(alloc: Global, chunk: &ChunkRun) -> Result<Self, AllocError>
         ensures { IfOk result (λ s. s ≡ record { mark = Some chunk.now.start; ops = chunk.now.ops; outcomes = outcomes_from chunk.now.start chunk.now.ops }) }
     {
-        let start = Checkpoint::of(alloc, chunk.start().share()?);
+        let start = Checkpoint::of(alloc, chunk.start().share()?)?;
         Ok(Segment {
             mark: Some(Arc::new(alloc, start)?),
             body: Arc::try_clone(chunk.replayed())?,

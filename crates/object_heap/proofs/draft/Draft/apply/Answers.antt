@@ -1,12 +1,12 @@
 use Rattle.std.proofs.Common.{◌∙◌, arith}
-use Rattle.object_heap.specs.Counted.{state_of}
+use Rattle.object_heap.specs.Counted.{drafted}
 use Rattle.object_heap.proofs.GainLemmas.{scoped_next, can_next, fits_next, bounded_next, changed_next}
 use Rattle.object_heap.proofs.draft.Draft.apply.Goals as goal
 
 pub loop-change-preserved : goal.loop-change-preserved
 loop-change-preserved c =
-    let old = state_of c.loop-change.self in
-    let new = state_of c.change.new.self in
+    let old = drafted c.loop-change.self in
+    let new = drafted c.change.new.self in
     let made = c.in_ok-change.ensures.state in
     let so_far = c.loop-change.invariant in
     record {

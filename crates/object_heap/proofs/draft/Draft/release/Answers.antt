@@ -1,7 +1,7 @@
 use Rattle.std.proofs.Common.{◌≡◌, ◌∙◌, [], arith}
 use Rattle.std.proofs.lemmas.Grind.{common_steps}
 use Rattle.ownership_model.specs.Release.{release}
-use Rattle.object_heap.specs.Counted.{state_of}
+use Rattle.object_heap.specs.Counted.{drafted}
 use Rattle.object_heap.proofs.DropLemmas.{sound_next, work_next, release_next, release_end}
 use Rattle.object_heap.proofs.draft.Draft.release.Goals as goal
 
@@ -18,9 +18,9 @@ loop-item-preserved c = record {
 pub returns-clause-state : goal.returns-clause-state
 returns-clause-state c =
     let none : c.loop-item.pending.items ≡ [] = grind (arith, common_steps) in
-    (release_end (state_of c.loop-item.self) c.args.events.now.items c.loop-item.events.items c.loop-item.pending.items (release (state_of c.args.self.now) c.args.pending.now.items) c.loop-item.invariant.rest none).0
+    (release_end (drafted c.loop-item.self) c.args.events.now.items c.loop-item.events.items c.loop-item.pending.items (release (drafted c.args.self.now) c.args.pending.now.items) c.loop-item.invariant.rest none).0
 
 pub returns-clause-events : goal.returns-clause-events
 returns-clause-events c =
     let none : c.loop-item.pending.items ≡ [] = grind (arith, common_steps) in
-    (release_end (state_of c.loop-item.self) c.args.events.now.items c.loop-item.events.items c.loop-item.pending.items (release (state_of c.args.self.now) c.args.pending.now.items) c.loop-item.invariant.rest none).1
+    (release_end (drafted c.loop-item.self) c.args.events.now.items c.loop-item.events.items c.loop-item.pending.items (release (drafted c.args.self.now) c.args.pending.now.items) c.loop-item.invariant.rest none).1

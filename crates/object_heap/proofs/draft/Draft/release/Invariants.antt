@@ -1,16 +1,16 @@
 use Rattle.std.proofs.Common.{◌≡◌}
 use Rattle.ownership_model.specs.Release.{release, after, work}
 use Rattle.ownership_model.specs.State.{IsSound}
-use Rattle.object_heap.specs.Counted.{IsCounted, state_of}
+use Rattle.object_heap.specs.Counted.{IsCounted, drafted}
 use Rattle.object_heap.proofs.draft.Draft.release.Given as goal
 
 -- what was told so far and what the rest will tell is what the whole tells
 abbrev pub invariant-loop-item : goal.invariant-loop-item
 invariant-loop-item l = record {
-  sound : IsSound (state_of l.self) l.pending.items;
-  counted : IsCounted l.self.counts (state_of l.self) l.pending.items;
-  rest : after l.events.items (release (state_of l.self) l.pending.items) ≡ after l.fn.events.items (release (state_of l.fn.self) l.fn.pending.items);
+  sound : IsSound (drafted l.self) l.pending.items;
+  counted : IsCounted l.self.counts (drafted l.self) l.pending.items;
+  rest : after l.events.items (release (drafted l.self) l.pending.items) ≡ after l.fn.events.items (release (drafted l.fn.self) l.fn.pending.items);
 }
 
 abbrev pub decreases-loop-item : goal.decreases-loop-item
-decreases-loop-item l = work (state_of l.self) l.pending.items
+decreases-loop-item l = work (drafted l.self) l.pending.items

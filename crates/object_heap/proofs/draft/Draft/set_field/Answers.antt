@@ -10,7 +10,7 @@ use Rattle.trace_types.specs.declared.slots.Change.TheVariants.{SetField}
 use Rattle.ownership_model.specs.Changes.{with_field}
 use Rattle.trace_types.specs.declared.limits.TheConstants.{MAX_FIELDS}
 use Rattle.object_heap.specs.declared.draft.Draft.{Draft}
-use Rattle.object_heap.specs.Counted.{state_of}
+use Rattle.object_heap.specs.Counted.{drafted}
 use Rattle.object_heap.specs.Gains.{CountsMore}
 use Rattle.object_heap.proofs.ChangeWeights.{lost}
 use Rattle.object_heap.proofs.GainLemmas.{on_ok, lost_in, changes, room, less_room, field_in, field_gone}
@@ -19,15 +19,15 @@ use Rattle.object_heap.proofs.draft.Draft.set_field.Goals as goal
 pub hold-requires : goal.hold-requires
 hold-requires c =
     let old = c.args.self.now in
-    less_room old.counts 1 MAX_FIELDS (omega arith) (room old.counts (state_of old) [] c.requires.bounded c.requires.counted (omega arith))
+    less_room old.counts 1 MAX_FIELDS (omega arith) (room old.counts (drafted old) [] c.requires.bounded c.requires.counted (omega arith))
 
 pub let_go-requires : goal.let_go-requires
 let_go-requires c =
     let old = c.args.self.now in
     let change : Change = SetField c.args.object c.args.index c.args.slot in
     let is : get old.objects c.args.object ≡ Some (Alive c.in-Some-Alive.fields) = cc (c.in-Some-Alive.ensures, c.in-Some-Alive.field-0-is) in
-    field_in (state_of old) c.args.object c.args.index c.args.slot c.in-Some-Alive.fields c.as_slice.result.now _ is c.requires.can c.as_slice.ensures c.hold.new.counts
-    (lost_in old.counts c.hold.new.counts (state_of old) change c.requires.can c.requires.counted c.in_ok-hold.ensures)
+    field_in (drafted old) c.args.object c.args.index c.args.slot c.in-Some-Alive.fields c.as_slice.result.now _ is c.requires.can c.as_slice.ensures c.hold.new.counts
+    (lost_in old.counts c.hold.new.counts (drafted old) change c.requires.can c.requires.counted c.in_ok-hold.ensures)
 
 pub returns : goal.returns
 returns c =
@@ -35,9 +35,9 @@ returns c =
     let new : Draft = record { handles = old.handles; cells = old.cells; objects = c.insert.new.self; counts = c.let_go.new.counts; scopes = old.scopes } in
     let change : Change = SetField c.args.object c.args.index c.args.slot in
     let is : get old.objects c.args.object ≡ Some (Alive c.in-Some-Alive.fields) = cc (c.in-Some-Alive.ensures, c.in-Some-Alive.field-0-is) in
-    let fewer : CountsMore new.counts c.hold.new.counts (lost (state_of old) change) = field_gone (state_of old) c.args.object c.args.index c.args.slot c.in-Some-Alive.fields c.as_slice.result.now _ is c.requires.can c.as_slice.ensures new.counts c.hold.new.counts c.in_ok-let_go.ensures in
+    let fewer : CountsMore new.counts c.hold.new.counts (lost (drafted old) change) = field_gone (drafted old) c.args.object c.args.index c.args.slot c.in-Some-Alive.fields c.as_slice.result.now _ is c.requires.can c.as_slice.ensures new.counts c.hold.new.counts c.in_ok-let_go.ensures in
     let set : Alive c.in_ok-fields.fields ≡ with_field (get old.objects c.args.object) c.args.index c.args.slot =
     ap (λ (l : List Slot). Alive l) c.in_ok-fields.ensures ∙ sym (ap (λ (e : Option Entry). with_field e c.args.index c.args.slot) is) in
     on_ok c.insert.result c.insert.ensures.ok (λ put.
-    changes old.counts c.hold.new.counts (state_of old) change c.requires.can c.requires.counted c.in_ok-hold.ensures old new refl fewer
+    changes old.counts c.hold.new.counts (drafted old) change c.requires.can c.requires.counted c.in_ok-hold.ensures old new refl fewer
     (ap (λ (x : FinMap nat_cmp Entry). record { handles = old.handles; cells = old.cells; objects = x; scopes = old.scopes }) (put ∙ ap (λ (e : Entry). insert old.objects c.args.object e) set)))

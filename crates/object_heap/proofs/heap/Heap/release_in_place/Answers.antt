@@ -1,7 +1,7 @@
 use Rattle.std.proofs.Common.{ap, ◌∙◌, refl}
 use Rattle.ownership_model.specs.State.{State}
 use Rattle.ownership_model.specs.Changes.{changed}
-use Rattle.object_heap.specs.Counted.{state_of}
+use Rattle.object_heap.specs.Counted.{drafted}
 use Rattle.object_heap.proofs.DropLemmas.{cascades}
 use Rattle.object_heap.proofs.NothingLemmas.{kept_nothing}
 use Rattle.object_heap.proofs.heap.Heap.release_in_place.Goals as goal
@@ -11,8 +11,8 @@ invariant_of-self-in-Err c = kept_nothing c.let_go.new.self c.let_go.ensures.sta
 
 pub returns-in-Ok-clause-cascade : goal.returns-in-Ok-clause-cascade
 returns-in-Ok-clause-cascade c =
-    let from = changed (state_of c.self.inside.draft) c.args.changes.now in
-    cascades (changed c.args.self.now c.args.changes.now) from (state_of c.carry_out.new.self) c.args.pending.now c.args.pending.now c.from_vec.result
+    let from = changed (drafted c.self.inside.draft) c.args.changes.now in
+    cascades (changed c.args.self.now c.args.changes.now) from (drafted c.carry_out.new.self) c.args.pending.now c.args.pending.now c.from_vec.result
     c.requires.sound (ap (λ (m : State). changed m c.args.changes.now) c.self.view_is) refl
     c.in-Ok.ensures.state
     (c.from_vec.ensures ∙ c.in-Ok.ensures.events)
