@@ -1,4 +1,5 @@
 mod HolderLemmas
 mod LifeLemmas
 mod LineLemmas
+mod ToldLemmas
 mod StretchLemmas

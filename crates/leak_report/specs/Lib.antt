@@ -1,5 +1,6 @@
 pub mod Lines
 pub mod Lives
+pub mod Told
 pub mod Report
 pub mod Text
 pub mod HolderPass

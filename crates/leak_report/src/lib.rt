@@ -2,11 +2,12 @@
 #![tactic(auto)]
 
 mod closing_text;
-mod fates;
+mod endings;
 mod holders;
 mod leaks;
 mod line_text;
 pub mod lives;
+mod made;
 pub mod report;
 mod shown;
 mod text;

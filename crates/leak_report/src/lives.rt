@@ -1,12 +1,14 @@
 //! What became of each object that was made.
 ghost use Rattle.std.specs.Prelude.{◌≡◌, IfOk, map};
-ghost use Rattle.std.specs.Ordering.{nat_cmp};
-ghost use Rattle.std.specs.BTreeMap.{get};
 ghost use Rattle.trace_types.specs.Stretches.{outcomes_of};
-ghost use Rattle.leak_report.specs.Lives.{lives_of};
+ghost use Rattle.leak_report.specs.Lives.{events_of, lives_of};
+ghost use Rattle.leak_report.specs.Told.{HasRisingObjects, begins, told_by_all};
 
-use crate::fates::{Fates, fates_of};
+use crate::endings::note_events;
+use crate::made::made_by;
 use std::alloc::{AllocError, Global};
+use std::collections::BTreeSet;
+use trace_types::outcomes::Outcome;
 use trace_types::sequence::Sequence;
 use trace_types::stretches::Stretch;
 
@@ -32,21 +34,39 @@ pub struct Life {
     pub freed: Option<u32>,
 }
 
-/// The lives of all objects that were made, rising. The events are gone through once.
+/// The lives of all objects that were made, rising.
 pub fn lives(alloc: Global, stretches: &[Stretch]) -> Result<Sequence<Life>, AllocError>
     ensures { IfOk result (λ ls. ls ≡ lives_of (outcomes_of stretches.now)) }
 {
-    let fates = fates_of(alloc, stretches)?;
-    let lives = all_lives(alloc, &fates)?;
+    let mut lives = begun(alloc, &made_by(alloc, stretches)?)?;
+    for stretch in stretches {
+        note_outcomes(&mut lives, stretch.outcomes);
+    }
     Ok(Sequence::from_vec(lives))
 }
 
-fn all_lives(alloc: Global, fates: &Fates) -> Result<Vec<Life>, AllocError>
-    ensures { IfOk result (λ v. v.items ≡ map (λ o. record { object = o; ending = get nat_cmp fates.now.endings o; freed = get nat_cmp fates.now.freed o }) fates.now.made.keys) }
+// The lives of these objects, before any event.
+fn begun(alloc: Global, made: &BTreeSet<u32>) -> Result<Vec<Life>, AllocError>
+    ensures begun { IfOk result (λ v. v.items ≡ map begins made.now.keys) }
+    ensures rising { IfOk result (λ v. HasRisingObjects v.items) }
 {
     let mut lives = Vec::new(alloc);
-    for object in &fates.made {
-        lives.push(fates.life(*object))?;
+    for object in made.iter() {
+        lives.push(Life {
+            object: *object,
+            ending: None,
+            freed: None,
+        })?;
     }
     Ok(lives)
+}
+
+// Notes the events of operations.
+fn note_outcomes(lives: &mut [Life], outcomes: &[Outcome])
+    requires { HasRisingObjects lives.old }
+    ensures { lives.new ≡ map (told_by_all (events_of outcomes.now)) lives.old }
+{
+    for outcome in outcomes {
+        note_events(lives, outcome.id, outcome.events.as_slice());
+    }
 }
