@@ -7,7 +7,7 @@ use Rattle.trace_reader.specs.declared.request.RequestLine.{RequestLine}
 use Rattle.trace_reader.specs.declared.script.Script.{Script}
 use Rattle.trace_reader.specs.Scripts.{read_script}
 use Rattle.trace_reader.specs.Writing.{lines_text}
-use Rattle.run_engine.specs.declared.faults.Refusal.{Refusal}
+use Rattle.run_engine.specs.declared.editing.faults.Refusal.{Refusal}
 use Rattle.run_engine.specs.Edited.{edited_by}
 use Rattle.edit_desk.specs.declared.replies.Reply.TheVariants.{Refused}
 use Rattle.edit_desk.specs.ReplyText.{reply_text}

@@ -1,7 +1,7 @@
 -- The text of a reply (profile of this project).
 use Rattle.std.specs.Prelude.{ℕ, List, ◌++◌, codes, decimal}
-use Rattle.run_engine.specs.declared.faults.Refusal.{Refusal}
-use Rattle.run_engine.specs.declared.faults.Refusal.TheVariants.{NoSuchOp, IdTaken, TooMany, EmptyBatch, TooManyEdits}
+use Rattle.run_engine.specs.declared.editing.faults.Refusal.{Refusal}
+use Rattle.run_engine.specs.declared.editing.faults.Refusal.TheVariants.{NoSuchOp, IdTaken, TooMany, EmptyBatch, TooManyEdits}
 use Rattle.edit_desk.specs.declared.replies.Reply.{Reply}
 use Rattle.edit_desk.specs.declared.replies.Reply.TheVariants.{Accepted, Stale, Refused, HistoryFull}
 

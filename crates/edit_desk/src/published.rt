@@ -5,7 +5,7 @@ ghost use Rattle.mark_shelf.specs.Shelf.{Shelf, empty_shelf};
 ghost use Rattle.run_engine.specs.GivenUp.{AreMarksKept};
 ghost use Rattle.run_engine.specs.Steps.{AreSteppedFrom};
 ghost use Rattle.edit_desk.specs.Versions.{ReplaysWithin};
-ghost use Rattle.run_engine.specs.declared.faults.RunFault.TheVariants.{EmptyBatch, TooManyEdits};
+ghost use Rattle.run_engine.specs.declared.editing.faults.RunFault.TheVariants.{EmptyBatch, TooManyEdits};
 ghost use Rattle.trace_reader.specs.Writing.{lines_text};
 
 use crate::kept::KEPT_MARKS;

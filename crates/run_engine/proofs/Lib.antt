@@ -23,4 +23,5 @@ mod GoneLemmas
 mod ClearedLemmas
 mod AnsweredLemmas
 mod OnwardLemmas
+mod GoesOnLemmas
 mod LeftLemmas

@@ -7,8 +7,8 @@ use Rattle.std.proofs.Math.Seq.{take-add, drop-append-add}
 use Rattle.std.proofs.lemmas.List.{append-nil, take_more, length-take, length-drop, length-take-le, take_at, drop_at, set_at, set_split, drop-drop, drop-take, drop-append-le, take-append-le, drop_more, take_all}
 use Rattle.std.proofs.lemmas.List.Concat.{flat_map-append}
 use Rattle.trace_types.specs.Operation.{Operation}
-use Rattle.run_engine.specs.declared.spans.Span.{Span}
-use Rattle.run_engine.specs.declared.spans.Span.TheVariants.{Old, New}
+use Rattle.run_engine.specs.declared.editing.spans.Span.{Span}
+use Rattle.run_engine.specs.declared.editing.spans.Span.TheVariants.{Old, New}
 use Rattle.run_engine.specs.HeadAndTail.{AreAlike}
 use Rattle.run_engine.specs.ListingView.{ListingView}
 use Rattle.run_engine.specs.Spans.{ops_in, laid, span_length, total, Fits, AreFit, IsFound}

@@ -1,5 +1,5 @@
 -- Touches in turn, and the checkpoints that are given up by them.
-use Rattle.std.proofs.Common.{◌≡◌, ◌+◌, ℕ, List, [], ◌∷◌, ◌++◌, refl, ap, sym, subst, ◌∙◌}
+use Rattle.std.proofs.Common.{◌≡◌, ℕ, List, [], ◌∷◌, ◌++◌, refl, ap, sym, subst, ◌∙◌}
 use Rattle.std.specs.Prelude.{Option, Some, None, fold, option_to_list}
 use Rattle.trace_types.specs.Operation.{Operation}
 use Rattle.mark_shelf.specs.Shelf.{Shelf}

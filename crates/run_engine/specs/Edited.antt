@@ -5,10 +5,10 @@ use Rattle.trace_types.specs.Trace.{place_of, is_taken}
 use Rattle.trace_types.specs.declared.edits.Edit.{Edit}
 use Rattle.trace_types.specs.declared.edits.Edit.TheVariants.{Insert, Remove, Change}
 use Rattle.trace_types.specs.declared.limits.TheConstants.{MAX_OPS, MAX_EDITS}
-use Rattle.run_engine.specs.declared.faults.Refusal.{Refusal}
-use Rattle.run_engine.specs.declared.faults.Refusal.TheVariants.{NoSuchOp, IdTaken, TooMany, EmptyBatch, TooManyEdits}
-use Rattle.run_engine.specs.declared.faults.RunFault.{RunFault}
-use Rattle.run_engine.specs.declared.faults.RunFault.TheVariants as fault
+use Rattle.run_engine.specs.declared.editing.faults.Refusal.{Refusal}
+use Rattle.run_engine.specs.declared.editing.faults.Refusal.TheVariants.{NoSuchOp, IdTaken, TooMany, EmptyBatch, TooManyEdits}
+use Rattle.run_engine.specs.declared.editing.faults.RunFault.{RunFault}
+use Rattle.run_engine.specs.declared.editing.faults.RunFault.TheVariants as fault
 
 -- where an operation goes that comes right after operation `after`, or at the front where that is 0
 abbrev pub place_after : ℕ → List Operation → Option ℕ

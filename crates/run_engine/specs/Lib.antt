@@ -14,6 +14,9 @@ pub mod Memo
 pub mod Steps
 pub mod GivenUp
 pub mod Onward
+pub mod GoesOn
 pub mod Cleared
 pub mod Loaded
 pub mod Revision
+pub mod RevisionProps
+pub mod OldRun

@@ -2,8 +2,8 @@
 use Rattle.std.specs.Prelude.{◌≡◌, ℕ, suc, zero, ◌+◌, ◌<◌, ◌≤◌, List, [], ◌∷◌, length, take, drop}
 use Rattle.std.specs.List.{flat_map, AllByRecursion}
 use Rattle.trace_types.specs.Operation.{Operation}
-use Rattle.run_engine.specs.declared.spans.Span.{Span}
-use Rattle.run_engine.specs.declared.spans.Span.TheVariants.{Old, New}
+use Rattle.run_engine.specs.declared.editing.spans.Span.{Span}
+use Rattle.run_engine.specs.declared.editing.spans.Span.TheVariants.{Old, New}
 
 -- the operations of a span
 abbrev pub ops_in : List Operation → Span → List Operation

@@ -10,7 +10,7 @@ use Rattle.run_engine.specs.Marks.{IsGreatest}
 use Rattle.run_engine.specs.Bounds.{AgreesAt}
 use Rattle.op_step.specs.Chunk.{Chunk}
 use Rattle.run_engine.specs.NewMarks.{AreNeighbours}
-use Rattle.run_engine.specs.Memo.{IsAmong}
+use Rattle.run_engine.specs.Memo.{IsAmong, AreSome}
 
 -- an old stretch between neighbouring checkpoints begins with the state, and has the first `len` of the operations
 pub record IsOldStretch (old : List Operation) (marks : List ℕ) (start : State) (ops : List Operation) (len : ℕ) : Type 0 where
@@ -43,6 +43,12 @@ AreRising from to (p ∷ ps) = (from ≤ p) × (p < to) × AreRising (p + 1) to 
 abbrev pub HaveStepped : List Operation → List Operation → List ℕ → List (ℕ × Chunk) → ℕ → ℕ → ℕ → ℕ → Type 0
 HaveStepped old ops marks chunks r at before after =
     (ps : List ℕ) → AreRising r at ps → AllByRecursion (λ p. IsCovered old ops marks chunks p → ⊥) ps → raised before (length ps) ≤ after
+
+-- so from one position on to another, where it is so up to the first: from wherever on, and with whatever chunks beside these
+abbrev pub HaveSteppedOn : List Operation → List Operation → List ℕ → List (ℕ × Chunk) → ℕ → ℕ → ℕ → ℕ → Type 0
+HaveSteppedOn old ops marks some at to before after =
+    (r start : ℕ) (chunks : List (ℕ × Chunk)) → HaveStepped old ops marks chunks r at start before → AreSome some chunks
+    → HaveStepped old ops marks chunks r to start after
 
 -- the operation at p of the edited trace is before each place where the replay may stop, and is not covered
 pub record MustStep (old ops : List Operation) (a b : ℕ) (marks : List ℕ) (chunks : List (ℕ × Chunk)) (p : ℕ) : Type 0 where

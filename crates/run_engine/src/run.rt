@@ -5,33 +5,32 @@ ghost use Rattle.std.specs.Ordering.{nat_cmp};
 ghost use Rattle.std.specs.BTreeSet.{contains};
 ghost use Rattle.trace_types.specs.Operation.{Operation};
 ghost use Rattle.trace_types.specs.Stretches.{ops_of, outcomes_of};
-ghost use Rattle.trace_types.specs.Trace.{IsTrace};
 ghost use Rattle.ownership_model.specs.State.{nothing_held};
 ghost use Rattle.ownership_model.specs.Step.{end_from, outcomes_from};
 ghost use Rattle.op_step.specs.Meter.{raised};
-ghost use Rattle.run_engine.specs.declared.faults.RunFault.TheVariants.{EmptyBatch, TooManyEdits};
+ghost use Rattle.run_engine.specs.declared.editing.faults.RunFault.TheVariants.{EmptyBatch, TooManyEdits};
 ghost use Rattle.run_engine.specs.Edited.{edited_by, IsFaultOf};
 ghost use Rattle.run_engine.specs.Segments.{without, IsInner};
 ghost use Rattle.run_engine.specs.Marks.{load_marks};
 ghost use Rattle.run_engine.specs.Bounds.{StepsAtMostFrom};
-ghost use Rattle.run_engine.specs.Onward.{AreNames, AreMarksDue};
+ghost use Rattle.run_engine.specs.Onward.{AreNames};
 ghost use Rattle.run_engine.specs.GivenUp.{given_up, names_at, IsTouched, AreMarksKept};
-ghost use Rattle.run_engine.specs.RunView.{RunView};
+ghost use Rattle.run_engine.specs.RunView.{load_view};
 ghost use Rattle.run_engine.specs.Steps.{AreRising, AreSteppedFrom};
 
-use crate::contents::{len_in, marks_in, ops_in, outcomes_in, stretches_in};
-use crate::edits::{copied, edited, try_size};
-use crate::faults::RunFault;
-use crate::listing::Listing;
-use crate::loading::{given_up_in, loaded};
-use crate::names::clear_named;
-use crate::restart::resumed;
-use crate::seek::{clear_mark, op_at, outcome_at, segment_at};
-use crate::segment::Segment;
-use crate::touching::remember_all;
+use crate::editing::edits::{copied, edited, try_size};
+use crate::editing::faults::RunFault;
+use crate::editing::listing::Listing;
+use crate::replay::loading::{given_up_in, loaded};
+use crate::replay::restart::resumed;
+use crate::replay::touching::remember_all;
+use crate::segments::contents::{len_in, marks_in, ops_in, outcomes_in, stretches_in};
+use crate::segments::names::clear_named;
+use crate::segments::seek::{clear_mark, op_at, outcome_at, segment_at};
+use crate::segments::segment::Segment;
 use mark_shelf::MarkShelf;
 use object_heap::Heap;
-use op_step::{ChunkRun, Meter};
+use op_step::Meter;
 use std::alloc::{AllocError, Global};
 use std::collections::BTreeSet;
 use std::marker::Model;
@@ -54,14 +53,6 @@ pub struct Run {
     end: Heap,
 }
 
-// The run of an edited trace, the names of checkpoints that were answered on the way, and the chunks that were stepped.
-#[derive(Drop)]
-struct Edited {
-    run: Run,
-    gone: BTreeSet<u32>,
-    fresh: Vec<ChunkRun>,
-}
-
 impl Model for Run {
     ghost use Rattle.run_engine.specs.RunView.{RunView, run_code};
     ghost use Rattle.run_engine.specs.Segments.{trace_of, all_marks, IsKept};
@@ -70,7 +61,10 @@ impl Model for Run {
 
     ghost coded = { run_code };
 
-    ghost view = { λ r. record { trace = trace_of r.segments.items; marks = all_marks r.segments.items } };
+    ghost view = { λ r. record {
+      trace = trace_of r.segments.items;
+      marks = all_marks r.segments.items;
+    } };
 
     ghost invariant = { λ r. IsKept r.segments.items r.end };
 }
@@ -100,7 +94,9 @@ impl Run {
         shelf: &mut MarkShelf,
         meter: &mut Meter,
     ) -> Result<Run, AllocError>
-        ensures touched { IfOk result (λ r. let all : RunView = record { trace = trace.now; marks = load_marks (length trace.now) } in IsTouched all r shelf.old shelf.new (names_at trace.now all.marks)) }
+        ensures touched { IfOk result (λ r.
+            IsTouched (load_view trace.now) r shelf.old shelf.new
+            (names_at trace.now (load_marks (length trace.now)))) }
         ensures count { OnOk result (meter.new ≡ raised meter.old (length trace.now)) }
         ensures never_less { meter.old ≤ meter.new }
         ensures rise { meter.new ≤ meter.old + length trace.now }
@@ -137,34 +133,11 @@ impl Run {
         ensures fault { IfErr result (IsFaultOf (edited_by self.now.trace batch.now)) }
         ensures empty { length batch.now ≡ 0 → result ≡ Err EmptyBatch }
         ensures too_many { MAX_EDITS < length batch.now → result ≡ Err TooManyEdits }
-        ensures bound { (ops : List Operation) → edited_by self.now.trace batch.now ≡ Ok ops → StepsAtMostFrom self.now.trace ops self.now.marks meter.old meter.new }
-        ensures stepped { IfOk result (λ r. AreSteppedFrom self.now.trace r.trace self.now.marks shelf.old.chunks meter.old meter.new) }
-        ensures refused { IsErr (edited_by self.now.trace batch.now) → meter.new ≡ meter.old }
-        ensures refused_shelf { IsErr (edited_by self.now.trace batch.now) → shelf.new ≡ shelf.old }
-        ensures never_less { meter.old ≤ meter.new }
-    {
-        let Edited { run, gone, fresh } = self.revised(alloc, batch, shelf, meter)?;
-        let mut run = run;
-        remember_all(shelf, fresh);
-        run.give_up_named(&gone);
-        Ok(run)
-    }
-
-    // The run of the trace after the edits, whose checkpoints with answered names are still to be given up where they are there.
-    fn revised(
-        &self,
-        alloc: Global,
-        batch: &Batch,
-        shelf: &mut MarkShelf,
-        meter: &mut Meter,
-    ) -> Result<Edited, RunFault>
-        ensures trace { IfOk result (λ r. edited_by self.now.trace batch.now ≡ Ok r.run.trace) }
-        ensures marks { IfOk result (λ r. AreMarksDue self.now r.run shelf.old shelf.new (contains nat_cmp r.gone)) }
-        ensures fault { IfErr result (IsFaultOf (edited_by self.now.trace batch.now)) }
-        ensures empty { length batch.now ≡ 0 → result ≡ Err EmptyBatch }
-        ensures too_many { MAX_EDITS < length batch.now → result ≡ Err TooManyEdits }
-        ensures bound { (ops : List Operation) → edited_by self.now.trace batch.now ≡ Ok ops → StepsAtMostFrom self.now.trace ops self.now.marks meter.old meter.new }
-        ensures stepped { IfOk result (λ r. AreSteppedFrom self.now.trace r.run.trace self.now.marks shelf.old.chunks meter.old meter.new) }
+        ensures bound { (ops : List Operation) → edited_by self.now.trace batch.now ≡ Ok ops →
+            StepsAtMostFrom self.now.trace ops self.now.marks meter.old meter.new }
+        ensures stepped { IfOk result (λ r.
+            AreSteppedFrom self.now.trace r.trace self.now.marks shelf.old.chunks
+            meter.old meter.new) }
         ensures refused { IsErr (edited_by self.now.trace batch.now) → meter.new ≡ meter.old }
         ensures refused_shelf { IsErr (edited_by self.now.trace batch.now) → shelf.new ≡ shelf.old }
         ensures never_less { meter.old ≤ meter.new }
@@ -173,42 +146,22 @@ impl Run {
         let original = ops_in(alloc, &self.segments)?;
         let listed = Listing::of(alloc, original)?;
         let ops = edited(listed, batch.as_slice())?;
-        Ok(self.beside(alloc, &ops, shelf, meter)?)
-    }
-
-    // The run of a trace that replaces this run's.
-    fn beside(
-        &self,
-        alloc: Global,
-        ops: &Listing,
-        shelf: &mut MarkShelf,
-        meter: &mut Meter,
-    ) -> Result<Edited, AllocError>
-        requires base { ops.now.base ≡ self.now.trace }
-        requires trace { IsTrace ops.now.ops }
-        ensures trace { IfOk result (λ r. r.run.trace ≡ ops.now.ops) }
-        ensures marks { IfOk result (λ r. AreMarksDue self.now r.run shelf.old shelf.new (contains nat_cmp r.gone)) }
-        ensures bound { StepsAtMostFrom self.now.trace ops.now.ops self.now.marks meter.old meter.new }
-        ensures stepped { IfOk result (λ _. AreSteppedFrom self.now.trace ops.now.ops self.now.marks shelf.old.chunks meter.old meter.new) }
-        ensures never_less { meter.old ≤ meter.new }
-    {
-        let replay = resumed(alloc, &self.segments, &self.end, ops, shelf, meter)?;
-        let run = Run {
+        let replay = resumed(alloc, &self.segments, &self.end, &ops, shelf, meter)?;
+        let mut run = Run {
             segments: replay.segments,
             end: replay.end,
         };
-        Ok(Edited {
-            run,
-            gone: replay.gone,
-            fresh: replay.fresh,
-        })
+        remember_all(shelf, replay.fresh);
+        run.give_up_named(&replay.gone);
+        Ok(run)
     }
 
     /// Gives up the checkpoint at a position, if it is an inner one, and tells whether it was. Takes no memory.
     pub fn give_up(&mut self, position: usize) -> bool
         ensures trace { self.new.trace ≡ self.old.trace }
         ensures answer { IsTrue result ↔ IsInner self.old.marks (length self.old.trace) position }
-        ensures marks { self.new.marks ≡ (if result then without position self.old.marks else self.old.marks) }
+        ensures marks { self.new.marks
+            ≡ (if result then without position self.old.marks else self.old.marks) }
     {
         match segment_at(&self.segments, position) {
             None => false,
@@ -224,7 +177,8 @@ impl Run {
     // Gives up the inner checkpoints with these names, in one pass.
     fn give_up_named(&mut self, gone: &BTreeSet<u32>)
         ensures trace { self.new.trace ≡ self.old.trace }
-        ensures marks { (names : List ℕ) → AreNames (contains nat_cmp gone.now) names → self.new.marks ≡ fold (given_up self.old.trace) self.old.marks names }
+        ensures marks { (names : List ℕ) → AreNames (contains nat_cmp gone.now) names →
+            self.new.marks ≡ fold (given_up self.old.trace) self.old.marks names }
     {
         clear_named(&mut self.segments, gone);
     }
@@ -245,7 +199,8 @@ impl Run {
 
     /// The outcome of the operation at a place, from 0.
     pub fn outcome(&self, place: usize) -> Option<&Outcome>
-        ensures { option_copied result ≡ slice_get (outcomes_from nothing_held self.now.trace) place }
+        ensures { option_copied result
+            ≡ slice_get (outcomes_from nothing_held self.now.trace) place }
     {
         outcome_at(&self.segments, place)
     }
@@ -270,7 +225,8 @@ impl Run {
     /// knows that there are at most `MAX_OPS`.
     pub fn stretches(&self, alloc: Global) -> Result<Vec<Stretch<'_>>, AllocError>
         ensures ops { IfOk result (λ v. ops_of v.items ≡ self.now.trace) }
-        ensures outcomes { IfOk result (λ v. outcomes_of v.items ≡ outcomes_from nothing_held self.now.trace) }
+        ensures outcomes { IfOk result
+            (λ v. outcomes_of v.items ≡ outcomes_from nothing_held self.now.trace) }
         ensures few { length self.now.trace ≤ MAX_OPS }
     {
         let stretches = stretches_in(alloc, &self.segments)?;

@@ -1,8 +1,0 @@
-use Rattle.std.proofs.Common.{refl}
-use Rattle.run_engine.proofs.PieceLemmas.{IsPiece-one}
-use Rattle.run_engine.proofs.piece.Piece.of.Goals as goal
-
-pub returns-clause-piece : goal.returns-clause-piece
-returns-clause-piece c =
-    rw (c.in_ok-push.ensures.items, c.new-segments.ensures.items, c.in_ok-of.ensures, c.in_ok-share.ensures, c.ops.ensures.value)
-    (IsPiece-one c.args.chunk.now.start _ c.args.chunk.now.ops _ c.requires refl c.end.ensures)

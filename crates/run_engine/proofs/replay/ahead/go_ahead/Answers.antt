@@ -1,0 +1,12 @@
+use Rattle.run_engine.proofs.OnwardLemmas.{IsOnward-ahead}
+use Rattle.run_engine.proofs.replay.ahead.go_ahead.Goals as goal
+
+pub returns-clause-goes_on : goal.returns-clause-goes_on
+returns-clause-goes_on c = λ old marks.
+    let ahead = c.in_ok-front.ensures.goes_ahead in
+    let answered = c.in_ok-touch_ahead.ensures.answered in
+    record {
+      reached = ahead.reached;
+      onward = rw (ahead.gone, c.in_ok-front.ensures.there) (IsOnward-ahead _ marks _ _ _ _ _ _ _ _ _ answered c.in_ok-front.ensures.searched (rw c.in_ok-front.ensures.there at ahead.way marks));
+      stepped = λ r start chunks before all. c.in_ok-front.ensures.stepped old marks r start chunks before (λ e there. all e (answered.touched.fewer e there));
+    }

@@ -1,0 +1,225 @@
+use Rattle.run_engine.specs.Segments.{all_marks}
+use Rattle.std.proofs.Common.{◌≡◌, ℕ, ◌+◌, ◌-◌, ◌<◌, ◌≤◌, List, [], ◌∷◌, ◌++◌, length, take, drop, true, false, refl, ap, sym, ◌∙◌, arith}
+use Rattle.std.specs.Prelude.{is_some}
+use Rattle.ownership_model.specs.State.{nothing_held}
+use Rattle.agreement.specs.Agreement.{Agree}
+use Rattle.trace_types.specs.Operation.{Operation}
+use Rattle.ownership_model.specs.Step.{end_from}
+use Rattle.run_engine.specs.SegmentView.{SegmentView}
+use Rattle.run_engine.specs.Segments.{trace_of, marks_from, IsRunFrom}
+use Rattle.run_engine.specs.HeadAndTail.{ShareEnd}
+use Rattle.std.proofs.Math.Seq.{take-length}
+use Rattle.run_engine.proofs.SegmentLemmas.{length-trace_of-next, trace_of-append}
+use Rattle.run_engine.proofs.PieceLemmas.{mark-is, take-rest}
+use Rattle.run_engine.proofs.PlaceLemmas.{mark-there, place-within, trace_of-front}
+use Rattle.run_engine.proofs.ConvergeLemmas.{IsBeside-first, IsBeside-next, least-agreeing, bounded, ShareEnd-length, IsRunFrom-back, rest-shared, distinct-back, old-unused, new-unused, AgreesAt-here, AgreesAt-there, IsSpliced, IsSpliced-rest, IsSpliced-end}
+use Rattle.run_engine.proofs.replay.converge.converge.Goals.{then-at-seam+in-Some+in_ok-front+in_ok-found+in_default-found, then-at-seam+in_default, else-at-seam}
+use Rattle.run_engine.proofs.MarksLemmas.{all_marks-stop, all_marks-rest, IsReached-length}
+use Rattle.run_engine.proofs.LeftLemmas.{left-at-stop, left-at-end}
+use Rattle.run_engine.proofs.GoesOnLemmas.{GoesOn-none, GoesOn-next, GoesOn-steps}
+use Rattle.run_engine.specs.Bounds.{AgreesAt}
+use Rattle.run_engine.proofs.SteppedLemmas.{AreStepped-stop, AreStepped-end}
+use Rattle.run_engine.proofs.replay.converge.converge.Goals as goal
+
+-- the place of an old checkpoint in the edited trace
+moved-within : (old ops : List Operation) (a b at : ℕ) → ShareEnd old ops a b → at ≤ length old → a ≤ at → at - a + b ≤ length ops
+moved-within old ops a b at h le behind = omega (arith, ShareEnd-length old ops a b h, h.old_within, h.within)
+
+pub advance-requires : goal.advance-requires
+advance-requires c = record {
+  may = record {
+    reached = c.loop-i.invariant.beside.reached;
+    order = c.loop-i.invariant.place.order;
+    within = moved-within _ _ c.args.seam.old c.args.seam.new c.loop-i.at c.requires.shared (place-within c.args.revision.now.segments.now c.loop-i.i c.loop-i.at c.loop-i.invariant.place.place) c.if-at-seam.true;
+  };
+}
+
+pub overflow_add-leg : goal.overflow_add-leg
+overflow_add-leg c =
+    let le : c.loop-i.at - c.args.seam.old + c.args.seam.new ≤ length c.args.revision.now.ops.now.ops = moved-within _ _ c.args.seam.old c.args.seam.new c.loop-i.at c.requires.shared (place-within c.args.revision.now.segments.now c.loop-i.i c.loop-i.at c.loop-i.invariant.place.place) c.if-at-seam.true in
+    omega (arith, c.args.revision.now.holds.trace.few)
+
+pub overflow_add-at : goal.overflow_add-at
+overflow_add-at c =
+    let next = length-trace_of-next c.args.revision.now.segments.now c.loop-i.i c.index-old-i.result c.loop-i-test.true c.index-old-i.is in
+    let n = ap length c.ops.ensures in
+    let le : length (trace_of (take (c.loop-i.i + 1) c.args.revision.now.segments.now)) ≤ length (trace_of c.args.revision.now.segments.now) = place-within c.args.revision.now.segments.now (c.loop-i.i + 1) _ refl in
+    omega (arith, c.args.revision.now.holds.kept.trace.few, c.loop-i.invariant.place.place)
+
+pub returns-in_err-front-clause-bound : goal.returns-in_err-front-clause-bound
+returns-in_err-front-clause-bound c =
+    bounded _ _ _ _ _ _ _ _ _ _ _ _ _ c.loop-i.invariant.place c.requires.shared c.if-at-seam.true (omega (arith, c.loop-i.invariant.place.rise, c.advance.ensures.rise))
+
+pub returns-in_err-found-clause-bound : goal.returns-in_err-found-clause-bound
+returns-in_err-found-clause-bound c =
+    bounded _ _ _ _ _ _ _ _ _ _ _ _ _ c.loop-i.invariant.place c.requires.shared c.if-at-seam.true (omega (arith, c.loop-i.invariant.place.rise, c.advance.ensures.rise))
+
+pub returns-in_err-spliced-clause-bound : goal.returns-in_err-spliced-clause-bound
+returns-in_err-spliced-clause-bound c =
+    bounded _ _ _ _ _ _ _ _ _ _ _ _ _ c.loop-i.invariant.place c.requires.shared c.if-at-seam.true (omega (arith, c.loop-i.invariant.place.rise, c.advance.ensures.rise))
+
+pub returns-in_err-touch_at-clause-bound : goal.returns-in_err-touch_at-clause-bound
+returns-in_err-touch_at-clause-bound c =
+    bounded _ _ _ _ _ _ _ _ _ _ _ _ _ c.loop-i.invariant.place c.requires.shared c.if-at-seam.true (omega (arith, c.loop-i.invariant.place.rise, c.advance.ensures.rise))
+
+pub returns-in-Some-found-clause-bound : goal.returns-in-Some-found-clause-bound
+returns-in-Some-found-clause-bound c =
+    bounded _ _ _ _ _ _ _ _ _ _ _ _ _ c.loop-i.invariant.place c.requires.shared c.if-at-seam.true (omega (arith, c.loop-i.invariant.place.rise, c.advance.ensures.rise))
+
+pub rejoined-requires-clause-run : goal.rejoined-requires-clause-run
+rejoined-requires-clause-run c =
+    rw (take-rest c.loop-i.i c.args.revision.now.segments.now)
+    (IsRunFrom-back c.args.revision.now.segments.now c.args.revision.now.end.now c.in-Some.mark.now c.loop-i.i c.index-old-i.result c.args.revision.now.holds.kept.run c.loop-i-test.true c.index-old-i.is c.in-Some.ensures)
+
+pub rejoined-requires-clause-distinct : goal.rejoined-requires-clause-distinct
+rejoined-requires-clause-distinct c = rw (take-rest c.loop-i.i c.args.revision.now.segments.now) (distinct-back c.args.revision.now.segments.now c.loop-i.i c.args.revision.now.holds.kept.trace.distinct)
+
+pub rejoined-requires-clause-old_unused : goal.rejoined-requires-clause-old_unused
+rejoined-requires-clause-old_unused c =
+    rw (take-rest c.loop-i.i c.args.revision.now.segments.now)
+    (old-unused c.args.revision.now.segments.now c.args.revision.now.end.now c.in-Some.mark.now c.loop-i.i c.index-old-i.result c.args.revision.now.holds.kept.run c.args.revision.now.holds.kept.trace.distinct c.loop-i-test.true c.index-old-i.is c.in-Some.ensures)
+
+-- the edited trace ends with the operations of the rest of the old run
+back : (old : List SegmentView) (ops : List Operation) (a b i at x : ℕ) → ShareEnd (trace_of old) ops a b → length (trace_of (take i old)) ≡ at → a ≤ at → x ≡ at - a + b → trace_of (drop i old) ≡ drop x ops
+back old ops a b i at x shared place behind there = rest-shared old ops a b i at shared place behind ∙ ap (λ n. drop n ops) (sym there)
+
+pub rejoined-requires-clause-unused : goal.rejoined-requires-clause-unused
+rejoined-requires-clause-unused c =
+    rw (take-rest c.loop-i.i c.args.revision.now.segments.now)
+    (new-unused c.args.revision.now.ops.now.ops c.in_ok-front.front.len c.in_ok-front.front.segments.items (drop c.loop-i.i c.args.revision.now.segments.now) c.in_ok-front.front.end c.in_ok-front.ensures.beside.reached c.args.revision.now.holds.trace.distinct
+    (back c.args.revision.now.segments.now c.args.revision.now.ops.now.ops c.args.seam.old c.args.seam.new c.loop-i.i c.loop-i.at c.in_ok-front.front.len c.requires.shared c.loop-i.invariant.place.place c.if-at-seam.true c.in_ok-front.ensures.there))
+
+-- where the old run goes on it has the operations that are left
+rest-is : (c : goal.Joined-seen-9) → trace_of c.in-Some-found.rest.items ≡ trace_of (drop c.loop-i.i c.args.revision.now.segments.now)
+rest-is c =
+    let trace : trace_of c.in-Some-found.rest.items ≡ trace_of (take (length c.args.revision.now.segments.now - c.loop-i.i) (drop c.loop-i.i c.args.revision.now.segments.now)) = rw c.in-Some-found.is at c.in_ok-found.ensures.trace in
+    trace ∙ ap trace_of (take-rest c.loop-i.i c.args.revision.now.segments.now)
+
+spliced : (c : goal.Joined-seen-9) → IsSpliced c.args.revision.now.ops.now.ops (c.in_ok-front.front.segments.items ++ c.in-Some-found.rest.items) c.in-Some-found.end
+spliced c =
+    let run : IsRunFrom c.in_ok-front.front.end c.in-Some-found.rest.items c.in-Some-found.end = rw c.in-Some-found.is at c.in_ok-found.ensures.run in
+    IsSpliced-rest c.args.revision.now.ops.now.ops c.in_ok-front.front.len c.in_ok-front.front.segments.items c.in-Some-found.rest.items c.in_ok-front.front.end c.in-Some-found.end c.in_ok-front.ensures.beside.reached
+    (rest-is c ∙ back c.args.revision.now.segments.now c.args.revision.now.ops.now.ops c.args.seam.old c.args.seam.new c.loop-i.i c.loop-i.at c.in_ok-front.front.len c.requires.shared c.loop-i.invariant.place.place c.if-at-seam.true c.in_ok-front.ensures.there)
+    run
+
+-- the heaps agree where the replay stops
+agreed : (c : goal.Joined-seen-9) → AgreesAt (trace_of c.args.revision.now.segments.now) c.args.revision.now.ops.now.ops c.args.seam.old c.args.seam.new c.loop-i.at
+agreed c =
+    let m : c.in-Some.mark.now ≡ end_from nothing_held (trace_of (take c.loop-i.i c.args.revision.now.segments.now)) = mark-is c.args.revision.now.segments.now c.loop-i.i c.index-old-i.result c.in-Some.mark.now c.args.revision.now.holds.kept.run.replay c.loop-i-test.true c.index-old-i.is c.in-Some.ensures in
+    let there : c.in_ok-front.front.len ≡ c.loop-i.at - c.args.seam.old + c.args.seam.new = c.in_ok-front.ensures.there in
+    let agree : Agree c.in_ok-front.front.end c.in-Some.mark.now = c.in_ok-found.ensures.answer.0 (ap is_some c.in-Some-found.is) in
+    AgreesAt-here (trace_of c.args.revision.now.segments.now) c.args.revision.now.ops.now.ops c.args.seam.old c.args.seam.new c.loop-i.at c.in_ok-front.front.end c.in-Some.mark.now
+    (c.in_ok-front.ensures.beside.reached.state ∙ ap (λ x. end_from nothing_held (take x c.args.revision.now.ops.now.ops)) there) (m ∙ ap (end_from nothing_held) (trace_of-front c.args.revision.now.segments.now c.loop-i.i c.loop-i.at c.loop-i.invariant.place.place)) agree
+
+pub returns-in-Some-found-clause-run : goal.returns-in-Some-found-clause-run
+returns-in-Some-found-clause-run c = rw (c.in_ok-spliced.ensures.segments, c.in_ok-spliced.ensures.end) (spliced c).run
+
+pub returns-in-Some-found-clause-trace : goal.returns-in-Some-found-clause-trace
+returns-in-Some-found-clause-trace c = rw c.in_ok-spliced.ensures.segments (spliced c).trace
+
+pub returns-in-Some-found-clause-marks : goal.returns-in-Some-found-clause-marks
+returns-in-Some-found-clause-marks c =
+    let old : List SegmentView = c.args.revision.now.segments.now in
+    let front : List SegmentView = c.in_ok-front.front.segments.items in
+    let there : c.in_ok-front.front.len ≡ c.loop-i.at - c.args.seam.old + c.args.seam.new = c.in_ok-front.ensures.there in
+    let marks : (at : ℕ) → marks_from at c.in-Some-found.rest.items ≡ marks_from at (take (length c.args.revision.now.segments.now - c.loop-i.i) (drop c.loop-i.i c.args.revision.now.segments.now)) = rw c.in-Some-found.is at c.in_ok-found.ensures.marks in
+    let alike : all_marks (front ++ c.in-Some-found.rest.items) ≡ all_marks (front ++ drop c.loop-i.i old) =
+    all_marks-rest front c.in-Some-found.rest.items (drop c.loop-i.i old) (rest-is c) (λ at. marks at ∙ ap (marks_from at) (take-rest c.loop-i.i c.args.revision.now.segments.now)) in
+    let trace : trace_of (front ++ drop c.loop-i.i old) ≡ c.args.revision.now.ops.now.ops =
+    trace_of-append front (drop c.loop-i.i old) ∙ ap (λ t. trace_of front ++ t) (sym (rest-is c)) ∙ sym (trace_of-append front c.in-Some-found.rest.items) ∙ (spliced c).trace in
+    rw (c.in_ok-spliced.ensures.segments, c.in_ok-spliced.ensures.gone)
+    (left-at-stop c.args.revision.now.segments.now c.args.revision.now.ops.now.ops (marks_from 0 c.args.front.segments.items) (marks_from 0 c.in_ok-front.front.segments.items) _ c.args.seam.old c.args.seam.new c.loop-i.i c.loop-i.at c.args.front.len c.in_ok-front.front.len c.index-old-i.result c.in-Some.mark.now _ _ _ _ _ _
+    c.args.revision.now.holds.trace.distinct c.loop-i-test.true c.index-old-i.is (sym c.in-Some.ensures) c.loop-i.invariant.place.place c.if-at-seam.true (agreed c) (least-agreeing _ _ _ _ _ _ _ _ _ _ _ _ c.loop-i.invariant.place) there
+    (GoesOn-next _ _ _ _ _ _ _ _ _ _ _ _ c.loop-i.invariant.beside c.in_ok-front.ensures.beside).onward c.in_ok-touch_at.ensures.answered
+    (alike ∙ all_marks-stop c.args.revision.now.segments.now c.in_ok-front.front.segments.items c.args.revision.now.ops.now.ops c.args.seam.old c.args.seam.new c.loop-i.i c.loop-i.at c.index-old-i.result c.args.revision.now.holds.kept.run.full c.requires.shared c.loop-i-test.true c.index-old-i.is c.in-Some.mark.now (sym c.in-Some.ensures)
+    c.loop-i.invariant.place.place c.if-at-seam.true (IsReached-length _ _ _ _ c.in_ok-front.ensures.beside.reached ∙ there) trace))
+
+pub returns-in-Some-found-clause-stepped : goal.returns-in-Some-found-clause-stepped
+returns-in-Some-found-clause-stepped c =
+    AreStepped-stop (trace_of c.args.revision.now.segments.now) c.args.revision.now.ops.now.ops (all_marks c.args.revision.now.segments.now) c.args.shelf.now.chunks c.args.seam.old c.args.seam.new c.args.front.len c.in_ok-front.front.len c.loop-i.at c.args.meter.now _ c.in_ok-front.ensures.there
+    (mark-there c.args.revision.now.segments.now c.loop-i.i c.loop-i.at c.index-old-i.result c.in-Some.mark.now c.loop-i-test.true c.index-old-i.is (sym c.in-Some.ensures) c.loop-i.invariant.place.place)
+    c.if-at-seam.true (agreed c) (GoesOn-steps _ _ _ _ _ _ _ _ _ (GoesOn-next _ _ _ _ _ _ _ _ _ _ _ _ c.loop-i.invariant.beside c.in_ok-front.ensures.beside))
+
+place-end : (old : List SegmentView) (i at : ℕ) → length old ≤ i → i ≤ length old → length (trace_of (take i old)) ≡ at → at ≡ length (trace_of old)
+place-end old i at ge le e = let n : i ≡ length old = omega arith in sym e ∙ ap (λ j. length (trace_of (take j old))) n ∙ ap (λ ss. length (trace_of ss)) (take-length old)
+
+pub returns-clause-marks : goal.returns-clause-marks
+returns-clause-marks c =
+    let there : c.in_ok-front-2.front.len ≡ length c.args.revision.now.ops.now.ops = c.in_ok-front-2.ensures.there ∙ c.len.ensures in
+    let e = place-end c.args.revision.now.segments.now c.loop-i.i c.loop-i.at c.loop-i-test.false (c.loop-i.auto.i-end c.last_from-first.ensures.within) c.loop-i.invariant.place.place in
+    let trace : trace_of c.in_ok-front-2.front.segments.items ≡ c.args.revision.now.ops.now.ops = (IsSpliced-end c.args.revision.now.ops.now.ops c.in_ok-front-2.front.len c.in_ok-front-2.front.segments.items c.in_ok-front-2.front.end c.in_ok-front-2.ensures.beside.reached there).trace in
+    left-at-end c.args.revision.now.segments.now c.args.revision.now.ops.now.ops (marks_from 0 c.args.front.segments.items) (marks_from 0 c.in_ok-front-2.front.segments.items) _ c.args.seam.old c.args.seam.new c.args.front.len c.in_ok-front-2.front.len c.args.shelf.now c.advance-2.new.shelf _ _
+    c.args.revision.now.holds.trace.distinct c.requires.shared
+    (λ p mark behind agrees.
+    let least : c.loop-i.at ≤ p = least-agreeing _ _ _ _ _ _ _ _ _ _ _ _ c.loop-i.invariant.place p mark behind agrees in
+    omega arith)
+    there (GoesOn-next _ _ _ _ _ _ _ _ _ _ _ _ c.loop-i.invariant.beside c.in_ok-front-2.ensures.beside).onward
+    (ap (λ ops. marks_from 0 c.in_ok-front-2.front.segments.items ++ length ops ∷ []) trace)
+
+pub returns-clause-stepped : goal.returns-clause-stepped
+returns-clause-stepped c =
+    AreStepped-end (trace_of c.args.revision.now.segments.now) c.args.revision.now.ops.now.ops (all_marks c.args.revision.now.segments.now) c.args.shelf.now.chunks c.args.seam.old c.args.seam.new c.args.front.len c.in_ok-front-2.front.len c.args.meter.now _ (c.in_ok-front-2.ensures.there ∙ c.len.ensures)
+    (GoesOn-steps _ _ _ _ _ _ _ _ _ (GoesOn-next _ _ _ _ _ _ _ _ _ _ _ _ c.loop-i.invariant.beside c.in_ok-front-2.ensures.beside))
+
+pub loop-i-init : goal.loop-i-init
+loop-i-init c = record {
+  place = IsBeside-first c.args.revision.now.segments.now c.args.revision.now.ops.now.ops c.args.seam.old c.args.seam.new c.args.front.len c.args.meter.now c.last_from-first.result.0 c.last_from-first.result.1 c.args.front.segments.items c.args.front.end
+      c.args.revision.now.holds.kept.run.full c.last_from-first.ensures.within c.last_from-first.ensures.place c.last_from-first.ensures.before c.requires.may.reached c.requires.may.order;
+  beside = GoesOn-none (trace_of c.args.revision.now.segments.now) c.args.revision.now.ops.now.ops (all_marks c.args.revision.now.segments.now) c.args.front c.args.shelf.now c.args.meter.now c.requires.may.reached;
+  never_less = omega arith;
+}
+
+pub returns-in_err-front-2-clause-bound : goal.returns-in_err-front-2-clause-bound
+returns-in_err-front-2-clause-bound c =
+    let e = place-end c.args.revision.now.segments.now c.loop-i.i c.loop-i.at c.loop-i-test.false (c.loop-i.auto.i-end c.last_from-first.ensures.within) c.loop-i.invariant.place.place in
+    let shared = c.requires.shared in
+    let long = ShareEnd-length (trace_of c.args.revision.now.segments.now) c.args.revision.now.ops.now.ops c.args.seam.old c.args.seam.new shared in
+    bounded _ _ _ _ _ _ _ _ _ _ _ _ _ c.loop-i.invariant.place shared (omega (arith, shared.old_within)) (omega (arith, long, shared.old_within, shared.within, c.loop-i.invariant.place.rise, c.advance-2.ensures.rise))
+
+pub returns-clause-bound : goal.returns-clause-bound
+returns-clause-bound c =
+    let e = place-end c.args.revision.now.segments.now c.loop-i.i c.loop-i.at c.loop-i-test.false (c.loop-i.auto.i-end c.last_from-first.ensures.within) c.loop-i.invariant.place.place in
+    let shared = c.requires.shared in
+    let long = ShareEnd-length (trace_of c.args.revision.now.segments.now) c.args.revision.now.ops.now.ops c.args.seam.old c.args.seam.new shared in
+    bounded _ _ _ _ _ _ _ _ _ _ _ _ _ c.loop-i.invariant.place shared (omega (arith, shared.old_within)) (omega (arith, long, shared.old_within, shared.within, c.loop-i.invariant.place.rise, c.advance-2.ensures.rise))
+
+pub loop-i-preserved : goal.loop-i-preserved
+loop-i-preserved c =
+    let old = c.args.revision.now.segments.now in
+    elim c.if-at-seam.branch [
+      | then-at-seam+in-Some+in_ok-front+in_ok-found+in_default-found w ↦
+          let m : w.in-Some.mark.now ≡ end_from nothing_held (trace_of (take c.loop-i.i c.args.revision.now.segments.now)) = mark-is c.args.revision.now.segments.now c.loop-i.i c.index-old-i.result w.in-Some.mark.now c.args.revision.now.holds.kept.run.replay c.loop-i-test.true c.index-old-i.is w.in-Some.ensures in
+          let there : w.in_ok-front.front.len ≡ c.loop-i.at - c.args.seam.old + c.args.seam.new = w.in_ok-front.ensures.there in
+          let front = w.in_ok-front.ensures.beside.reached in
+          let rise = w.advance.ensures.rise in
+          rw (w.front-is, w.meter-is, w.shelf-is, c.ops.ensures)
+          (record {
+            place = IsBeside-next c.args.revision.now.segments.now c.args.revision.now.ops.now.ops c.args.seam.old c.args.seam.new c.args.front.len c.args.meter.now c.loop-i.i c.loop-i.at c.loop-i.front.len c.loop-i.front.segments.items c.loop-i.front.end c.loop-i.meter
+                w.in_ok-front.front.len w.in_ok-front.front.segments.items w.in_ok-front.front.end w.advance.new.meter c.index-old-i.result c.loop-i.invariant.place c.loop-i-test.true c.index-old-i.is front (omega arith) (omega (arith, c.loop-i.invariant.place.rise, rise))
+                (λ marked behind agrees.
+                let agree : Agree w.in_ok-front.front.end w.in-Some.mark.now = AgreesAt-there (trace_of c.args.revision.now.segments.now) c.args.revision.now.ops.now.ops c.args.seam.old c.args.seam.new c.loop-i.at w.in_ok-front.front.end w.in-Some.mark.now (front.state ∙ ap (λ x. end_from nothing_held (take x c.args.revision.now.ops.now.ops)) there) (m ∙ ap (end_from nothing_held) (trace_of-front c.args.revision.now.segments.now c.loop-i.i c.loop-i.at c.loop-i.invariant.place.place)) agrees in
+                let t : is_some w.in_ok-found.found ≡ true = w.in_ok-found.ensures.answer.1 agree in
+                let f : is_some w.in_ok-found.found ≡ false = ap is_some w.in_default-found.is in
+                cc);
+            beside = GoesOn-next _ _ _ _ _ _ _ _ _ _ _ _ c.loop-i.invariant.beside w.in_ok-front.ensures.beside;
+            never_less = omega (arith, c.loop-i.invariant.never_less, w.advance.ensures.never_less);
+          })
+      | then-at-seam+in_default w ↦
+          rw (w.front-is, w.meter-is, w.shelf-is, c.ops.ensures)
+          (record {
+            place = IsBeside-next c.args.revision.now.segments.now c.args.revision.now.ops.now.ops c.args.seam.old c.args.seam.new c.args.front.len c.args.meter.now c.loop-i.i c.loop-i.at c.loop-i.front.len c.loop-i.front.segments.items c.loop-i.front.end c.loop-i.meter
+                c.loop-i.front.len c.loop-i.front.segments.items c.loop-i.front.end c.loop-i.meter c.index-old-i.result c.loop-i.invariant.place c.loop-i-test.true c.index-old-i.is c.loop-i.invariant.place.front c.loop-i.invariant.place.order c.loop-i.invariant.place.rise
+                (λ marked behind agrees. let f : is_some c.index-old-i.result.mark ≡ false = ap is_some (sym w.in_default.ensures) in cc);
+            beside = c.loop-i.invariant.beside;
+            never_less = c.loop-i.invariant.never_less;
+          })
+      | else-at-seam w ↦
+          rw (w.front-is, w.meter-is, w.shelf-is, c.ops.ensures)
+          (record {
+            place = IsBeside-next c.args.revision.now.segments.now c.args.revision.now.ops.now.ops c.args.seam.old c.args.seam.new c.args.front.len c.args.meter.now c.loop-i.i c.loop-i.at c.loop-i.front.len c.loop-i.front.segments.items c.loop-i.front.end c.loop-i.meter
+                c.loop-i.front.len c.loop-i.front.segments.items c.loop-i.front.end c.loop-i.meter c.index-old-i.result c.loop-i.invariant.place c.loop-i-test.true c.index-old-i.is c.loop-i.invariant.place.front c.loop-i.invariant.place.order c.loop-i.invariant.place.rise
+                (λ marked behind agrees. let lt : c.loop-i.at < c.args.seam.old = w.if-at-seam.false in omega arith);
+            beside = c.loop-i.invariant.beside;
+            never_less = c.loop-i.invariant.never_less;
+          })
+    ]

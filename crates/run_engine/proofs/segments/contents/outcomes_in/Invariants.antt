@@ -1,0 +1,6 @@
+use Rattle.std.proofs.Common.{◌≡◌, take}
+use Rattle.run_engine.specs.Segments.{outcomes_in}
+use Rattle.run_engine.proofs.segments.contents.outcomes_in.Given as goal
+
+abbrev pub invariant-loop-segment : goal.invariant-loop-segment
+invariant-loop-segment l = l.all ≡ outcomes_in (take l.segment-index l.segments)

@@ -1,6 +1,0 @@
-use Rattle.std.proofs.Common.{◌≡◌, ◌+◌, take}
-use Rattle.run_engine.specs.Spans.{total}
-use Rattle.run_engine.proofs.spans.find.Given as goal
-
-abbrev pub invariant-loop-i : goal.invariant-loop-i
-invariant-loop-i l = total (take l.i l.spans) + l.rest ≡ l.place

@@ -1,0 +1,17 @@
+-- What a revision has beside each other: an old run, and the operations that replace its own (for private functions alone).
+use Rattle.std.specs.Prelude.{ℕ, List}
+use Rattle.trace_types.specs.Operation.{Operation}
+use Rattle.run_engine.specs.declared.replay.revision.Revision.{Revision}
+use Rattle.run_engine.specs.Segments.{trace_of, all_marks}
+
+-- the operations of the old run
+abbrev pub old_trace : Revision → List Operation
+old_trace r = trace_of r.segments.now
+
+-- the positions of its checkpoints
+abbrev pub old_marks : Revision → List ℕ
+old_marks r = all_marks r.segments.now
+
+-- the operations that replace its own
+abbrev pub new_trace : Revision → List Operation
+new_trace r = r.ops.now.ops

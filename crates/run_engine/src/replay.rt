@@ -1,0 +1,10 @@
+//! The replay of a trace, and that of an edited one beside an old run.
+pub mod ahead;
+pub mod converge;
+pub mod loading;
+pub mod piece;
+pub mod rejoin;
+pub mod restart;
+pub mod revision;
+pub mod stretch;
+pub mod touching;

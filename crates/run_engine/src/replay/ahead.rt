@@ -1,0 +1,107 @@
+//! A replay where no old stretch can serve: its cuts are known before it is stepped.
+ghost use Rattle.std.specs.Prelude.{◌≡◌, ℕ, List, [], ◌∷◌, ◌+◌, ◌<◌, ◌≤◌, IfOk, length, slice_range};
+ghost use Rattle.trace_types.specs.Operation.{Operation};
+ghost use Rattle.trace_types.specs.Trace.{IsTrace};
+ghost use Rattle.run_engine.specs.Memo.{IsSearched};
+ghost use Rattle.run_engine.specs.Onward.{cuts};
+ghost use Rattle.run_engine.specs.Steps.{AreTaken, HaveSteppedOn};
+ghost use Rattle.run_engine.specs.GoesOn.{MayGoOn, GoesOn, GoesAhead};
+
+use crate::editing::listing::Listing;
+use crate::replay::piece::{Piece, STRIDE, found, joined, replayed_on, stepped};
+use crate::replay::touching::{inner_name, touch_ahead};
+use crate::segments::names::is_among;
+use mark_shelf::MarkShelf;
+use op_step::Meter;
+use std::alloc::{AllocError, Global};
+use trace_types::ops::Op;
+
+/// Goes on with the replay to a position: the names of all checkpoints on the way are touched first. Where a name is answered by then,
+/// the operations behind it are stepped in place, unless the shelf has a chunk of them.
+pub fn go_ahead(
+    alloc: Global,
+    ops: &Listing,
+    front: Piece,
+    to: usize,
+    shelf: &mut MarkShelf,
+    meter: &mut Meter,
+) -> Result<Piece, AllocError>
+    requires may { MayGoOn ops.now.ops front to }
+    requires trace { IsTrace ops.now.ops }
+    ensures goes_on { (old : List Operation) (marks : List ℕ) → IfOk result (λ f.
+        GoesOn old ops.now.ops marks front f shelf.old shelf.new meter.old meter.new) }
+    ensures there { IfOk result (λ f. f.len ≡ to) }
+    ensures never_less { meter.old ≤ meter.new }
+    ensures rise { meter.new + front.len ≤ meter.old + to }
+{
+    let mut front = front;
+    touch_ahead(ops, front.len, to, shelf, &mut front.gone)?;
+    let front = step_ahead(alloc, ops, front, to, shelf, meter)?;
+    Ok(front)
+}
+
+// Steps the operations up to a position, where the names are touched.
+fn step_ahead(
+    alloc: Global,
+    ops: &Listing,
+    front: Piece,
+    to: usize,
+    shelf: &mut MarkShelf,
+    meter: &mut Meter,
+) -> Result<Piece, AllocError>
+    requires may { MayGoOn ops.now.ops front to }
+    requires trace { IsTrace ops.now.ops }
+    ensures goes_ahead { IfOk result (λ f. GoesAhead ops.now.ops front f (cuts front.len to)) }
+    ensures searched { IsSearched shelf.old shelf.new }
+    ensures stepped { (old : List Operation) (marks : List ℕ) → IfOk result (λ f.
+        HaveSteppedOn old ops.now.ops marks shelf.old.chunks front.len f.len meter.old meter.new) }
+    ensures there { IfOk result (λ f. f.len ≡ to) }
+    ensures never_less { meter.old ≤ meter.new }
+    ensures rise { meter.new + front.len ≤ meter.old + to }
+{
+    let mut front = front;
+    while front.len < to {
+        let len = (to - front.len).min(STRIDE);
+        let next = ops.copies(alloc, front.len, front.len + len)?;
+        front = next_cut(alloc, ops, front, next, shelf, meter)?;
+    }
+    Ok(front)
+}
+
+// Goes on with the replay as far as the next cut: by a chunk that the shelf has, or else the operations are stepped, in place where the
+// name of the checkpoint was answered.
+fn next_cut(
+    alloc: Global,
+    ops: &Listing,
+    front: Piece,
+    next: Vec<Op>,
+    shelf: &mut MarkShelf,
+    meter: &mut Meter,
+) -> Result<Piece, AllocError>
+    requires may { MayGoOn ops.now.ops front (front.len + length next.items) }
+    requires some { 0 < length next.items }
+    requires small { length next.items ≤ 64 }
+    requires next { next.items ≡ slice_range ops.now.ops front.len (front.len + length next.items) }
+    requires trace { IsTrace ops.now.ops }
+    ensures goes_ahead { IfOk result (λ f. GoesAhead ops.now.ops front f (front.len ∷ [])) }
+    ensures searched { IsSearched shelf.old shelf.new }
+    ensures taken { (old : List Operation) (marks : List ℕ) → IfOk result (λ _.
+        AreTaken old marks shelf.old.chunks front.end next.items (length next.items)
+        meter.old meter.new) }
+    ensures len { IfOk result (λ f. f.len ≡ front.len + length next.items) }
+    ensures never_less { meter.old ≤ meter.new }
+    ensures rise { meter.new ≤ meter.old + length next.items }
+{
+    let known = found(alloc, &front.end, &next, shelf)?;
+    if let Some(piece) = known {
+        let front = joined(front, piece)?;
+        return Ok(front);
+    }
+    if is_among(inner_name(ops, front.len), &front.gone) {
+        let front = replayed_on(alloc, front, next, meter)?;
+        return Ok(front);
+    }
+    let piece = stepped(alloc, &front.end, next, meter)?;
+    let front = joined(front, piece)?;
+    Ok(front)
+}

@@ -1,0 +1,224 @@
+//! A replay beside an old one, as far as the two come together.
+ghost use Rattle.std.specs.Prelude.{◌≡◌, ◌++◌, ◌+◌, ◌<◌, ◌≤◌, IfOk, length, slice_range};
+ghost use Rattle.std.specs.Ordering.{nat_cmp};
+ghost use Rattle.std.specs.BTreeSet.{contains};
+ghost use Rattle.run_engine.specs.Segments.{trace_of, marks_from, all_marks, IsRun, IsPiece};
+ghost use Rattle.run_engine.specs.OldRun.{old_trace, old_marks, new_trace};
+ghost use Rattle.run_engine.specs.HeadAndTail.{ShareEnd};
+ghost use Rattle.run_engine.specs.Bounds.{StepsAtMost};
+ghost use Rattle.run_engine.specs.NewMarks.{IsGap};
+ghost use Rattle.run_engine.specs.Onward.{AreMarksLeft};
+ghost use Rattle.run_engine.specs.Memo.{IsSearched};
+ghost use Rattle.run_engine.specs.Steps.{AreTaken, AreStepped};
+ghost use Rattle.run_engine.specs.GoesOn.{MayGoOn, GoesOnBeside};
+
+use crate::replay::ahead::go_ahead;
+use crate::replay::piece::{Piece, STRIDE, found, joined, stepped};
+use crate::replay::rejoin::rejoined;
+use crate::replay::revision::Revision;
+use crate::replay::stretch::{may_begin, old_stretch};
+use crate::replay::touching::touch_at;
+use crate::segments::segment::{Segment, append};
+use mark_shelf::MarkShelf;
+use object_heap::Heap;
+use op_step::Meter;
+use std::alloc::{AllocError, Global};
+
+/// Where the operations begin that both traces end with, in the old trace and in the edited one.
+#[derive(Clone, Copy)]
+pub struct Seam {
+    pub old: usize,
+    pub new: usize,
+}
+
+// How far a replay is to go on, and from where on no old stretch can serve.
+#[derive(Clone, Copy)]
+struct Leg {
+    to: usize,
+    open: usize,
+}
+
+// What a replay goes on with: a chunk that the shelf has of the operations up to the next cut, an old stretch, or else those
+// operations, which are stepped.
+fn next_piece(
+    alloc: Global,
+    revision: &Revision,
+    front: &Piece,
+    to: usize,
+    shelf: &mut MarkShelf,
+    meter: &mut Meter,
+) -> Result<Piece, AllocError>
+    requires may { MayGoOn (new_trace revision.now) front.now to }
+    requires some { front.now.len < to }
+    ensures piece { IfOk result (λ p.
+        IsPiece front.now.end (slice_range (new_trace revision.now) front.now.len to)
+        p.segments.items p.end p.len) }
+    ensures gap { IfOk result (λ p. IsGap (old_marks revision.now) p.len) }
+    ensures steps { IfOk result (λ p. meter.new ≤ meter.old + p.len) }
+    ensures taken { IfOk result (λ p.
+        AreTaken (old_trace revision.now) (old_marks revision.now) shelf.old.chunks front.now.end
+        (slice_range (new_trace revision.now) front.now.len to) p.len meter.old meter.new) }
+    ensures searched { IsSearched shelf.old shelf.new }
+    ensures never_less { meter.old ≤ meter.new }
+    ensures rise { meter.new + front.now.len ≤ meter.old + to }
+{
+    let len = (to - front.len).min(STRIDE);
+    let next = revision.ops.copies(alloc, front.len, front.len + len)?;
+    let known = found(alloc, &front.end, &next, shelf)?;
+    if let Some(piece) = known {
+        return Ok(piece);
+    }
+    let stretch = old_stretch(alloc, revision, &front.end, front.len, to)?;
+    if let Some(piece) = stretch {
+        return Ok(piece);
+    }
+    let piece = stepped(alloc, &front.end, next, meter)?;
+    Ok(piece)
+}
+
+// The next cut from a position on where an old stretch may begin: one where an old checkpoint stood. Where none does before the leg is
+// open no longer, the first cut from there on, or the end of the leg.
+fn next_start(revision: &Revision, at: usize, leg: Leg) -> usize
+    requires order { at ≤ leg.to }
+    requires within { leg.to ≤ length (new_trace revision.now) }
+    ensures no_less { at ≤ result }
+    ensures within { result ≤ leg.to }
+{
+    let open = leg.open.min(leg.to);
+    let mut cut = at;
+    while cut < open {
+        if may_begin(revision, cut) {
+            return cut;
+        }
+        cut += (leg.to - cut).min(STRIDE);
+    }
+    cut
+}
+
+// Goes on with the replay where old stretches may serve. Where one may begin, the name of the checkpoint is touched, and then a piece is
+// taken; the cuts up to there are known before they are reached.
+fn serve(
+    alloc: Global,
+    revision: &Revision,
+    front: Piece,
+    leg: Leg,
+    shelf: &mut MarkShelf,
+    meter: &mut Meter,
+) -> Result<Piece, AllocError>
+    requires may { MayGoOn (new_trace revision.now) front leg.to }
+    ensures beside { IfOk result (λ f.
+        GoesOnBeside revision.now front f shelf.old shelf.new meter.old meter.new) }
+    ensures order { IfOk result (λ f. f.len ≤ leg.to) }
+    ensures steps { IfOk result (λ f. meter.new + front.len ≤ meter.old + f.len) }
+    ensures never_less { meter.old ≤ meter.new }
+    ensures rise { meter.new + front.len ≤ meter.old + leg.to }
+{
+    let mut front = front;
+    while front.len < leg.open.min(leg.to) {
+        let next = next_start(revision, front.len, leg);
+        if front.len < next {
+            front = go_ahead(alloc, revision.ops, front, next, shelf, meter)?;
+        } else {
+            touch_at(revision.ops, front.len, shelf, &mut front.gone)?;
+            let piece = next_piece(alloc, revision, &front, leg.to, shelf, meter)?;
+            front = joined(front, piece)?;
+        }
+    }
+    Ok(front)
+}
+
+// Goes on with the replay to the end of the leg.
+fn advance(
+    alloc: Global,
+    revision: &Revision,
+    front: Piece,
+    leg: Leg,
+    shelf: &mut MarkShelf,
+    meter: &mut Meter,
+) -> Result<Piece, AllocError>
+    requires may { MayGoOn (new_trace revision.now) front leg.to }
+    ensures beside { IfOk result (λ f.
+        GoesOnBeside revision.now front f shelf.old shelf.new meter.old meter.new) }
+    ensures there { IfOk result (λ f. f.len ≡ leg.to) }
+    ensures never_less { meter.old ≤ meter.new }
+    ensures rise { meter.new + front.len ≤ meter.old + leg.to }
+{
+    let front = serve(alloc, revision, front, leg, shelf, meter)?;
+    let front = go_ahead(alloc, revision.ops, front, leg.to, shelf, meter)?;
+    Ok(front)
+}
+
+// The segments of the front, and then others.
+fn spliced(front: Piece, rest: Vec<Segment>, end: Heap, len: usize) -> Result<Piece, AllocError>
+    ensures segments { IfOk result (λ p. p.segments.items ≡ front.segments.items ++ rest.items) }
+    ensures end { IfOk result (λ p. p.end ≡ end) }
+    ensures gone { IfOk result (λ p. p.gone ≡ front.gone) }
+{
+    let mut segments = front.segments;
+    append(&mut segments, rest)?;
+    Ok(Piece {
+        segments,
+        end,
+        len,
+        fresh: front.fresh,
+        gone: front.gone,
+    })
+}
+
+/// Goes on with the replay to its end, or to the first old checkpoint at or behind the seam where the heaps agree.
+///
+/// From the seam on an old stretch could begin at an old checkpoint alone, and at each that is passed the heap is another: none serves.
+pub fn converge(
+    alloc: Global,
+    revision: &Revision,
+    front: Piece,
+    seam: Seam,
+    shelf: &mut MarkShelf,
+    meter: &mut Meter,
+) -> Result<Piece, AllocError>
+    requires may { MayGoOn (new_trace revision.now) front seam.new }
+    requires shared { ShareEnd (old_trace revision.now) (new_trace revision.now) seam.old seam.new }
+    ensures run { IfOk result (λ r. IsRun r.segments.items r.end) }
+    ensures trace { IfOk result (λ r. trace_of r.segments.items ≡ (new_trace revision.now)) }
+    ensures marks { IfOk result (λ r.
+        AreMarksLeft (old_trace revision.now) (new_trace revision.now)
+        (marks_from 0 front.segments.items) (old_marks revision.now) (all_marks r.segments.items)
+        front.len seam.old seam.new shelf.old shelf.new
+        (contains nat_cmp front.gone) (contains nat_cmp r.gone)) }
+    ensures bound { StepsAtMost (old_trace revision.now) (new_trace revision.now) seam.old seam.new
+        (old_marks revision.now) front.len meter.old meter.new }
+    ensures stepped { IfOk result (λ _.
+        AreStepped (old_trace revision.now) (new_trace revision.now) seam.old seam.new
+        (old_marks revision.now) shelf.old.chunks front.len meter.old meter.new) }
+    ensures never_less { meter.old ≤ meter.new }
+{
+    let old = revision.segments;
+    let mut front = front;
+    let (first, mut at) = revision.last_from(seam.old);
+    let mut seen = None;
+    for i in first..old.len() {
+        let segment = &old[i];
+        if at >= seam.old {
+            if let Some(mark) = segment.mark() {
+                let leg = Leg {
+                    to: at - seam.old + seam.new,
+                    open: seam.new,
+                };
+                front = advance(alloc, revision, front, leg, shelf, meter)?;
+                let found = rejoined(alloc, &front.end, mark, &old[i..], revision.end, &mut seen)?;
+                if let Some((rest, end)) = found {
+                    touch_at(revision.ops, front.len, shelf, &mut front.gone)?;
+                    let len = revision.ops.len();
+                    return Ok(spliced(front, rest, end, len)?);
+                }
+            }
+        }
+        at += segment.ops().len();
+    }
+    let leg = Leg {
+        to: revision.ops.len(),
+        open: seam.new,
+    };
+    front = advance(alloc, revision, front, leg, shelf, meter)?;
+    Ok(front)
+}

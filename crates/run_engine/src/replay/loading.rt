@@ -1,0 +1,139 @@
+//! The replay of a whole trace, and which of its checkpoints are given up.
+ghost use Rattle.std.specs.Prelude.{◌≡◌, ◌+◌, ◌*◌, ◌<◌, ◌≤◌, ◌%◌, ◌&&◌, ◌∷◌, [], Some, IfOk, OnOk, length, replicate, false, nat_eq, nat_lt};
+ghost use Rattle.trace_types.specs.Trace.{IsTrace};
+ghost use Rattle.op_step.specs.Meter.{raised};
+ghost use Rattle.run_engine.specs.Segments.{marks_from, IsReached};
+ghost use Rattle.run_engine.specs.Marks.{load_marks};
+ghost use Rattle.run_engine.specs.RunView.{load_view};
+ghost use Rattle.run_engine.specs.GivenUp.{given_up, name_at, names_at, IsTouched};
+ghost use Rattle.run_engine.specs.Loaded.{is_gone, kept_below, loaded_view};
+
+use crate::replay::piece::{Piece, STRIDE, joined, replayed_on, stepped};
+use mark_shelf::MarkShelf;
+use object_heap::Heap;
+use op_step::{Meter, copy_ops};
+use std::alloc::{AllocError, Global};
+use std::collections::BTreeSet;
+use trace_types::ops::Op;
+use trace_types::trace::Trace;
+
+/// Replays operations, with checkpoints at the multiples of 64, but for those that are given up.
+pub fn loaded(
+    alloc: Global,
+    ops: &[Op],
+    gone: &[bool],
+    meter: &mut Meter,
+) -> Result<Piece, AllocError>
+    requires trace { IsTrace ops.now }
+    ensures front { IfOk result (λ f. IsReached ops.now (length ops.now) f.segments.items f.end) }
+    ensures marks { IfOk result
+        (λ f. marks_from 0 f.segments.items ≡ kept_below gone.now (length ops.now)) }
+    ensures count { OnOk result (meter.new ≡ raised meter.old (length ops.now)) }
+    ensures never_less { meter.old ≤ meter.new }
+    ensures rise { meter.new ≤ meter.old + length ops.now }
+{
+    let mut front = Piece {
+        segments: Vec::new(alloc),
+        end: Heap::empty(),
+        len: 0,
+        fresh: Vec::new(alloc),
+        gone: BTreeSet::new(alloc),
+    };
+    while front.len < ops.len() {
+        let at = front.len;
+        let to = at + (ops.len() - at).min(STRIDE);
+        let copies = copy_ops(alloc, &ops[at..to])?;
+        if is_gone(gone, at) {
+            front = replayed_on(alloc, front, copies, meter)?;
+        } else {
+            let piece = stepped(alloc, &front.end, copies, meter)?;
+            front = joined(front, piece)?;
+            // of a whole trace no chunk is remembered, and one that stayed would keep its heaps
+            front.fresh.clear();
+        }
+    }
+    Ok(front)
+}
+
+// Whether the checkpoint at a position is given up.
+fn is_gone(gone: &[bool], at: usize) -> bool
+    ensures { result ≡ is_gone gone.now at }
+{
+    let i = at / STRIDE;
+    at > 0 && i < gone.len() && gone[i]
+}
+
+/// Touches the names of the inner checkpoints of a loaded run, in rising position, and tells which checkpoints are given up: those
+/// whose names are answered.
+pub fn given_up_in(
+    alloc: Global,
+    trace: &Trace,
+    shelf: &mut MarkShelf,
+) -> Result<Vec<bool>, AllocError>
+    ensures { IfOk result (λ v.
+        IsTouched (load_view trace.now) (loaded_view trace.now v.items) shelf.old shelf.new
+        (names_at trace.now (load_marks (length trace.now)))) }
+{
+    let ops = trace.as_slice();
+    let mut gone = none_gone(alloc, ops.len() / STRIDE + 1)?;
+    let mut at = STRIDE;
+    while at < ops.len() {
+        let name = name_before(ops, at);
+        touch_one(&mut gone, trace, shelf, name);
+        at += STRIDE;
+    }
+    Ok(gone)
+}
+
+// So many checkpoints, none of which is given up.
+fn none_gone(alloc: Global, len: usize) -> Result<Vec<bool>, AllocError>
+    ensures { IfOk result (λ v. v.items ≡ replicate len false) }
+{
+    let gone = vec![in alloc; false; len]?;
+    Ok(gone)
+}
+
+// The name of the checkpoint at a position.
+fn name_before(ops: &[Op], at: usize) -> u32
+    requires behind { 0 < at }
+    requires within { at ≤ length ops.now }
+    ensures { name_at ops.now at ≡ Some result }
+{
+    let op = &ops[at - 1];
+    op.id()
+}
+
+// Touches one name, and gives up the checkpoint whose name is answered.
+fn touch_one(gone: &mut Vec<bool>, trace: &Trace, shelf: &mut MarkShelf, name: u32)
+    requires room { length trace.now < 64 * length gone.old.items }
+    ensures room { length gone.new.items ≡ length gone.old.items }
+    ensures touched { IsTouched (loaded_view trace.now gone.old.items)
+        (loaded_view trace.now gone.new.items) shelf.old shelf.new (name ∷ []) }
+{
+    if let Some(answer) = shelf.touch(name) {
+        give_up(gone, trace, answer);
+    }
+}
+
+// Gives up the inner checkpoint right behind the operation with this number, if there is one.
+fn give_up(gone: &mut Vec<bool>, trace: &Trace, name: u32)
+    requires room { length trace.now < 64 * length gone.old.items }
+    ensures room { length gone.new.items ≡ length gone.old.items }
+    ensures marks { (loaded_view trace.now gone.new.items).marks
+        ≡ given_up trace.now (loaded_view trace.now gone.old.items).marks name }
+{
+    let len = trace.len();
+    if let Some(place) = trace.place(name) {
+        let at = place + 1;
+        if is_inner(at, len) {
+            gone[at / STRIDE] = true;
+        }
+    }
+}
+
+// Whether an inner checkpoint may stand at a position.
+fn is_inner(at: usize, len: usize) -> bool
+    ensures { result ≡ (nat_lt at len && nat_eq (at % 64) 0) }
+{
+    at < len && at % STRIDE == 0
+}

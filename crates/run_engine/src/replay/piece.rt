@@ -1,0 +1,151 @@
+//! Pieces of a replay.
+ghost use Rattle.std.specs.Prelude.{◌≡◌, ◌++◌, ◌+◌, ◌^◌, ◌<◌, ◌≤◌, ◌∷◌, [], IfOk, OnOk, IfSome, IsTrue, length};
+ghost use Rattle.trace_types.specs.Trace.{has_distinct_numbers};
+ghost use Rattle.ownership_model.specs.Step.{end_from, AreUnused};
+ghost use Rattle.op_step.specs.Meter.{raised};
+ghost use Rattle.run_engine.specs.Segments.{bare_segment, IsPiece};
+ghost use Rattle.run_engine.specs.Memo.{IsAmong, IsSearched};
+
+use crate::segments::segment::{Segment, append};
+use mark_shelf::{MarkShelf, finds_what_was_there};
+use object_heap::Heap;
+use op_step::{ChunkRun, Meter, replay_from, run_of};
+use std::alloc::{AllocError, Global};
+use std::collections::BTreeSet;
+use trace_types::ops::Op;
+
+/// How many operations stand between neighbouring checkpoints where they are stepped.
+pub const STRIDE: usize = 64;
+
+/// A piece of a replay: its segments, the heap after them, how many operations they have, the chunks that were stepped for it, and the
+/// names of checkpoints that the shelf has answered so far.
+#[derive(Drop)]
+pub struct Piece {
+    pub segments: Vec<Segment>,
+    pub end: Heap,
+    pub len: usize,
+    pub fresh: Vec<ChunkRun>,
+    pub gone: BTreeSet<u32>,
+}
+
+impl Piece {
+    /// A chunk as a piece, none of which is stepped.
+    pub fn of(alloc: Global, chunk: &ChunkRun) -> Result<Self, AllocError>
+        requires { 0 < length chunk.now.ops }
+        ensures piece { IfOk result
+            (λ p. IsPiece chunk.now.start chunk.now.ops p.segments.items p.end p.len) }
+        ensures whole { IfOk result (λ p. p.len ≡ length chunk.now.ops) }
+    {
+        let mut segments = Vec::new(alloc);
+        segments.push(Segment::of(alloc, chunk)?)?;
+        Ok(Piece {
+            segments,
+            end: chunk.end().share()?,
+            len: chunk.ops().len(),
+            fresh: Vec::new(alloc),
+            gone: BTreeSet::new(alloc),
+        })
+    }
+}
+
+/// A piece and the next behind it, with the answered names of the first.
+pub fn joined(front: Piece, next: Piece) -> Result<Piece, AllocError>
+    requires { front.len + next.len < 2 ^ 64 }
+    ensures segments { IfOk result
+        (λ p. p.segments.items ≡ front.segments.items ++ next.segments.items) }
+    ensures end { IfOk result (λ p. p.end ≡ next.end) }
+    ensures len { IfOk result (λ p. p.len ≡ front.len + next.len) }
+    ensures gone { IfOk result (λ p. p.gone ≡ front.gone) }
+{
+    let mut segments = front.segments;
+    append(&mut segments, next.segments)?;
+    let mut fresh = front.fresh;
+    for chunk in next.fresh {
+        fresh.push(chunk)?;
+    }
+    Ok(Piece {
+        segments,
+        end: next.end,
+        len: front.len + next.len,
+        fresh,
+        gone: front.gone,
+    })
+}
+
+/// Steps all the operations: a piece, which has the chunk.
+pub fn stepped(
+    alloc: Global,
+    heap: &Heap,
+    ops: Vec<Op>,
+    meter: &mut Meter,
+) -> Result<Piece, AllocError>
+    requires some { 0 < length ops.items }
+    requires distinct { IsTrue (has_distinct_numbers ops.items) }
+    requires unused { AreUnused heap.now ops.items }
+    ensures piece { IfOk result (λ p. IsPiece heap.now ops.items p.segments.items p.end p.len) }
+    ensures whole { IfOk result (λ p. p.len ≡ length ops.items) }
+    ensures count { IfOk result (λ p. meter.new ≡ raised meter.old p.len) }
+    ensures never_less { meter.old ≤ meter.new }
+    ensures rise { meter.new ≤ meter.old + length ops.items }
+{
+    let chunk = run_of(alloc, heap, ops, meter)?;
+    let mut piece = Piece::of(alloc, &chunk)?;
+    piece.fresh.push(chunk)?;
+    Ok(piece)
+}
+
+/// A chunk that the shelf has, which begins with this heap and has these operations, as a piece.
+pub fn found(
+    alloc: Global,
+    heap: &Heap,
+    ops: &[Op],
+    shelf: &mut MarkShelf,
+) -> Result<Option<Piece>, AllocError>
+    requires { 0 < length ops.now }
+    ensures piece { IfOk result
+        (λ o. IfSome o (λ p. IsPiece heap.now ops.now p.segments.items p.end p.len)) }
+    ensures whole { IfOk result (λ o. IfSome o (λ p. p.len ≡ length ops.now)) }
+    ensures there { IfOk result (λ o. IfSome o (λ _. IsAmong shelf.old.chunks heap.now ops.now)) }
+    ensures searched { IsSearched shelf.old shelf.new }
+{
+    finds_what_was_there();
+    let Some(chunk) = shelf.find(heap, ops) else {
+        return Ok(None);
+    };
+    let piece = Piece::of(alloc, &chunk)?;
+    Ok(Some(piece))
+}
+
+/// Goes on behind a front by operations, all of which are stepped on the front's own heap: they have no checkpoint where they begin, and
+/// no chunk.
+pub fn replayed_on(
+    alloc: Global,
+    front: Piece,
+    ops: Vec<Op>,
+    meter: &mut Meter,
+) -> Result<Piece, AllocError>
+    requires fits { front.len + length ops.items < 2 ^ 64 }
+    requires distinct { IsTrue (has_distinct_numbers ops.items) }
+    requires unused { AreUnused front.end ops.items }
+    ensures segments { IfOk result
+        (λ p. p.segments.items ≡ front.segments.items ++ bare_segment front.end ops.items ∷ []) }
+    ensures end { IfOk result (λ p. p.end ≡ end_from front.end ops.items) }
+    ensures len { IfOk result (λ p. p.len ≡ front.len + length ops.items) }
+    ensures gone { IfOk result (λ p. p.gone ≡ front.gone) }
+    ensures count { OnOk result (meter.new ≡ raised meter.old (length ops.items)) }
+    ensures never_less { meter.old ≤ meter.new }
+    ensures rise { meter.new ≤ meter.old + length ops.items }
+{
+    let len = front.len + ops.len();
+    front.end.kept();
+    let (outcomes, end) = replay_from(alloc, front.end, &ops, meter)?;
+    let mut segments = front.segments;
+    segments.push(Segment::bare(alloc, ops, outcomes)?)?;
+    Ok(Piece {
+        segments,
+        end,
+        len,
+        fresh: front.fresh,
+        gone: front.gone,
+    })
+}

@@ -1,0 +1,119 @@
+//! Where the replay of an edited trace begins again.
+ghost use Rattle.std.specs.Prelude.{◌≡◌, ◌≤◌, [], IfOk, length, take};
+ghost use Rattle.std.specs.Ordering.{nat_cmp};
+ghost use Rattle.std.specs.BTreeSet.{contains};
+ghost use Rattle.trace_types.specs.Trace.{IsTrace};
+ghost use Rattle.run_engine.specs.Segments.{trace_of, all_marks, IsRun, IsRestart, IsKept};
+ghost use Rattle.run_engine.specs.Bounds.{StepsAtMostFrom};
+ghost use Rattle.run_engine.specs.Onward.{AreNames, AreMarksDue};
+ghost use Rattle.run_engine.specs.Steps.{AreSteppedFrom};
+
+use crate::editing::head_and_tail::{head, tail};
+use crate::editing::listing::Listing;
+use crate::replay::converge::{Seam, converge};
+use crate::replay::piece::Piece;
+use crate::replay::revision::Revision;
+use crate::segments::segment::{Segment, share_segments};
+use mark_shelf::MarkShelf;
+use object_heap::Heap;
+use op_step::Meter;
+use std::alloc::{AllocError, Global};
+use std::collections::BTreeSet;
+
+// Where a replay begins again: a segment's index, its position, and the heap there.
+#[derive(Drop)]
+struct Restart {
+    index: usize,
+    at: usize,
+    heap: Heap,
+}
+
+// The greatest kept checkpoint at or before the head. The end of the old run is one.
+fn greatest_mark(alloc: Global, revision: &Revision, head: usize) -> Result<Restart, AllocError>
+    ensures { IfOk result (λ r. IsRestart revision.now.segments.now head r.index r.at r.heap) }
+{
+    let old = revision.segments;
+    let len = revision.ops.base_len();
+    if len <= head {
+        return Ok(Restart {
+            index: old.len(),
+            at: len,
+            heap: revision.end.share()?,
+        });
+    }
+    let (last, _) = revision.last_from(head);
+    let mut i = last + 1;
+    while i > 0 {
+        i -= 1;
+        let segment = &old[i];
+        if let Some(mark) = segment.mark() {
+            return Ok(Restart {
+                index: i,
+                at: revision.starts[i],
+                heap: mark.heap(alloc)?,
+            });
+        }
+    }
+    // the first segment has a checkpoint, so that none comes here
+    Ok(Restart {
+        index: 0,
+        at: 0,
+        heap: Heap::empty(),
+    })
+}
+
+// The front of the replay of an edited trace.
+fn front(alloc: Global, revision: &Revision, head: usize) -> Result<Piece, AllocError>
+    ensures kept { IfOk result
+        (λ f. IsRestart revision.now.segments.now head (length f.segments.items) f.len f.end) }
+    ensures segments { IfOk result
+        (λ f. f.segments.items ≡ take (length f.segments.items) revision.now.segments.now) }
+    ensures gone { IfOk result (λ f. AreNames (contains nat_cmp f.gone) []) }
+{
+    let restart = greatest_mark(alloc, revision, head)?;
+    let kept = share_segments(alloc, &revision.segments[..restart.index])?;
+    Ok(Piece {
+        segments: kept,
+        end: restart.heap,
+        len: restart.at,
+        fresh: Vec::new(alloc),
+        gone: BTreeSet::new(alloc),
+    })
+}
+
+/// The replay of an edited trace beside that of the old one, the base.
+pub fn resumed(
+    alloc: Global,
+    segments: &[Segment],
+    end: &Heap,
+    ops: &Listing,
+    shelf: &mut MarkShelf,
+    meter: &mut Meter,
+) -> Result<Piece, AllocError>
+    requires kept { IsKept segments.now end.now }
+    requires base { ops.now.base ≡ trace_of segments.now }
+    requires trace { IsTrace ops.now.ops }
+    ensures run { IfOk result (λ r. IsRun r.segments.items r.end) }
+    ensures trace { IfOk result (λ r. trace_of r.segments.items ≡ ops.now.ops) }
+    ensures marks { IfOk result (λ r.
+        AreMarksDue (record { trace = ops.now.base; marks = all_marks segments.now })
+        (record { trace = ops.now.ops; marks = all_marks r.segments.items })
+        shelf.old shelf.new (contains nat_cmp r.gone)) }
+    ensures bound { StepsAtMostFrom ops.now.base ops.now.ops (all_marks segments.now)
+        meter.old meter.new }
+    ensures stepped { IfOk result (λ _.
+        AreSteppedFrom ops.now.base ops.now.ops (all_marks segments.now) shelf.old.chunks
+        meter.old meter.new) }
+    ensures never_less { meter.old ≤ meter.new }
+{
+    let first = head(ops);
+    let last = tail(ops, first);
+    let revision = Revision::of(alloc, segments, end, ops)?;
+    let front = front(alloc, &revision, first)?;
+    let seam = Seam {
+        old: ops.base_len() - last,
+        new: ops.len() - last,
+    };
+    let replay = converge(alloc, &revision, front, seam, shelf, meter)?;
+    Ok(replay)
+}

@@ -1,0 +1,122 @@
+//! Stretches of an old run that serve again.
+ghost use Rattle.std.specs.Prelude.{◌≡◌, ℕ, [], ◌+◌, ◌-◌, ◌<◌, ◌≤◌, IfOk, IfSome, length, take, drop, slice_range};
+ghost use Rattle.ownership_model.specs.State.{nothing_held};
+ghost use Rattle.ownership_model.specs.Step.{end_from};
+ghost use Rattle.run_engine.specs.Segments.{trace_of, marks_from, BeginsMarked, IsRun, IsPiece};
+ghost use Rattle.run_engine.specs.OldRun.{old_trace, old_marks, new_trace};
+ghost use Rattle.run_engine.specs.NewMarks.{AreNeighbours};
+ghost use Rattle.run_engine.specs.Steps.{IsOldStretch};
+
+use crate::replay::piece::Piece;
+use crate::replay::revision::Revision;
+use crate::segments::contents::len_in;
+use crate::segments::segment::{Segment, share_segments};
+use object_heap::Heap;
+use std::alloc::{AllocError, Global};
+use std::collections::BTreeSet;
+
+/// The old stretch between neighbouring checkpoints that the operations from `at` on come from, if it begins with this heap,
+/// they are all of it, and it doesn't go past `to`.
+pub fn old_stretch(
+    alloc: Global,
+    revision: &Revision,
+    heap: &Heap,
+    at: usize,
+    to: usize,
+) -> Result<Option<Piece>, AllocError>
+    requires some { at < to }
+    requires within { to ≤ length (new_trace revision.now) }
+    ensures gap { IfOk result (λ o. IfSome o (λ p. AreNeighbours (old_marks revision.now) p.len)) }
+    ensures stretch { IfOk result (λ o. IfSome o (λ p.
+        IsOldStretch (old_trace revision.now) (old_marks revision.now) heap.now
+        (slice_range (new_trace revision.now) at to) p.len)) }
+    ensures piece { IfOk result (λ o. IfSome o (λ p.
+        IsPiece heap.now (slice_range (new_trace revision.now) at to)
+        p.segments.items p.end p.len)) }
+{
+    let Some(alike) = revision.ops.alike(at) else {
+        return Ok(None);
+    };
+    let before = at - alike.at;
+    let Some(i) = revision.segment_at(alike.from + before) else {
+        return Ok(None);
+    };
+    let old = revision.segments;
+    let Some(mark) = old[i].mark() else {
+        return Ok(None);
+    };
+    let bare = unmarked(&old[i + 1..]);
+    let j = i + 1 + bare;
+    let stretch = &old[i..j];
+    let len = len_in(stretch);
+    if len > alike.len - before {
+        return Ok(None);
+    }
+    if len > to - at {
+        return Ok(None);
+    }
+    let kept = mark.heap(alloc)?;
+    if kept.sum() != heap.sum() || !kept.same(heap) {
+        return Ok(None);
+    }
+    let Some(after) = heap_at(alloc, old, revision.end, j)? else {
+        return Ok(None);
+    };
+    let segments = share_segments(alloc, stretch)?;
+    Ok(Some(Piece {
+        segments,
+        end: after,
+        len,
+        fresh: Vec::new(alloc),
+        gone: BTreeSet::new(alloc),
+    }))
+}
+
+/// Whether an old checkpoint stands in front of the operation at a place, where that comes from the old run.
+pub fn may_begin(revision: &Revision, at: usize) -> bool
+    requires within { at < length (new_trace revision.now) }
+{
+    let Some(alike) = revision.ops.alike(at) else {
+        return false;
+    };
+    let before = at - alike.at;
+    match revision.segment_at(alike.from + before) {
+        None => false,
+        Some(i) => revision.segments[i].is_marked(),
+    }
+}
+
+// How many segments in front have no checkpoint.
+fn unmarked(segments: &[Segment]) -> usize
+    ensures within { result ≤ length segments.now }
+    ensures none { (at : ℕ) → marks_from at (take result segments.now) ≡ [] }
+{
+    for (i, segment) in segments.iter().enumerate() {
+        if segment.is_marked() {
+            return i;
+        }
+    }
+    segments.len()
+}
+
+// The heap where the segment at j begins, or the end, if it is kept.
+fn heap_at(
+    alloc: Global,
+    segments: &[Segment],
+    end: &Heap,
+    j: usize,
+) -> Result<Option<Heap>, AllocError>
+    requires within { j ≤ length segments.now }
+    requires run { IsRun segments.now end.now }
+    ensures heap { IfOk result
+        (λ o. IfSome o (λ h. h ≡ end_from nothing_held (trace_of (take j segments.now)))) }
+    ensures kept { IfOk result (λ o. IfSome o (λ h. BeginsMarked (drop j segments.now))) }
+{
+    if j == segments.len() {
+        return Ok(Some(end.share()?));
+    }
+    match segments[j].mark() {
+        None => Ok(None),
+        Some(mark) => Ok(Some(mark.heap(alloc)?)),
+    }
+}

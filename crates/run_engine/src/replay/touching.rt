@@ -1,0 +1,73 @@
+//! The names of a replay's checkpoints are touched on a shelf, and the shelf remembers its chunks.
+ghost use Rattle.std.specs.Prelude.{◌≡◌, ◌+◌, ◌≤◌, ◌∷◌, [], OnOk, option_to_list};
+ghost use Rattle.std.specs.Ordering.{nat_cmp};
+ghost use Rattle.std.specs.BTreeSet.{contains};
+ghost use Rattle.run_engine.specs.Memo.{HasSameMarks};
+ghost use Rattle.run_engine.specs.GivenUp.{names_at};
+ghost use Rattle.run_engine.specs.Onward.{cuts, AreAnswered};
+
+use crate::editing::listing::Listing;
+use crate::replay::piece::STRIDE;
+use crate::segments::names::add_name;
+use mark_shelf::MarkShelf;
+use op_step::ChunkRun;
+use std::alloc::AllocError;
+use std::collections::BTreeSet;
+
+/// Touches the names of the inner checkpoints at the cuts from one position on below another, in order, and adds those that are answered.
+pub fn touch_ahead(
+    ops: &Listing,
+    from: usize,
+    to: usize,
+    shelf: &mut MarkShelf,
+    gone: &mut BTreeSet<u32>,
+) -> Result<(), AllocError>
+    requires order { from ≤ to }
+    ensures answered { OnOk result
+        (AreAnswered shelf.old shelf.new (names_at ops.now.ops (cuts from to))
+        (contains nat_cmp gone.old) (contains nat_cmp gone.new)) }
+{
+    let mut at = from;
+    while at < to {
+        touch_at(ops, at, shelf, gone)?;
+        at += (to - at).min(STRIDE);
+    }
+    Ok(())
+}
+
+/// Touches the name of the checkpoint at a position, if it is an inner one, and adds the name that is answered.
+pub fn touch_at(
+    ops: &Listing,
+    at: usize,
+    shelf: &mut MarkShelf,
+    gone: &mut BTreeSet<u32>,
+) -> Result<(), AllocError>
+    ensures answered { OnOk result
+        (AreAnswered shelf.old shelf.new (names_at ops.now.ops (at ∷ []))
+        (contains nat_cmp gone.old) (contains nat_cmp gone.new)) }
+{
+    if let Some(name) = inner_name(ops, at) {
+        add_name(gone, shelf.touch(name))?;
+    }
+    Ok(())
+}
+
+/// The name of the inner checkpoint at a position: none stands at the beginning or at the end.
+pub fn inner_name(ops: &Listing, at: usize) -> Option<u32>
+    ensures { option_to_list result ≡ names_at ops.now.ops (at ∷ []) }
+{
+    if at == 0 || at >= ops.len() {
+        return None;
+    }
+    let op = ops.at(at - 1);
+    Some(op.id())
+}
+
+/// Has the shelf remember chunks.
+pub fn remember_all(shelf: &mut MarkShelf, chunks: Vec<ChunkRun>)
+    ensures { HasSameMarks shelf.old shelf.new }
+{
+    for chunk in chunks {
+        shelf.remember(chunk);
+    }
+}

@@ -1,0 +1,18 @@
+//! Finds the part that has a place, by halves.
+ghost use Rattle.std.specs.Prelude.{◌≡◌, [], List, IfSome, IfNone};
+ghost use Rattle.trace_types.specs.Operation.{Operation};
+ghost use Rattle.run_engine.specs.Parts.{starts_from, IsPartAt};
+
+/// The index of the last part that begins at or before a place, where the parts begin at `starts`.
+pub fn part_at(starts: &[usize], place: usize) -> Option<usize>
+    ensures part { IfSome result (λ i. (parts : List (List Operation)) →
+        starts.now ≡ starts_from 0 parts → IsPartAt parts place i) }
+    ensures none { IfNone result ((parts : List (List Operation)) →
+        starts.now ≡ starts_from 0 parts → parts ≡ []) }
+{
+    let begun = starts.partition_point(|start| *start <= place);
+    if begun == 0 {
+        return None;
+    }
+    Some(begun - 1)
+}
