@@ -1,17 +1,16 @@
--- What each command reads and writes.
-use Rattle.std.specs.Prelude.{ℕ, List, Option}
+-- What each command writes for an input.
+use Rattle.std.specs.Prelude.{ℕ, List}
 use Rattle.command_words.specs.declared.Command.{Command}
 use Rattle.command_words.specs.declared.Command.TheVariants.{Replay, Script, Whatif, Race}
-use Rattle.command_serve.specs.declared.exits.Exit.{Exit}
-use Rattle.command_serve.specs.Serve.{Serves}
-use Rattle.command_serve.specs.Replay.{replay_due}
-use Rattle.command_serve.specs.Script.{script_due}
-use Rattle.command_serve.specs.Whatif.{whatif_due}
-use Rattle.command_race.specs.Race.{ServesRace}
+use Rattle.command_serve.specs.declared.due.Due.{Due}
+use Rattle.command_serve.specs.Replay.{IsReplayDue}
+use Rattle.command_serve.specs.Script.{IsScriptDue}
+use Rattle.command_serve.specs.Whatif.{IsWhatifDue}
+use Rattle.command_race.specs.Race.{IsRaceDue}
 
--- what the command reads of what a source has, and writes behind what a sink holds, with this exit
-abbrev pub IsServed : Command → Option (List ℕ) → Option (List ℕ) → Option (List ℕ) → Option (List ℕ) → Exit → Type 0
-IsServed Replay left left' held held' exit = Serves replay_due left left' held held' exit
-IsServed Script left left' held held' exit = Serves script_due left left' held held' exit
-IsServed Whatif left left' held held' exit = Serves whatif_due left left' held held' exit
-IsServed (Race workers) left left' held held' exit = ServesRace left left' held held' exit
+-- this is due by the command for an input that is not too long
+abbrev pub IsDueBy : Command → List ℕ → Due → Type 0
+IsDueBy Replay = IsReplayDue
+IsDueBy Script = IsScriptDue
+IsDueBy Whatif = IsWhatifDue
+IsDueBy (Race workers) = IsRaceDue

@@ -1,7 +1,7 @@
 //! The commands, each by its name.
-ghost use Rattle.std.specs.Prelude.{◌≡◌, ◌≢◌, ◌⊎◌, true};
 ghost use Rattle.command_words.specs.Named.{HasWorkers};
-ghost use Rattle.arc_scope.specs.Commands.{IsServed};
+ghost use Rattle.command_serve.specs.Serve.{Serves};
+ghost use Rattle.arc_scope.specs.Commands.{IsDueBy};
 
 use command_race::serve_race;
 use command_serve::{Exit, serve_replay, serve_script, serve_whatif};
@@ -20,9 +20,8 @@ pub fn serve_command<R: Threads + Wait + Sync, S: Source, K: Sink>(
     sink: &mut K,
 ) -> Exit
     requires { HasWorkers command }
-    ensures served { IsServed command (S.left source.old) (S.left source.new) (K.held sink.old) (K.held sink.new) result }
-    ensures device { result ≡ Exit.Device → ((S.failed source.new ≡ true) ⊎ (K.failed sink.new ≡ true)) }
-    ensures other { result ≢ Exit.Device → (S.failed source.new ≡ S.failed source.old) × (K.failed sink.new ≡ K.failed sink.old) }
+    ensures { Serves (IsDueBy command)
+        S.Source source.old source.new K.Sink sink.old sink.new result }
 {
     match command {
         Command::Replay => serve_replay(alloc, source, sink),

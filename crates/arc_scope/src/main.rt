@@ -1,11 +1,12 @@
 //! The debugger: runs the command that the words of the command line name, over standard input and output.
 #![tactic(auto)]
 
-ghost use Rattle.std.specs.Prelude.{◌≡◌, ◌≢◌, ◌⊎◌, true, map, string_bytes, IfOk, IfErr, OnErr};
+ghost use Rattle.std.specs.Prelude.{◌≡◌, map, string_bytes, IfOk, IfErr, OnErr};
 ghost use Rattle.clap.specs.Words.{subcommand_of};
 ghost use Rattle.command_words.specs.Named.{Names, IsRefused, scope_app};
 ghost use Rattle.command_words.specs.declared.Command.{Command};
-ghost use Rattle.arc_scope.specs.Commands.{IsServed};
+ghost use Rattle.command_serve.specs.Serve.{Serves};
+ghost use Rattle.arc_scope.specs.Commands.{IsDueBy};
 
 mod commands;
 
@@ -67,10 +68,9 @@ fn serve<R: Threads + Wait + Sync, S: Source, K: Sink>(
     source: &mut S,
     sink: &mut K,
 ) -> Result<Exit, WordsFault>
-    ensures served { IfOk result (λ exit. (command : Command) × Names (subcommand_of scope_app (map string_bytes words.now)) command
-        × IsServed command (S.left source.old) (S.left source.new) (K.held sink.old) (K.held sink.new) exit) }
-    ensures device { IfOk result (λ exit. exit ≡ Exit.Device → ((S.failed source.new ≡ true) ⊎ (K.failed sink.new ≡ true))) }
-    ensures other { IfOk result (λ exit. exit ≢ Exit.Device → (S.failed source.new ≡ S.failed source.old) × (K.failed sink.new ≡ K.failed sink.old)) }
+    ensures served { IfOk result (λ exit. (command : Command)
+        × Names (subcommand_of scope_app (map string_bytes words.now)) command
+        × Serves (IsDueBy command) S.Source source.old source.new K.Sink sink.old sink.new exit) }
     ensures refused { IfErr result (IsRefused (map string_bytes words.now)) }
     ensures unread { OnErr result (source.new ≡ source.old) }
     ensures unwritten { OnErr result (sink.new ≡ sink.old) }

@@ -1,8 +1,6 @@
 -- What `race` writes for an input (profile of this project).
-use Rattle.std.specs.Prelude.{◌≡◌, ◌==◌, ◌⊎◌, ℕ, List, [], ◌∷◌, ◌++◌, length, Bool, true, false, codes, decimal, flat_map, Option, Result, Ok, Err}
-use Rattle.std.specs.Io.KnownBytes.{Appends}
+use Rattle.std.specs.Prelude.{◌≡◌, ◌==◌, ℕ, List, [], ◌∷◌, ◌++◌, length, Bool, true, false, codes, decimal, flat_map, Result, Ok, Err}
 use Rattle.trace_types.specs.Operation.{Operation}
-use Rattle.trace_types.specs.Devices.{IsInput, AppendsFront}
 use Rattle.trace_reader.specs.declared.fault.LineFault.{LineFault}
 use Rattle.trace_reader.specs.declared.request.RequestLine.{RequestLine}
 use Rattle.trace_reader.specs.declared.script.Script.{Script}
@@ -12,12 +10,10 @@ use Rattle.edit_desk.specs.declared.entries.Request.{Request}
 use Rattle.edit_desk.specs.ReplyText.{reply_text}
 use Rattle.live_sessions.specs.Fronts.{IsFront, trace_after}
 use Rattle.live_sessions.specs.Races.{asked_by, AreAsked}
-use Rattle.command_serve.specs.declared.exits.Exit.{Exit}
-use Rattle.command_serve.specs.declared.exits.Exit.TheVariants.{Fine, Trace, Usage, Device, Memory}
 use Rattle.command_serve.specs.Replay.{report_of_replay}
 use Rattle.command_serve.specs.Script.{request_of}
 use Rattle.command_serve.specs.declared.due.Due.{Due}
-use Rattle.command_serve.specs.Serve.{fault_due, too_long, is_too_long, IsDone}
+use Rattle.command_serve.specs.Serve.{fault_due}
 
 -- the request of a line before these, where the line counts
 abbrev pub ask_if : Bool → RequestLine → List Request → List Request
@@ -39,9 +35,10 @@ abbrev pub others_of : ℕ → List RequestLine → List RequestLine
 others_of s [] = []
 others_of s (line ∷ lines) = keep_unless (line.session == s) line (others_of s lines)
 
--- each reply of the history is the one that was due, and each session's entries answer its lines in order: all of them, or the
--- first ones where the history is full
-pub record IsRaced (trace : List Operation) (lines : List RequestLine) (h : List Entry) : Type 0 where
+-- each reply of the history is the one that was due, and each session's entries answer its lines in
+-- order: all of them, or the first ones where the history is full
+pub record IsRaced (trace : List Operation) (lines : List RequestLine) (h : List Entry)
+    : Type 0 where
   pub legal : IsFront trace h
   pub asked : (s : ℕ) → AreAsked (requests_of s lines) (asked_by s h) (length h)
 
@@ -58,30 +55,11 @@ abbrev pub race_text : List Operation → List Entry → List ℕ
 race_text trace h = history_text h ++ report_of_replay (trace_after trace h)
 
 -- the text of a race over what was read, or the line of the first fault
-abbrev pub MayTell : Result Script LineFault → Due → Type 0
-MayTell (Ok script) due = (h : List Entry) × IsRaced script.trace script.requests h × (due ≡ record { text = race_text script.trace h; is_fault = false })
-MayTell (Err fault) due = due ≡ fault_due fault
+abbrev pub IsRaceAnswer : Result Script LineFault → Due → Type 0
+IsRaceAnswer (Ok script) due = (h : List Entry) × IsRaced script.trace script.requests h
+    × (due ≡ record { text = race_text script.trace h; is_fault = false })
+IsRaceAnswer (Err fault) due = due ≡ fault_due fault
 
--- what may be due for an input that is not too long
-unfoldable pub MayAnswer : List ℕ → Due → Type 0
-MayAnswer input due = MayTell (read_script false input) due
-
--- what may be due for an input
-abbrev pub MayBeDue : List ℕ → Due → Type 0
-MayBeDue input due = (is_too_long input ≡ true → due ≡ too_long) × (is_too_long input ≡ false → MayAnswer input due)
-
--- all of a text that may be due was written, and nothing else
-abbrev pub IsRaceDone : Option (List ℕ) → Option (List ℕ) → Option (List ℕ) → Option (List ℕ) → Exit → Type 0
-IsRaceDone left left' held held' exit = (input : List ℕ) × IsInput left input × (due : Due) × MayBeDue input due × IsDone left left' held held' input due exit
-
--- a front of a text that may be due was written
-abbrev pub IsCutOff : Option (List ℕ) → Option (List ℕ) → Option (List ℕ) → Type 0
-IsCutOff left held held' = (input : List ℕ) × IsInput left input × (due : Due) × MayBeDue input due × AppendsFront held held' due.text
-
--- an exit Fine or Trace says that all was done, Memory that nothing was written, Device that nothing was or a front
-abbrev pub ServesRace : Option (List ℕ) → Option (List ℕ) → Option (List ℕ) → Option (List ℕ) → Exit → Type 0
-ServesRace left left' held held' Fine = IsRaceDone left left' held held' Fine
-ServesRace left left' held held' Trace = IsRaceDone left left' held held' Trace
-ServesRace left left' held held' Usage = ⊥
-ServesRace left left' held held' Device = Appends held held' [] ⊎ IsCutOff left held held'
-ServesRace left left' held held' Memory = Appends held held' []
+-- this may be due for an input that is not too long: each race has its own history
+unfoldable pub IsRaceDue : List ℕ → Due → Type 0
+IsRaceDue input due = IsRaceAnswer (read_script false input) due

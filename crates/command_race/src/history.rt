@@ -17,7 +17,8 @@ fn push_entry(text: &mut String, entry: &Entry) -> Result<(), AllocError>
 
 // Adds a line for each entry.
 fn push_history(text: &mut String, desk: &Desk) -> Result<(), AllocError>
-    ensures { OnOk result (string_bytes text.new ≡ string_bytes text.old ++ history_text desk.now.standing.history) }
+    ensures { OnOk result (string_bytes text.new
+        ≡ string_bytes text.old ++ history_text desk.now.standing.history) }
 {
     for place in 0..desk.len() {
         let Some(entry) = desk.entry(place) else {
@@ -30,7 +31,8 @@ fn push_history(text: &mut String, desk: &Desk) -> Result<(), AllocError>
 
 /// A line for each entry of a desk's history, and the report of the version that stands.
 pub fn text_on(alloc: Global, desk: &Desk) -> Result<Vec<u8>, AllocError>
-    ensures { IfOk result (λ text. text.items ≡ race_text desk.now.standing.opening desk.now.standing.history) }
+    ensures { IfOk result (λ text. text.items
+        ≡ race_text desk.now.standing.opening desk.now.standing.history) }
 {
     let mut text = String::new(alloc);
     push_history(&mut text, desk)?;

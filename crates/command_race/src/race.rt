@@ -1,8 +1,9 @@
 //! The command `race`: a trace and requests in, each stored entry's reply and the last version's report out.
-ghost use Rattle.std.specs.Prelude.{◌≡◌, ◌≢◌, ◌⊎◌, ◌≤◌, List, [], true, IfOk, IfSome};
+ghost use Rattle.std.specs.Prelude.{◌≡◌, ◌≤◌, List, [], IfOk, IfSome};
 ghost use Rattle.edit_desk.specs.declared.entries.Entry.{Entry};
 ghost use Rattle.live_sessions.specs.Events.{opening_of};
-ghost use Rattle.command_race.specs.Race.{IsRaced, MayAnswer, ServesRace, race_text};
+ghost use Rattle.command_serve.specs.Serve.{Serves};
+ghost use Rattle.command_race.specs.Race.{IsRaced, IsRaceDue, race_text};
 
 use crate::history::text_on;
 use crate::split::by_session;
@@ -23,6 +24,7 @@ use trace_types::limits::MAX_WORKERS;
 /// Which replies there are depends on the order in which the threads came to the lock. The number of workers has no effect yet.
 /// The exit `Memory` comes also where a session found no place, was not answered, or where the sessions' numbers of entries
 /// don't add up.
+#[tactic(auto, using(command_serve::proofs::Served::unread, command_serve::proofs::Served::unmade))]
 pub fn serve_race<R: Threads + Wait + Sync, S: Source, K: Sink>(
     rt: &R,
     alloc: Global,
@@ -31,9 +33,7 @@ pub fn serve_race<R: Threads + Wait + Sync, S: Source, K: Sink>(
     workers: u32,
 ) -> Exit
     requires { (1 ≤ workers) × (workers ≤ MAX_WORKERS) }
-    ensures served { ServesRace (S.left source.old) (S.left source.new) (K.held sink.old) (K.held sink.new) result }
-    ensures device { result ≡ Exit.Device → ((S.failed source.new ≡ true) ⊎ (K.failed sink.new ≡ true)) }
-    ensures other { result ≢ Exit.Device → (S.failed source.new ≡ S.failed source.old) × (K.failed sink.new ≡ K.failed sink.old) }
+    ensures { Serves IsRaceDue S.Source source.old source.new K.Sink sink.old sink.new result }
 {
     match read_all(alloc, source) {
         Ok(input) => write_due(sink, race_due(rt, alloc, input.as_slice(), workers)),
@@ -51,7 +51,7 @@ fn race_due<R: Threads + Wait + Sync>(
     workers: u32,
 ) -> Result<Due, AllocError>
     requires { (1 ≤ workers) × (workers ≤ MAX_WORKERS) }
-    ensures { IfOk result (MayAnswer input.now) }
+    ensures { IfOk result (IsRaceDue input.now) }
 {
     match read_script(alloc, input, false) {
         Ok(script) => match raced(rt, alloc, script, workers) {
@@ -70,7 +70,8 @@ fn raced<R: Threads + Wait + Sync>(
     workers: u32,
 ) -> Option<Vec<u8>>
     requires { (1 ≤ workers) × (workers ≤ MAX_WORKERS) }
-    ensures { IfSome result (λ text. (h : List Entry) × IsRaced script.trace script.requests h × (text.items ≡ race_text script.trace h)) }
+    ensures { IfSome result (λ text. (h : List Entry) × IsRaced script.trace script.requests h
+        × (text.items ≡ race_text script.trace h)) }
 {
     let Script { trace, requests } = script;
     let started = Started::new(alloc, trace).ok()?;
@@ -86,9 +87,11 @@ fn race_on<J: Naming + Send + Sync, R: Threads + Wait + Sync>(
 ) -> Option<Vec<u8>>
     requires book { started.begun.seen.book ≡ J.book }
     requires opening { opening_of started.begun.seen.log ≡ J.opening }
-    requires fresh { (started.desk.standing.opening ≡ J.opening) × (started.desk.standing.history ≡ []) }
+    requires fresh { (started.desk.standing.opening ≡ J.opening)
+        × (started.desk.standing.history ≡ []) }
     requires workers { (1 ≤ workers) × (workers ≤ MAX_WORKERS) }
-    ensures { IfSome result (λ text. (h : List Entry) × IsRaced J.opening lines.items h × (text.items ≡ race_text J.opening h)) }
+    ensures { IfSome result (λ text. (h : List Entry) × IsRaced J.opening lines.items h
+        × (text.items ≡ race_text J.opening h)) }
 {
     let requests = by_session(alloc, lines)?;
     let live = open::<J, &R>(rt, alloc, started, workers).ok()?;

@@ -12,7 +12,8 @@ use std::alloc::{AllocError, Global};
 /// The text of the report of what a session reads now: it is the report of the replay, from nothing, of the trace after the
 /// session's front, whatever sessions submitted at the same time.
 pub fn report_of_front<J: Naming>(alloc: Global, pass: &mut Pass<J>) -> Result<Vec<u8>, AllocError>
-    ensures report { IfOk result (λ text. text.items ≡ report_of_replay (trace_after J.opening pass.new.front)) }
+    ensures report { IfOk result (λ text. text.items
+        ≡ report_of_replay (trace_after J.opening pass.new.front)) }
     ensures reads { Reads J.opening pass.old pass.new }
 {
     pass.look();
@@ -22,7 +23,8 @@ pub fn report_of_front<J: Naming>(alloc: Global, pass: &mut Pass<J>) -> Result<V
 /// The text of the report of what a desk shows: it is the report of the replay, from nothing, of the trace after the desk's
 /// history.
 pub fn report_of_desk(alloc: Global, desk: &Desk) -> Result<Vec<u8>, AllocError>
-    ensures report { IfOk result (λ text. text.items ≡ report_of_replay (trace_after desk.now.standing.opening desk.now.standing.history)) }
+    ensures report { IfOk result (λ text. text.items
+        ≡ report_of_replay (trace_after desk.now.standing.opening desk.now.standing.history)) }
     ensures legal { IsFront desk.now.standing.opening desk.now.standing.history }
 {
     stands_after(desk);

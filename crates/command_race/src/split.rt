@@ -37,7 +37,8 @@ fn take_session(
 /// The requests of each session that has a place, in order, where there are none of another session and there is memory.
 pub fn by_session(alloc: Global, lines: Vec<RequestLine>) -> Option<Vec<Sequence<Request>>>
     ensures places { IfSome result (λ v. vec_len v ≡ PLACES) }
-    ensures each { IfSome result (λ v. (s : ℕ) → slice_index_or v.items s [] ≡ requests_of s lines.items) }
+    ensures each { IfSome result
+        (λ v. (s : ℕ) → slice_index_or v.items s [] ≡ requests_of s lines.items) }
 {
     let mut sessions = Vec::new(alloc);
     let mut rest = lines;

@@ -1,12 +1,14 @@
 -- What was read and written makes a served input.
-use Rattle.std.proofs.Common.{◌≡◌, ℕ, ◌+◌, ◌<◌, ◌≤◌, List, [], Result, Ok, Err, IfOk, IsErr, ◌++◌, length, Bool, true, false, Option, Some, None, refl, ap, ◌∙◌, sym, subst, arith, append-nil, length-append, lt-ltb, le-ltb, ◌⊎◌, inl, inr}
+use Rattle.std.proofs.Common.{◌≡◌, ◌≢◌, ℕ, ◌+◌, ◌<◌, ◌≤◌, List, [], Result, Ok, Err, IfOk, IsErr, ◌++◌, length, Bool, true, false, Option, Some, None, refl, ap, ◌∙◌, sym, arith, append-nil, length-append, lt-ltb, le-ltb, inl, inr}
 use Rattle.std.specs.Bool.{if◌then◌else◌}
 use Rattle.std.specs.Io.KnownBytes.{Appends, Consumes, IsAtEnd}
 use Rattle.std.proofs.KnownBytes.{Appends-nil}
-use Rattle.trace_types.specs.Devices.{IsInput, AppendsFront}
+use Rattle.trace_types.specs.Devices.{IsInput}
+use Rattle.trace_types.specs.declared.devices.Source as Source
+use Rattle.trace_types.specs.declared.devices.Sink as Sink
 use Rattle.trace_types.specs.declared.limits.TheConstants.{MAX_INPUT}
 use Rattle.command_serve.specs.declared.due.Due.{Due}
-use Rattle.command_serve.specs.Serve.{is_too_long, too_long, exit_of, due_of, IsWritten, IsRead, IsServedBy}
+use Rattle.command_serve.specs.Serve.{is_too_long, too_long, IsDueOrTooLong, IsWritten, IsRead, Serves}
 use Rattle.command_serve.specs.declared.exits.Exit.{Exit}
 use Rattle.command_serve.specs.declared.exits.Exit.TheVariants.{Fine, Trace, Usage, Device, Memory}
 
@@ -15,12 +17,9 @@ abbrev pub told : Option (List ℕ) → List ℕ
 told None = []
 told (Some xs) = xs
 
-pub IsInput-told : (left : Option (List ℕ)) → IsInput left (told left)
+IsInput-told : (left : Option (List ℕ)) → IsInput left (told left)
 IsInput-told None = tt
 IsInput-told (Some xs) = refl
-
-pub front_none : (held : Option (List ℕ)) (text : List ℕ) → AppendsFront held held text
-front_none held text = (0, Appends-nil held)
 
 pub IsInput-whole : (left left' : Option (List ℕ)) (bytes : List ℕ) → Consumes left left' bytes → IsAtEnd left' → IsInput left bytes
 IsInput-whole None left' bytes h e = tt
@@ -32,52 +31,70 @@ IsInput-long None left' bytes h l = (bytes, tt, l)
 IsInput-long (Some xs) None bytes h l = absurd h
 IsInput-long (Some xs) (Some ys) bytes h l = (xs, refl, omega (arith, simp length-append at (ap length h)))
 
-pub due-long : (answer : List ℕ → Due) (input : List ℕ) → MAX_INPUT < length input → due_of answer input ≡ too_long
-unfolding due_of
-due-long answer input l = let e : is_too_long input ≡ true = lt-ltb _ _ l in rw e
-
-pub due-short : (answer : List ℕ → Due) (input : List ℕ) → length input ≤ MAX_INPUT → due_of answer input ≡ answer input
-unfolding due_of
-due-short answer input l = let e : is_too_long input ≡ false = le-ltb _ _ l in rw e
-
 pub read-short : (left left' : Option (List ℕ)) (input : List ℕ) → length input ≤ MAX_INPUT → IsAtEnd left' → IsRead left left' input
 read-short left left' input l ended = (λ _. ended, λ long. let e : is_too_long input ≡ false = le-ltb _ _ l in absurd cc)
 
 pub read-long : (left left' : Option (List ℕ)) (input bytes : List ℕ) → MAX_INPUT < length input → Consumes left left' bytes → length bytes ≡ MAX_INPUT + 1 → IsRead left left' input
 read-long left left' input bytes l h n = ((λ short. absurd (omega (arith, l))), (λ _. (bytes, h, n)))
 
-at : (b : Bool) (held held' : Option (List ℕ)) (due : Due) → due.is_fault ≡ b → Appends held held' due.text → IsWritten due held held' (if b then Trace else Fine)
-at true held held' due e text = (ap (λ b. if b then Trace else Fine) (sym e), text)
-at false held held' due e text = (ap (λ b. if b then Trace else Fine) (sym e), text)
+-- what is due for an input that is not too long
+pub due-short : (IsDue : List ℕ → Due → Type 0) (input : List ℕ) (due : Due) → length input ≤ MAX_INPUT → IsDue input due → IsDueOrTooLong IsDue input due
+due-short IsDue input due l is = (λ long. let e : is_too_long input ≡ false = le-ltb _ _ l in absurd cc, λ short. is)
 
--- the whole text was written
-pub all_written : (held held' : Option (List ℕ)) (due : Due) (exit : Exit) → exit ≡ exit_of due → Appends held held' due.text → IsWritten due held held' exit
-all_written held held' due exit e text = subst (IsWritten due held held') (sym e) (at due.is_fault held held' due refl text)
+-- what is due for one that is
+pub due-long : (IsDue : List ℕ → Due → Type 0) (input : List ℕ) → MAX_INPUT < length input → IsDueOrTooLong IsDue input too_long
+due-long IsDue input l = (λ long. refl, λ short. let e : is_too_long input ≡ true = lt-ltb _ _ l in absurd cc)
 
--- an input that was read is served by its answer
-served : (left left' held held' : Option (List ℕ)) (input : List ℕ) (due : Due) (exit : Exit) → IsRead left left' input → IsWritten due held held' exit
-    → IsServedBy left left' held held' input due exit
-served left left' held held' input due Fine read answer = (answer.0, read, answer.1)
-served left left' held held' input due Trace read answer = (answer.0, read, answer.1)
-served left left' held held' input due Usage read answer = answer
-served left left' held held' input due Device read answer = answer
-served left left' held held' input due Memory read answer = absurd answer
+-- the exit of what was written is that of a text or that of a failed device
+exit-usage : (b : Bool) → (if b then Trace else Fine) ≢ Usage
+exit-usage true e = cc
+exit-usage false e = cc
 
-not_device : (b : Bool) → (if b then Trace else Fine) ≡ Device → ⊥
-not_device true e = cc
-not_device false e = cc
+written-usage : (due : Due) (held held' : Option (List ℕ)) (exit : Exit) → IsWritten due held held' exit → exit ≢ Usage
+written-usage due held held' exit (inl done) e = exit-usage due.is_fault (sym done.0 ∙ e)
+written-usage due held held' exit (inr cut) e = cc (cut.0, e)
 
-pub never_device : (due : Due) → exit_of due ≡ Device → ⊥
-never_device due e = not_device due.is_fault e
+module _ {S K : Type 0} (IsDue : List ℕ → Due → Type 0) (source : Source.Ghosts S) (s s' : S) (sink : Sink.Ghosts K) (k : K) where
+  -- an input that was read is served by its answer, also where there was no memory to make it
+  pub served : {E : Type 0} (k' : K) (input : List ℕ) (made : Result Due E) (exit : Exit) → IsInput (source.left s) input → IsRead (source.left s) (source.left s') input
+      → source.failed s' ≡ source.failed s → IfOk made (IsDueOrTooLong IsDue input) → IfOk made (λ due. IsWritten due (sink.held k) (sink.held k') exit)
+      → (IsErr made → (exit ≡ Memory) × Appends (sink.held k) (sink.held k') []) → (exit ≡ Device → sink.failed k' ≡ true) → (exit ≢ Device → sink.failed k' ≡ sink.failed k)
+      → Serves IsDue source s s' sink k k' exit
+  served k' input (Ok due) exit is read flag may written none device other = record {
+    input = input;
+    whole = is;
+    ends = inl (read, (due, may, written));
+    device = λ e. inr (device e);
+    flags = λ n. (flag, other n);
+    usage = written-usage due _ _ exit written;
+  }
+  served k' input (Err e) exit is read flag may written none device other = record {
+    input = input;
+    whole = is;
+    ends = inr (inl (none refl).0, (none refl).1);
+    device = λ e. inr (device e);
+    flags = λ n. (flag, other n);
+    usage = λ e. cc ((none refl).0, e);
+  }
 
--- so is one whose answer was made, or could not be made
-pub served_due : {E : Type 0} (left left' held held' : Option (List ℕ)) (input : List ℕ) (made : Result Due E) (due : Due) (exit : Exit) → IsRead left left' input → IfOk made (λ d. d ≡ due)
-    → IfOk made (λ d. IsWritten d held held' exit) → (IsErr made → (exit ≡ Memory) × Appends held held' []) → IsServedBy left left' held held' input due exit
-served_due left left' held held' input (Ok d) due exit read is done none = served left left' held held' input due exit read (subst (λ d. IsWritten d held held' exit) is done)
-served_due left left' held held' input (Err e) due exit read is done none = subst (IsServedBy left left' held held' input due) (sym (none refl).0) (none refl).1
+  -- nothing was written where a read failed
+  pub unread : source.failed s' ≡ true → Serves IsDue source s s' sink k k Device
+  unread flag = record {
+    input = told (source.left s);
+    whole = IsInput-told (source.left s);
+    ends = inr (inr refl, Appends-nil (sink.held k));
+    device = λ _. inl (flag, Appends-nil (sink.held k));
+    flags = λ n. absurd (n refl);
+    usage = λ e. cc e;
+  }
 
--- nothing was written
-pub served_none : (answer : List ℕ → Due) (left left' held : Option (List ℕ)) (exit : Exit) → (exit ≡ Memory) ⊎ (exit ≡ Device)
-    → (input : List ℕ) × IsInput left input × IsServedBy left left' held held input (due_of answer input) exit
-served_none answer left left' held exit (inl e) = (told left, IsInput-told left, subst (IsServedBy left left' held held (told left) (due_of answer (told left))) (sym e) (Appends-nil held))
-served_none answer left left' held exit (inr e) = (told left, IsInput-told left, subst (IsServedBy left left' held held (told left) (due_of answer (told left))) (sym e) (front_none held _))
+  -- nothing was written for want of memory
+  pub unmade : source.failed s' ≡ source.failed s → Serves IsDue source s s' sink k k Memory
+  unmade flag = record {
+    input = told (source.left s);
+    whole = IsInput-told (source.left s);
+    ends = inr (inl refl, Appends-nil (sink.held k));
+    device = λ e. cc e;
+    flags = λ _. (flag, refl);
+    usage = λ e. cc e;
+  }

@@ -1,5 +1,5 @@
 -- What `script` writes for an input.
-use Rattle.std.specs.Prelude.{ℕ, List, [], ◌∷◌, ◌++◌, flat_map, false, Result, Ok, Err}
+use Rattle.std.specs.Prelude.{◌≡◌, ℕ, List, [], ◌∷◌, ◌++◌, flat_map, false, Result, Ok, Err}
 use Rattle.trace_reader.specs.declared.fault.LineFault.{LineFault}
 use Rattle.trace_reader.specs.declared.request.RequestLine.{RequestLine}
 use Rattle.trace_reader.specs.declared.script.Script.{Script}
@@ -19,7 +19,8 @@ request_of line = record { base = line.base; batch = line.batch }
 -- the replies to requests, one after another
 abbrev pub replies_from : Standing → List RequestLine → List Reply
 replies_from s [] = []
-replies_from s (line ∷ lines) = reply_to s (request_of line) ∷ replies_from (after s line.session (request_of line)) lines
+replies_from s (line ∷ lines) =
+    reply_to s (request_of line) ∷ replies_from (after s line.session (request_of line)) lines
 
 -- what the desk has then
 abbrev pub standing_from : Standing → List RequestLine → Standing
@@ -32,13 +33,15 @@ replies_text replies = flat_map (λ reply. reply_text reply ++ 10 ∷ []) replie
 
 -- the replies, and the report of the last version
 abbrev pub script_text : Script → List ℕ
-script_text script = replies_text (replies_from (opened script.trace) script.requests) ++ report_of_replay (standing_from (opened script.trace) script.requests).trace
+script_text script =
+    replies_text (replies_from (opened script.trace) script.requests)
+    ++ report_of_replay (standing_from (opened script.trace) script.requests).trace
 
 -- the text for the script that was read, or the line of the first fault
 abbrev pub script_answer : Result Script LineFault → Due
 script_answer (Ok script) = record { text = script_text script; is_fault = false }
 script_answer (Err fault) = fault_due fault
 
--- what the command writes for an input that is not too long
-unfoldable pub script_due : List ℕ → Due
-script_due input = script_answer (read_script false input)
+-- this is due for an input that is not too long
+unfoldable pub IsScriptDue : List ℕ → Due → Type 0
+IsScriptDue input due = due ≡ script_answer (read_script false input)

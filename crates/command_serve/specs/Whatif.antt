@@ -1,5 +1,5 @@
 -- What `whatif` writes for an input.
-use Rattle.std.specs.Prelude.{ℕ, List, [], ◌∷◌, ◌++◌, codes, true, false, Result, Ok, Err}
+use Rattle.std.specs.Prelude.{◌≡◌, ℕ, List, [], ◌∷◌, ◌++◌, codes, true, false, Result, Ok, Err}
 use Rattle.trace_types.specs.Operation.{Operation}
 use Rattle.trace_types.specs.declared.edits.Edit.{Edit}
 use Rattle.trace_reader.specs.declared.fault.LineFault.{LineFault}
@@ -22,7 +22,8 @@ only_batch (line ∷ lines) = line.batch
 
 -- the canonical lines of the edited trace and its report, or the line of the refusal
 abbrev pub edited_due : Result (List Operation) Refusal → Due
-edited_due (Ok ops) = record { text = lines_text ops ++ codes "--\n" ++ report_of_replay ops; is_fault = false }
+edited_due (Ok ops) =
+    record { text = lines_text ops ++ codes "--\n" ++ report_of_replay ops; is_fault = false }
 edited_due (Err why) = record { text = reply_text (Refused why) ++ 10 ∷ []; is_fault = true }
 
 -- what is due for the edits that were read, or the line of the first fault
@@ -30,6 +31,6 @@ abbrev pub whatif_answer : Result Script LineFault → Due
 whatif_answer (Ok script) = edited_due (edited_by script.trace (only_batch script.requests))
 whatif_answer (Err fault) = fault_due fault
 
--- what the command writes for an input that is not too long
-unfoldable pub whatif_due : List ℕ → Due
-whatif_due input = whatif_answer (read_script true input)
+-- this is due for an input that is not too long
+unfoldable pub IsWhatifDue : List ℕ → Due → Type 0
+IsWhatifDue input due = due ≡ whatif_answer (read_script true input)

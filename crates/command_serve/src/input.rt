@@ -29,12 +29,15 @@ pub fn read_all<S: Source>(alloc: Global, source: &mut S) -> Result<Vec<u8>, Inp
         × IsAtEnd (S.left source.new) × (vec_len v ≤ MAX_INPUT)) }
     ensures too_long { IsErrOf result InputFault.TooLong → ((bytes : List ℕ)
         × Consumes (S.left source.old) (S.left source.new) bytes × (length bytes ≡ MAX_INPUT + 1)) }
-    ensures input { IfOk result (λ v. IsInput (S.left source.old) v.items × IsRead (S.left source.old) (S.left source.new) v.items) }
+    ensures input { IfOk result (λ v. IsInput (S.left source.old) v.items
+        × IsRead (S.left source.old) (S.left source.new) v.items) }
     ensures long_input { IsErrOf result InputFault.TooLong → ((input : List ℕ)
-        × IsInput (S.left source.old) input × IsRead (S.left source.old) (S.left source.new) input × (MAX_INPUT < length input)) }
+        × IsInput (S.left source.old) input × IsRead (S.left source.old) (S.left source.new) input
+        × (MAX_INPUT < length input)) }
     ensures device { IsErrOf result InputFault.Device → S.failed source.new ≡ true }
     ensures read { OnOk result (S.failed source.new ≡ S.failed source.old) }
-    ensures other { IfErr result (λ e. e ≢ InputFault.Device → S.failed source.new ≡ S.failed source.old) }
+    ensures other { IfErr result
+        (λ e. e ≢ InputFault.Device → S.failed source.new ≡ S.failed source.old) }
 {
     let mut all = Vec::new(alloc);
     let mut piece = [0u8; PIECE];

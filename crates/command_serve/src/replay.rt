@@ -1,9 +1,9 @@
 //! The command `replay`: a trace in, its report out.
-ghost use Rattle.std.specs.Prelude.{◌≡◌, ◌≢◌, ◌⊎◌, true, IfOk};
+ghost use Rattle.std.specs.Prelude.{◌≡◌, IfOk};
 ghost use Rattle.ownership_model.specs.State.{nothing_held};
 ghost use Rattle.ownership_model.specs.Step.{outcomes_from, end_from};
 ghost use Rattle.command_serve.specs.Serve.{Serves};
-ghost use Rattle.command_serve.specs.Replay.{replay_due, report_of_replay};
+ghost use Rattle.command_serve.specs.Replay.{IsReplayDue, report_of_replay};
 
 use crate::due::{Due, fault_due};
 use crate::exits::Exit;
@@ -22,9 +22,7 @@ use trace_types::trace::Trace;
 
 /// Reads a trace, and writes the report of its replay, or the line that tells the first fault.
 pub fn serve_replay<S: Source, K: Sink>(alloc: Global, source: &mut S, sink: &mut K) -> Exit
-    ensures served { Serves replay_due (S.left source.old) (S.left source.new) (K.held sink.old) (K.held sink.new) result }
-    ensures device { result ≡ Exit.Device → ((S.failed source.new ≡ true) ⊎ (K.failed sink.new ≡ true)) }
-    ensures other { result ≢ Exit.Device → (S.failed source.new ≡ S.failed source.old) × (K.failed sink.new ≡ K.failed sink.old) }
+    ensures { Serves IsReplayDue S.Source source.old source.new K.Sink sink.old sink.new result }
 {
     serve::<Replay, S, K>(alloc, source, sink)
 }
@@ -32,18 +30,18 @@ pub fn serve_replay<S: Source, K: Sink>(alloc: Global, source: &mut S, sink: &mu
 struct Replay;
 
 impl Answers for Replay {
-    ghost use Rattle.command_serve.specs.Replay.{replay_due};
+    ghost use Rattle.command_serve.specs.Replay.{IsReplayDue};
 
-    ghost due = { replay_due };
+    ghost IsDue = { IsReplayDue };
 
     fn answer(alloc: Global, input: &[u8]) -> Result<Due, AllocError> {
         replay_due(alloc, input)
     }
 }
 
-#[tactic(auto, unfolding(crate::specs::Replay::replay_due))]
+#[tactic(auto, unfolding(crate::specs::Replay::IsReplayDue))]
 fn replay_due(alloc: Global, input: &[u8]) -> Result<Due, AllocError>
-    ensures { IfOk result (λ d. d ≡ replay_due input.now) }
+    ensures { IfOk result (IsReplayDue input.now) }
 {
     match read_trace(alloc, input) {
         Ok(trace) => Ok(Due::answer(report_on(alloc, &trace)?)),

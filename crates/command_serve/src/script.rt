@@ -1,9 +1,9 @@
 //! The command `script`: a trace and requests in, the replies and the last version's report out.
-ghost use Rattle.std.specs.Prelude.{◌≡◌, ◌≢◌, ◌⊎◌, ◌++◌, ◌∷◌, [], true, string_bytes, IfOk, OnOk};
+ghost use Rattle.std.specs.Prelude.{◌≡◌, ◌++◌, ◌∷◌, [], string_bytes, IfOk, OnOk};
 ghost use Rattle.command_serve.specs.Serve.{Serves};
 ghost use Rattle.edit_desk.specs.Answers.{reply_to, after};
 ghost use Rattle.edit_desk.specs.ReplyText.{reply_text};
-ghost use Rattle.command_serve.specs.Script.{script_due, script_text, replies_text, replies_from, standing_from, request_of};
+ghost use Rattle.command_serve.specs.Script.{IsScriptDue, script_text, replies_text, replies_from, standing_from, request_of};
 
 use crate::due::{Due, fault_due};
 use crate::exits::Exit;
@@ -17,9 +17,7 @@ use trace_types::devices::{Sink, Source};
 /// Reads a trace and requests to edit it, and writes the reply to each and the report of the last version, or the line
 /// that tells the first fault.
 pub fn serve_script<S: Source, K: Sink>(alloc: Global, source: &mut S, sink: &mut K) -> Exit
-    ensures served { Serves script_due (S.left source.old) (S.left source.new) (K.held sink.old) (K.held sink.new) result }
-    ensures device { result ≡ Exit.Device → ((S.failed source.new ≡ true) ⊎ (K.failed sink.new ≡ true)) }
-    ensures other { result ≢ Exit.Device → (S.failed source.new ≡ S.failed source.old) × (K.failed sink.new ≡ K.failed sink.old) }
+    ensures { Serves IsScriptDue S.Source source.old source.new K.Sink sink.old sink.new result }
 {
     serve::<Replies, S, K>(alloc, source, sink)
 }
@@ -27,18 +25,18 @@ pub fn serve_script<S: Source, K: Sink>(alloc: Global, source: &mut S, sink: &mu
 struct Replies;
 
 impl Answers for Replies {
-    ghost use Rattle.command_serve.specs.Script.{script_due};
+    ghost use Rattle.command_serve.specs.Script.{IsScriptDue};
 
-    ghost due = { script_due };
+    ghost IsDue = { IsScriptDue };
 
     fn answer(alloc: Global, input: &[u8]) -> Result<Due, AllocError> {
         script_due(alloc, input)
     }
 }
 
-#[tactic(auto, unfolding(crate::specs::Script::script_due))]
+#[tactic(auto, unfolding(crate::specs::Script::IsScriptDue))]
 fn script_due(alloc: Global, input: &[u8]) -> Result<Due, AllocError>
-    ensures { IfOk result (λ d. d ≡ script_due input.now) }
+    ensures { IfOk result (IsScriptDue input.now) }
 {
     match read_script(alloc, input, false) {
         Ok(script) => Ok(Due::answer(text_of(alloc, script)?)),
@@ -66,8 +64,10 @@ fn push_replies(
     requests: Vec<RequestLine>,
     text: &mut String,
 ) -> Result<(), AllocError>
-    ensures text { OnOk result (string_bytes text.new ≡ string_bytes text.old ++ replies_text (replies_from desk.old.standing requests.items)) }
-    ensures desk { OnOk result (desk.new.standing ≡ standing_from desk.old.standing requests.items) }
+    ensures text { OnOk result (string_bytes text.new
+        ≡ string_bytes text.old ++ replies_text (replies_from desk.old.standing requests.items)) }
+    ensures desk { OnOk result
+        (desk.new.standing ≡ standing_from desk.old.standing requests.items) }
 {
     for line in requests {
         push_answer(alloc, desk, line, text)?;
@@ -81,8 +81,11 @@ fn push_answer(
     line: RequestLine,
     text: &mut String,
 ) -> Result<(), AllocError>
-    ensures text { OnOk result (string_bytes text.new ≡ string_bytes text.old ++ reply_text (reply_to desk.old.standing (request_of line)) ++ 10 ∷ []) }
-    ensures desk { OnOk result (desk.new.standing ≡ after desk.old.standing line.session (request_of line)) }
+    ensures text { OnOk result (string_bytes text.new
+        ≡ string_bytes text.old
+        ++ reply_text (reply_to desk.old.standing (request_of line)) ++ 10 ∷ []) }
+    ensures desk { OnOk result
+        (desk.new.standing ≡ after desk.old.standing line.session (request_of line)) }
 {
     let RequestLine {
         base,

@@ -1,5 +1,5 @@
 //! Serving a command: all of the input in, and then the whole text that is due out.
-ghost use Rattle.std.specs.Prelude.{◌≡◌, ◌≢◌, ◌⊎◌, ℕ, List, [], true, IfOk, IsErr};
+ghost use Rattle.std.specs.Prelude.{◌≡◌, ◌≢◌, ℕ, List, [], true, IfOk, IsErr};
 ghost use Rattle.std.specs.Io.KnownBytes.{Appends};
 ghost use Rattle.command_serve.specs.declared.due.Due.{Due};
 ghost use Rattle.command_serve.specs.Serve.{Serves, IsWritten};
@@ -12,22 +12,21 @@ use trace_types::devices::{Sink, Source, write_all};
 
 /// What a command writes for an input.
 pub trait Answers {
-    /// What is due for an input that is not too long.
-    ghost due: { List ℕ → Due };
+    /// This is due for an input that is not too long.
+    ghost IsDue: { List ℕ → Due → Type 0 };
 
     /// Makes what is due for an input.
     fn answer(alloc: Global, input: &[u8]) -> Result<Due, AllocError>
-        ensures { IfOk result (λ d. d ≡ due input.now) };
+        ensures { IfOk result (IsDue input.now) };
 }
 
 /// Reads all input, and writes what the command has due for it.
 ///
 /// The whole text is made before any of it is written, so that nothing is written where the source fails or memory is
 /// wanting.
+#[tactic(auto, using(crate::proofs::Served::unread, crate::proofs::Served::unmade))]
 pub fn serve<C: Answers, S: Source, K: Sink>(alloc: Global, source: &mut S, sink: &mut K) -> Exit
-    ensures served { Serves C.due (S.left source.old) (S.left source.new) (K.held sink.old) (K.held sink.new) result }
-    ensures device { result ≡ Exit.Device → ((S.failed source.new ≡ true) ⊎ (K.failed sink.new ≡ true)) }
-    ensures other { result ≢ Exit.Device → (S.failed source.new ≡ S.failed source.old) × (K.failed sink.new ≡ K.failed sink.old) }
+    ensures { Serves C.IsDue S.Source source.old source.new K.Sink sink.old sink.new result }
 {
     match read_all(alloc, source) {
         Ok(input) => write_due(sink, C::answer(alloc, input.as_slice())),
@@ -40,7 +39,8 @@ pub fn serve<C: Answers, S: Source, K: Sink>(alloc: Global, source: &mut S, sink
 /// Writes the whole text, or nothing where there was no memory for it, and tells how the command ends.
 pub fn write_due<K: Sink>(sink: &mut K, due: Result<Due, AllocError>) -> Exit
     ensures written { IfOk due (λ d. IsWritten d (K.held sink.old) (K.held sink.new) result) }
-    ensures memory { IsErr due → (result ≡ Exit.Memory) × Appends (K.held sink.old) (K.held sink.new) [] }
+    ensures memory { IsErr due
+        → (result ≡ Exit.Memory) × Appends (K.held sink.old) (K.held sink.new) [] }
     ensures device { result ≡ Exit.Device → K.failed sink.new ≡ true }
     ensures other { result ≢ Exit.Device → K.failed sink.new ≡ K.failed sink.old }
 {

@@ -1,12 +1,12 @@
 //! The command `whatif`: a trace and one request in, the edited trace and its report out.
-ghost use Rattle.std.specs.Prelude.{◌≡◌, ◌≢◌, ◌⊎◌, ◌++◌, ◌∷◌, [], codes, true, IfOk};
+ghost use Rattle.std.specs.Prelude.{◌≡◌, ◌++◌, ◌∷◌, [], codes, IfOk};
 ghost use Rattle.trace_reader.specs.Writing.{lines_text};
 ghost use Rattle.run_engine.specs.Edited.{edited_by};
 ghost use Rattle.edit_desk.specs.ReplyText.{reply_text};
 ghost use Rattle.edit_desk.specs.declared.replies.Reply.TheVariants.{Refused};
 ghost use Rattle.command_serve.specs.Serve.{Serves};
 ghost use Rattle.command_serve.specs.Replay.{report_of_replay};
-ghost use Rattle.command_serve.specs.Whatif.{whatif_due, edited_due};
+ghost use Rattle.command_serve.specs.Whatif.{IsWhatifDue, edited_due};
 ghost use Rattle.command_serve.specs.Whatif as specs;
 
 use crate::due::{Due, fault_due};
@@ -25,9 +25,7 @@ use trace_types::trace::Trace;
 /// Reads a trace and one request to edit it, and writes the edited trace's canonical lines and its report, or the line of
 /// the refusal, or the line that tells the first fault. The request's base and session don't matter.
 pub fn serve_whatif<S: Source, K: Sink>(alloc: Global, source: &mut S, sink: &mut K) -> Exit
-    ensures served { Serves whatif_due (S.left source.old) (S.left source.new) (K.held sink.old) (K.held sink.new) result }
-    ensures device { result ≡ Exit.Device → ((S.failed source.new ≡ true) ⊎ (K.failed sink.new ≡ true)) }
-    ensures other { result ≢ Exit.Device → (S.failed source.new ≡ S.failed source.old) × (K.failed sink.new ≡ K.failed sink.old) }
+    ensures { Serves IsWhatifDue S.Source source.old source.new K.Sink sink.old sink.new result }
 {
     serve::<Whatif, S, K>(alloc, source, sink)
 }
@@ -35,18 +33,18 @@ pub fn serve_whatif<S: Source, K: Sink>(alloc: Global, source: &mut S, sink: &mu
 struct Whatif;
 
 impl Answers for Whatif {
-    ghost use Rattle.command_serve.specs.Whatif.{whatif_due};
+    ghost use Rattle.command_serve.specs.Whatif.{IsWhatifDue};
 
-    ghost due = { whatif_due };
+    ghost IsDue = { IsWhatifDue };
 
     fn answer(alloc: Global, input: &[u8]) -> Result<Due, AllocError> {
         whatif_due(alloc, input)
     }
 }
 
-#[tactic(auto, unfolding(crate::specs::Whatif::whatif_due))]
+#[tactic(auto, unfolding(crate::specs::Whatif::IsWhatifDue))]
 fn whatif_due(alloc: Global, input: &[u8]) -> Result<Due, AllocError>
-    ensures { IfOk result (λ d. d ≡ whatif_due input.now) }
+    ensures { IfOk result (IsWhatifDue input.now) }
 {
     match read_script(alloc, input, true) {
         Ok(script) => {
@@ -82,7 +80,8 @@ fn edited_due(alloc: Global, trace: &Trace, batch: &Batch) -> Result<Due, AllocE
 
 // The canonical lines of a trace, and its report.
 fn told(alloc: Global, trace: &Trace) -> Result<Vec<u8>, AllocError>
-    ensures { IfOk result (λ text. text.items ≡ lines_text trace.now ++ codes "--\n" ++ report_of_replay trace.now) }
+    ensures { IfOk result (λ text. text.items
+        ≡ lines_text trace.now ++ codes "--\n" ++ report_of_replay trace.now) }
 {
     let mut text = write_trace(alloc, trace)?;
     let report = report_on(alloc, trace)?;
