@@ -1,4 +1,4 @@
--- What the looks tell is what the definitions say of the data.
+-- What is kept tells what the definitions say of the data.
 use Rattle.std.proofs.Common.{◌≡◌, ℕ, suc, List, [], ◌∷◌, ◌++◌, length, Bool, true, false, nat_le, ◌&&◌, le-leb, arith, Option, Some, None, option_map, ok_or, Ok, Err, refl, sym, ap, ◌∙◌}
 use Rattle.std.specs.Bool.{if◌then◌else◌}
 use Rattle.std.specs.Str.{bytes_eq}
@@ -10,28 +10,25 @@ use Rattle.trace_types.specs.declared.limits.TheConstants.{MAX_NAME, MAX_FIELDS}
 use Rattle.trace_types.specs.declared.kinds.Field.{Field}
 use Rattle.trace_types.specs.declared.kinds.Field.TheVariants.{Held, Me}
 use Rattle.trace_reader.specs.declared.fault.LineCause.TheVariants.{WrongType, OutOfRange}
-use Rattle.trace_reader.specs.Members.{◌>>=◌, within, number_of, number_in, number_at, perhaps_handle_in, perhaps_handle_at, text_in, text_at, field_of, fields_from, few_fields, fields_in, fields_at}
-use Rattle.trace_reader.specs.Looks.{look_of, elements_of, natural_told, number_told, perhaps_told, text_of, text_told, plain, fields_of, few_told, fields_told}
+use Rattle.trace_reader.specs.Members.{◌>>=◌, within, number_in, number_at, perhaps_handle_in, perhaps_handle_at, text_in, text_at, field_of, fields_from, few_fields, fields_in, fields_at}
+use Rattle.trace_reader.specs.Looks.{look_of, elements_of, listed, number_kept, number_told, perhaps_told, text_of, text_told, plain, fields_of, few_told, fields_told}
 
-natural_asked : (d : Data) → natural_told (look_of d) ≡ number_of d
-natural_asked null = refl
-natural_asked (boolean b) = refl
-natural_asked (number (unsigned n)) = refl
-natural_asked (number (negative z)) = refl
-natural_asked (number (float x)) = refl
-natural_asked (string s) = refl
-natural_asked (array ds) = refl
-natural_asked (object ms) = refl
-
-pub number_asked : (low high : ℕ) (o : Option Data) → number_told low high (option_map look_of o) ≡ number_in low high o
+pub number_asked : (low high : ℕ) (o : Option Data) → number_told low high (number_kept (option_map look_of o)) ≡ number_in low high o
 number_asked low high None = refl
-number_asked low high (Some d) = ap (within low high) (natural_asked d)
+number_asked low high (Some null) = refl
+number_asked low high (Some (boolean b)) = refl
+number_asked low high (Some (number (unsigned n))) = refl
+number_asked low high (Some (number (negative z))) = refl
+number_asked low high (Some (number (float x))) = refl
+number_asked low high (Some (string s)) = refl
+number_asked low high (Some (array ds)) = refl
+number_asked low high (Some (object ms)) = refl
 
-pub number_at-told : (name : List ℕ) (low high : ℕ) (ms : Members) → number_told low high (option_map look_of (get_member name ms)) ≡ number_at name low high (object ms)
+pub number_at-told : (name : List ℕ) (low high : ℕ) (ms : Members) → number_told low high (number_kept (option_map look_of (get_member name ms))) ≡ number_at name low high (object ms)
 unfolding number_at
 number_at-told name low high ms = number_asked low high (get_member name ms)
 
-pub perhaps_asked : (o : Option Data) → perhaps_told (option_map look_of o) ≡ perhaps_handle_in o
+pub perhaps_asked : (o : Option Data) → perhaps_told (number_kept (option_map look_of o)) ≡ perhaps_handle_in o
 perhaps_asked None = refl
 perhaps_asked (Some null) = refl
 perhaps_asked (Some (boolean b)) = refl
@@ -42,7 +39,7 @@ perhaps_asked (Some (string s)) = refl
 perhaps_asked (Some (array ds)) = refl
 perhaps_asked (Some (object ms)) = refl
 
-pub perhaps_at-told : (name : List ℕ) (ms : Members) → perhaps_told (option_map look_of (get_member name ms)) ≡ perhaps_handle_at name (object ms)
+pub perhaps_at-told : (name : List ℕ) (ms : Members) → perhaps_told (number_kept (option_map look_of (get_member name ms))) ≡ perhaps_handle_at name (object ms)
 unfolding perhaps_handle_at
 perhaps_at-told name ms = perhaps_asked (get_member name ms)
 
@@ -56,11 +53,11 @@ text_as (string s) = refl
 text_as (array ds) = refl
 text_as (object ms) = refl
 
-pub text_asked : (o : Option Data) → text_told (option_map look_of o) ≡ text_in o
+pub text_asked : (o : Option Data) → text_told (option_map (λ d. text_of (look_of d)) o) ≡ text_in o
 text_asked None = refl
 text_asked (Some d) = ap (λ o. ok_or o WrongType) (text_as d)
 
-pub text_at-told : (name : List ℕ) (ms : Members) → text_told (option_map look_of (get_member name ms)) ≡ text_at name (object ms)
+pub text_at-told : (name : List ℕ) (ms : Members) → text_told (option_map (λ d. text_of (look_of d)) (get_member name ms)) ≡ text_at name (object ms)
 unfolding text_at
 text_at-told name ms = text_asked (get_member name ms)
 
@@ -103,7 +100,7 @@ few_asked cyclic ds =
     ap (λ n. if nat_le n MAX_FIELDS then fields_of cyclic [] (elements_of ds) else Err OutOfRange) (count_asked ds)
     ∙ ap (λ r. if nat_le (items_len ds) MAX_FIELDS then r else Err OutOfRange) (fields_asked cyclic [] ds)
 
-elements_asked : (cyclic : Bool) (o : Option Data) → fields_told cyclic (option_map look_of o) ≡ fields_in cyclic o
+elements_asked : (cyclic : Bool) (o : Option Data) → fields_told cyclic (option_map listed o) ≡ fields_in cyclic o
 elements_asked cyclic None = refl
 elements_asked cyclic (Some null) = refl
 elements_asked cyclic (Some (boolean b)) = refl
@@ -114,6 +111,6 @@ elements_asked cyclic (Some (string s)) = refl
 elements_asked cyclic (Some (array ds)) = few_asked cyclic ds
 elements_asked cyclic (Some (object ms)) = refl
 
-pub fields_at-told : (cyclic : Bool) (ms : Members) → fields_told cyclic (option_map look_of (get_member (codes "fields") ms)) ≡ fields_at cyclic (object ms)
+pub fields_at-told : (cyclic : Bool) (ms : Members) → fields_told cyclic (option_map listed (get_member (codes "fields") ms)) ≡ fields_at cyclic (object ms)
 unfolding fields_at
 fields_at-told cyclic ms = elements_asked cyclic (get_member (codes "fields") ms)

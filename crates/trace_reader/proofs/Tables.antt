@@ -1,60 +1,129 @@
--- A list that tells the members of an object, and one member more.
-use Rattle.std.proofs.Common.{◌≡◌, ℕ, suc, ◌-◌, ◌<◌, ◌≤◌, List, [], ◌∷◌, ◌++◌, length, take, get_or, Bool, true, false, Option, Some, None, option_map, refl, sym, ap, ◌∙◌, arith}
-use Rattle.std.proofs.Math.Seq.{take-suc}
+-- What is kept of an object's members, and one member more.
+use Rattle.std.proofs.Common.{◌≡◌, ◌≢◌, ℕ, ◌<◌, List, [], ◌∷◌, length, get_or, Bool, true, false, Option, Some, None, option_map, refl, sym, ap, subst, ◌∙◌}
+use Rattle.std.proofs.Math.ListN.{set}
 use Rattle.std.proofs.lemmas.Bool.{false≢true}
-use Rattle.std.specs.Str.{bytes_eq}
-use Rattle.std.specs.Bool.{Decides, if◌then◌else◌}
-use Rattle.std.specs.Borrow.{Bor}
+use Rattle.std.proofs.lemmas.List.{get_or-set_same, get_or-set_other}
 use Rattle.std.proofs.lemmas.Slice.Eq.{bytes_eq-Decides}
-use Rattle.serde_json.specs.Data.{Data, Members, no_members, put}
+use Rattle.std.specs.Bool.{Decides, if◌then◌else◌}
+use Rattle.std.specs.Prelude.{codes}
+use Rattle.std.specs.Str.{bytes_eq}
+use Rattle.serde_json.specs.Data.{Data, null, boolean, number, string, array, object, Members, put}
 use Rattle.serde_json.specs.Find.{get_member}
 use Rattle.serde_json.proofs.Views.{get_member-put, get_member-put_other}
-use Rattle.trace_reader.specs.Looks.{Look, told, look_of, later, find, Tells}
-use Rattle.trace_reader.specs.declared.seen.Seen.{Seen}
+use Rattle.trace_reader.specs.declared.names.NumberName.{NumberName}
+use Rattle.trace_reader.specs.declared.names.NumberName.TheVariants as names
+use Rattle.trace_reader.specs.declared.names.MemberName.{MemberName}
+use Rattle.trace_reader.specs.declared.names.MemberName.TheVariants as member
+use Rattle.trace_reader.specs.declared.kept.KeptNumber.{KeptNumber}
+use Rattle.trace_reader.specs.declared.kept.KeptNumber.TheVariants as kept_number
+use Rattle.trace_reader.specs.declared.kept.KeptMembers.{KeptMembers}
+use Rattle.trace_reader.specs.Looks.{look_of, listed, is_array, text_of, number_text, name_text, place, number_of_look, number_kept, op_told, elements_told, kept_at, Tells}
 
-later-None : (o : Option Look) → later o None ≡ o
-later-None None = refl
-later-None (Some x) = refl
+-- ---- names are told apart
 
-later-later : (a b c : Option Look) → later (later a b) c ≡ later a (later b c)
-later-later None b c = refl
-later-later (Some x) b c = refl
+-- the name that is written so
+abbrev named : List ℕ → Option MemberName
+named text = if bytes_eq text (codes "id") then Some (member.Number names.Id) else (if bytes_eq text (codes "t") then Some (member.Number names.Thread) else (if bytes_eq text (codes "op") then Some member.Op else (if bytes_eq text (codes "to") then Some (member.Number names.To) else (if bytes_eq text (codes "from") then Some (member.Number names.From) else (if bytes_eq text (codes "h") then Some (member.Number names.Handle) else (if bytes_eq text (codes "i") then Some (member.Number names.Index) else (if bytes_eq text (codes "c") then Some (member.Number names.Cell) else (if bytes_eq text (codes "a") then Some (member.Number names.First) else (if bytes_eq text (codes "b") then Some (member.Number names.Second) else (if bytes_eq text (codes "fields") then Some member.Fields else (if bytes_eq text (codes "expected") then Some (member.Number names.Expected) else (if bytes_eq text (codes "desired") then Some (member.Number names.Desired) else (None)))))))))))))
 
--- what the member is to that name
-abbrev one : List ℕ → Bor (List ℕ) × Seen → Option Look
-one name m = if bytes_eq m.0.now name then Some (told m.1) else None
+is_named : (name : MemberName) → named (name_text name) ≡ Some name
+is_named (member.Number names.Id) = refl
+is_named (member.Number names.Thread) = refl
+is_named member.Op = refl
+is_named (member.Number names.To) = refl
+is_named (member.Number names.From) = refl
+is_named (member.Number names.Handle) = refl
+is_named (member.Number names.Index) = refl
+is_named (member.Number names.Cell) = refl
+is_named (member.Number names.First) = refl
+is_named (member.Number names.Second) = refl
+is_named member.Fields = refl
+is_named (member.Number names.Expected) = refl
+is_named (member.Number names.Desired) = refl
 
-find-push : (name : List ℕ) (list : List (Bor (List ℕ) × Seen)) (m : Bor (List ℕ) × Seen) → find name (list ++ m ∷ []) ≡ later (one name m) (find name list)
-find-push name [] m = sym (later-None (one name m))
-find-push name (x ∷ list) m = ap (λ o. later o (one name x)) (find-push name list m) ∙ later-later (one name m) (find name list) (one name x)
+same_name : (m n : MemberName) → name_text m ≡ name_text n → m ≡ n
+same_name m n e = let s : Some m ≡ Some n = sym (is_named m) ∙ ap named e ∙ is_named n in cc
 
-pub Tells-nothing : Tells [] no_members
-Tells-nothing name = refl
+-- the number of that place
+abbrev placed : ℕ → NumberName
+placed k = get_or (names.Id ∷ names.Thread ∷ names.To ∷ names.From ∷ names.Handle ∷ names.Index ∷ names.Cell ∷ names.First ∷ names.Second ∷ names.Expected ∷ names.Desired ∷ []) k names.Id
 
-at_name : (b : Bool) (name : List ℕ) (k : Bor (List ℕ)) (s : Seen) (d : Data) (list : List (Bor (List ℕ) × Seen)) (ms : Members) → Decides b (k.now ≡ name) → Tells list ms → told s ≡ look_of d
-    → later (if b then Some (told s) else None) (find name list) ≡ option_map look_of (get_member name (put k.now d ms))
-at_name true name k s d list ms same tells seen = ap Some seen ∙ ap (option_map look_of) (sym (ap (λ n. get_member n (put k.now d ms)) (sym (same.0 refl)) ∙ get_member-put k.now d ms))
-at_name false name k s d list ms other tells seen = tells name ∙ ap (option_map look_of) (sym (get_member-put_other name k.now d ms (λ e. absurd (false≢true (other.1 (sym e))))))
+is_placed : (name : NumberName) → placed (place name) ≡ name
+is_placed names.Id = refl
+is_placed names.Thread = refl
+is_placed names.To = refl
+is_placed names.From = refl
+is_placed names.Handle = refl
+is_placed names.Index = refl
+is_placed names.Cell = refl
+is_placed names.First = refl
+is_placed names.Second = refl
+is_placed names.Expected = refl
+is_placed names.Desired = refl
 
-pub Tells-push : (list : List (Bor (List ℕ) × Seen)) (k : Bor (List ℕ)) (s : Seen) (d : Data) (ms : Members) → Tells list ms → told s ≡ look_of d → Tells (list ++ (k, s) ∷ []) (put k.now d ms)
-Tells-push list k s d ms tells seen name = find-push name list (k, s) ∙ at_name (bytes_eq k.now name) name k s d list ms (bytes_eq-Decides k.now name) tells seen
+same_place : (m n : NumberName) → place m ≡ place n → m ≡ n
+same_place m n e = sym (is_placed m) ∙ ap placed e ∙ is_placed n
 
--- the last of the first members comes before the others
-find-take : (name : List ℕ) (list : List (Bor (List ℕ) × Seen)) (j : ℕ) (x : Bor (List ℕ) × Seen) → j < length list → x ≡ get_or list j x → find name (take (suc j) list) ≡ later (one name x) (find name (take j list))
-find-take name list j x below is =
-    ap (find name) (take-suc list j x below) ∙ find-push name (take j list) (get_or list j x) ∙ ap (λ y. later (one name y) (find name (take j list))) (sym is)
+-- ---- one member more
 
--- at the place before `left`: the member of that name, or one more member passed
-pub found_here : (name : List ℕ) (list : List (Bor (List ℕ) × Seen)) (left : ℕ) (x : Bor (List ℕ) × Seen) → 0 < left → left ≤ length list → x ≡ get_or list (left - 1) x → bytes_eq x.0.now name ≡ true
-    → Some (told x.1) ≡ find name (take left list)
-found_here name list left x some few is same =
-    let e : left ≡ suc (left - 1) = omega (arith, some) in
-    sym (ap (λ b. later (if b then Some (told x.1) else None) (find name (take (left - 1) list))) same)
-    ∙ sym (find-take name list (left - 1) x (omega (arith, some, few)) is) ∙ ap (λ k. find name (take k list)) (sym e)
+module _ (d : Data) (ms : Members) where
+  other_name : (m n : MemberName) → (m ≡ n → ⊥) → get_member (name_text m) ms ≡ get_member (name_text m) (put (name_text n) d ms)
+  other_name m n differ = sym (get_member-put_other (name_text m) (name_text n) d ms (λ e. differ (same_name m n e)))
 
-pub not_here : (name : List ℕ) (list : List (Bor (List ℕ) × Seen)) (left : ℕ) (x : Bor (List ℕ) × Seen) → 0 < left → left ≤ length list → x ≡ get_or list (left - 1) x → bytes_eq x.0.now name ≡ false
-    → find name (take (left - 1) list) ≡ find name (take left list)
-not_here name list left x some few is other =
-    let e : left ≡ suc (left - 1) = omega (arith, some) in
-    sym (ap (λ b. later (if b then Some (told x.1) else None) (find name (take (left - 1) list))) other)
-    ∙ sym (find-take name list (left - 1) x (omega (arith, some, few)) is) ∙ ap (λ k. find name (take k list)) (sym e)
+  at_name : (b : Bool) (xs : List KeptNumber) (k : KeptNumber) (m n : NumberName) → Decides b (number_text m ≡ number_text n) → place n < length xs → k ≡ number_of_look (look_of d)
+      → get_or xs (place m) kept_number.Missing ≡ number_kept (option_map look_of (get_member (number_text m) ms))
+      → get_or (set xs (place n) k) (place m) kept_number.Missing ≡ number_kept (option_map look_of (get_member (number_text m) (put (number_text n) d ms)))
+  at_name true xs k m n same inside seen before =
+      let e : member.Number m ≡ member.Number n = same_name (member.Number m) (member.Number n) (same.0 refl) in
+      let m_is : m ≡ n = cc in
+      subst (λ x. get_or (set xs (place n) k) (place x) kept_number.Missing ≡ number_kept (option_map look_of (get_member (number_text x) (put (number_text n) d ms)))) (sym m_is)
+      (get_or-set_same xs (place n) k kept_number.Missing inside ∙ seen ∙ ap (λ o. number_kept (option_map look_of o)) (sym (get_member-put (number_text n) d ms)))
+  at_name false xs k m n other inside seen before =
+      get_or-set_other xs (place n) (place m) k kept_number.Missing (λ e. absurd (false≢true (other.1 (ap number_text (same_place m n e)))))
+      ∙ before ∙ ap (λ o. number_kept (option_map look_of o)) (sym (get_member-put_other (number_text m) (number_text n) d ms (λ e. absurd (false≢true (other.1 e)))))
+
+  pub Tells-number : (old new : KeptMembers) (name : NumberName) (k : KeptNumber) → Tells old ms → place name < length old.numbers → k ≡ number_of_look (look_of d)
+      → new ≡ record old { numbers = set old.numbers (place name) k } → Tells new (put (number_text name) d ms)
+  Tells-number old new name k tells inside seen is =
+      subst (λ kept. Tells kept (put (number_text name) d ms)) (sym is) (record {
+        numbers = λ m. at_name (bytes_eq (number_text m) (number_text name)) old.numbers k m name (bytes_eq-Decides (number_text m) (number_text name)) inside seen (tells.numbers m);
+        op = tells.op ∙ ap (option_map (λ x. text_of (look_of x))) (other_name member.Op (member.Number name) (λ e. absurd (cc)));
+        fields = tells.fields ∙ ap (option_map listed) (other_name member.Fields (member.Number name) (λ e. absurd (cc)));
+      })
+
+  numbers_stay : (kept : KeptMembers) (name : MemberName) → ((m : NumberName) → member.Number m ≡ name → ⊥) → Tells kept ms
+      → (m : NumberName) → kept_at kept m ≡ number_kept (option_map look_of (get_member (number_text m) (put (name_text name) d ms)))
+  numbers_stay kept name differ tells m = tells.numbers m ∙ ap (λ o. number_kept (option_map look_of o)) (other_name (member.Number m) name (differ m))
+
+  pub Tells-op : (old new : KeptMembers) → Tells old ms → op_told new.op ≡ Some (text_of (look_of d)) → new ≡ record old { op = new.op } → Tells new (put (codes "op") d ms)
+  Tells-op old new tells seen is =
+      subst (λ kept. Tells kept (put (codes "op") d ms)) (sym is) (record {
+        numbers = numbers_stay old member.Op (λ m e. absurd (cc)) tells;
+        op = seen ∙ ap (option_map (λ x. text_of (look_of x))) (sym (get_member-put (codes "op") d ms));
+        fields = tells.fields ∙ ap (option_map listed) (other_name member.Fields member.Op (λ e. absurd (cc)));
+      })
+
+  pub Tells-fields : (old new : KeptMembers) → Tells old ms → elements_told new.fields ≡ Some (listed d) → new ≡ record old { fields = new.fields } → Tells new (put (codes "fields") d ms)
+  Tells-fields old new tells seen is =
+      subst (λ kept. Tells kept (put (codes "fields") d ms)) (sym is) (record {
+        numbers = numbers_stay old member.Fields (λ m e. absurd (cc)) tells;
+        op = tells.op ∙ ap (option_map (λ x. text_of (look_of x))) (other_name member.Op member.Fields (λ e. absurd (cc)));
+        fields = seen ∙ ap (option_map listed) (sym (get_member-put (codes "fields") d ms));
+      })
+
+  -- of a name that no operation asks for nothing is kept
+  pub Tells-other : (kept : KeptMembers) (key : List ℕ) → ((name : MemberName) → key ≢ name_text name) → Tells kept ms → Tells kept (put key d ms)
+  Tells-other kept key other tells =
+      let stays = λ (name : MemberName). sym (get_member-put_other (name_text name) key d ms (λ e. other name (sym e))) in record {
+        numbers = λ m. tells.numbers m ∙ ap (λ o. number_kept (option_map look_of o)) (stays (member.Number m));
+        op = tells.op ∙ ap (option_map (λ x. text_of (look_of x))) (stays member.Op);
+        fields = tells.fields ∙ ap (option_map listed) (stays member.Fields);
+      }
+
+-- what is no array has no elements
+pub no_elements : (d : Data) → is_array d ≡ false → listed d ≡ None
+no_elements null e = refl
+no_elements (boolean b) e = refl
+no_elements (number n) e = refl
+no_elements (string s) e = refl
+no_elements (array ds) e = absurd (cc)
+no_elements (object ms) e = refl

@@ -1,36 +1,80 @@
 -- What the reader keeps of a value, and of the members of an object: as much as an operation asks of them (profile of this
 -- project). Private functions alone speak of it; `Reading` says what an operation is without it.
-use Rattle.std.specs.Prelude.{◌≡◌, ℕ, List, [], ◌∷◌, ◌++◌, length, nat_le, Bool, true, false, Option, Some, None, option_map, option_and_then, ok_or, Result, Ok, Err, if◌then◌else◌}
-use Rattle.std.specs.Borrow.{Bor}
-use Rattle.std.specs.Str.{bytes_eq}
+use Rattle.std.specs.Prelude.{◌≡◌, ◌≢◌, ℕ, List, [], ◌∷◌, ◌++◌, length, get_or, codes, nat_le, Bool, true, false, Option, Some, None, option_map, option_and_then, ok_or, Result, Ok, Err, if◌then◌else◌}
 use Rattle.json.specs.Json as json
 use Rattle.json.specs.Token.{Token}
 use Rattle.serde_json.specs.Data.{Num, unsigned, negative, float, Data, null, boolean, number, string, array, object, Items, no_items, item, Members}
-use Rattle.serde_json.specs.Find.{get_member}
+use Rattle.serde_json.specs.Find.{get_member, as_array}
 use Rattle.serde_json.specs.Read.{of_json, max_depth}
 use Rattle.trace_types.specs.declared.kinds.Field.{Field}
 use Rattle.trace_types.specs.declared.kinds.Field.TheVariants.{Held, Null, Me}
 use Rattle.trace_types.specs.declared.limits.TheConstants.{MAX_NAME, MAX_FIELDS}
 use Rattle.trace_reader.specs.declared.fault.LineCause.{LineCause}
 use Rattle.trace_reader.specs.declared.fault.LineCause.TheVariants.{WrongType, Missing, OutOfRange}
+use Rattle.trace_reader.specs.declared.names.NumberName.{NumberName}
+use Rattle.trace_reader.specs.declared.names.NumberName.TheVariants as names
+use Rattle.trace_reader.specs.declared.names.MemberName.{MemberName}
+use Rattle.trace_reader.specs.declared.names.MemberName.TheVariants as member
+use Rattle.trace_reader.specs.declared.kept.KeptNumber.{KeptNumber}
+use Rattle.trace_reader.specs.declared.kept.KeptNumber.TheVariants as kept_number
+use Rattle.trace_reader.specs.declared.kept.KeptText.{KeptText}
+use Rattle.trace_reader.specs.declared.kept.KeptText.TheVariants as kept_text
+use Rattle.trace_reader.specs.declared.kept.KeptElements.{KeptElements}
+use Rattle.trace_reader.specs.declared.kept.KeptElements.TheVariants as kept_elements
+use Rattle.trace_reader.specs.declared.kept.KeptMembers.{KeptMembers}
 use Rattle.trace_reader.specs.declared.seen.Seen.{Seen}
 use Rattle.trace_reader.specs.declared.seen.Seen.TheVariants as seen
 use Rattle.trace_reader.specs.Members.{◌>>=◌, within, field_of, field_named}
 
+-- ---- names
+
+-- how the name of a member that is a number is written
+abbrev pub number_text : NumberName → List ℕ
+number_text names.Id = codes "id"
+number_text names.Thread = codes "t"
+number_text names.To = codes "to"
+number_text names.From = codes "from"
+number_text names.Handle = codes "h"
+number_text names.Index = codes "i"
+number_text names.Cell = codes "c"
+number_text names.First = codes "a"
+number_text names.Second = codes "b"
+number_text names.Expected = codes "expected"
+number_text names.Desired = codes "desired"
+
+-- how the name of a member is written, of those that an operation may ask for
+abbrev pub name_text : MemberName → List ℕ
+name_text (member.Number name) = number_text name
+name_text member.Op = codes "op"
+name_text member.Fields = codes "fields"
+
+-- the key is written as the name, or as none that an operation may ask for
+abbrev pub IsNamed : List ℕ → Option MemberName → Type 0
+IsNamed key None = (name : MemberName) → key ≢ name_text name
+IsNamed key (Some name) = key ≡ name_text name
+
+-- the place of a member that is a number, among them
+abbrev pub place : NumberName → ℕ
+place names.Id = 0
+place names.Thread = 1
+place names.To = 2
+place names.From = 3
+place names.Handle = 4
+place names.Index = 5
+place names.Cell = 6
+place names.First = 7
+place names.Second = 8
+place names.Expected = 9
+place names.Desired = 10
+
 -- ---- a value
 
--- null, a natural number, a text, the elements of an array, or another value
+-- null, a natural number, a text, or another value
 pub data Look : Type 0 where
   nothing : Look
   natural : ℕ → Look
   text : List ℕ → Look
-  elements : List (Result Field LineCause) → Look
   other : Look
-
--- each element as a field of `new_cyclic`
-abbrev pub elements_of : Items → List (Result Field LineCause)
-elements_of no_items = []
-elements_of (item d ds) = field_of true d ∷ elements_of ds
 
 -- how a number looks: natural, where it is written as an integer from 0 to 2^64 - 1, and else `other`
 abbrev pub number_look : Num → Look
@@ -38,79 +82,92 @@ number_look (unsigned n) = natural n
 number_look (negative z) = other
 number_look (float x) = other
 
--- how a value looks: an object, a truth value and a number that isn't natural are `other`
+-- how a value looks: an array, an object, a truth value and a number that isn't natural are `other`
 abbrev pub look_of : Data → Look
 look_of null = nothing
 look_of (boolean b) = other
 look_of (number n) = number_look n
 look_of (string s) = text s
-look_of (array ds) = elements (elements_of ds)
+look_of (array ds) = other
 look_of (object ms) = other
+
+-- each element as a field of `new_cyclic`
+abbrev pub elements_of : Items → List (Result Field LineCause)
+elements_of no_items = []
+elements_of (item d ds) = field_of true d ∷ elements_of ds
+
+-- the elements of an array; another value has none
+abbrev pub listed : Data → Option (List (Result Field LineCause))
+listed d = option_map elements_of (as_array d)
 
 -- what a `Seen` tells
 abbrev pub told : Seen → Look
 told seen.Nothing = nothing
 told (seen.Natural n) = natural n
 told (seen.Text s) = text s.now
-told (seen.Elements v) = elements v.items
 told seen.Other = other
 
 -- ---- the members of an object
 
--- of two members of one name the later one counts, where there is one (as with serde_json)
-abbrev pub later : Option Look → Option Look → Option Look
-later None earlier = earlier
-later (Some look) earlier = Some look
+-- what is kept of a member that has to be a number, by its look
+abbrev pub number_of_look : Look → KeptNumber
+number_of_look nothing = kept_number.Nothing
+number_of_look (natural n) = kept_number.Natural n
+number_of_look (text s) = kept_number.Other
+number_of_look other = kept_number.Other
 
--- the last of that name
-abbrev pub find : List ℕ → List (Bor (List ℕ) × Seen) → Option Look
-find name [] = None
-find name (m ∷ ms) = later (find name ms) (if bytes_eq m.0.now name then Some (told m.1) else None)
-
--- the list tells of each name what the object's member is
-abbrev pub Tells : List (Bor (List ℕ) × Seen) → Members → Type 0
-Tells list ms = (name : List ℕ) → find name list ≡ option_map look_of (get_member name ms)
-
--- ---- numbers and texts
-
--- the natural number that a look tells, if it tells one
-abbrev pub natural_told : Look → Option ℕ
-natural_told nothing = None
-natural_told (natural n) = Some n
-natural_told (text s) = None
-natural_told (elements rs) = None
-natural_told other = None
-
--- the number from low to high that a member's look tells, or its fault; None is a missing member
-abbrev pub number_told : ℕ → ℕ → Option Look → Result ℕ LineCause
-number_told low high None = Err Missing
-number_told low high (Some look) = within low high (natural_told look)
-
--- whether the value is null
-abbrev pub is_nothing : Look → Bool
-is_nothing nothing = true
-is_nothing (natural n) = false
-is_nothing (text s) = false
-is_nothing (elements rs) = false
-is_nothing other = false
-
--- the handle's number that a member's look tells; there is none where the member is missing or null
-abbrev pub perhaps_told : Option Look → Result (Option ℕ) LineCause
-perhaps_told None = Ok None
-perhaps_told (Some look) = if is_nothing look then Ok None else (within 0 MAX_NAME (natural_told look) >>= λ h. Ok (Some h))
+-- the same; None is a missing member
+abbrev pub number_kept : Option Look → KeptNumber
+number_kept None = kept_number.Missing
+number_kept (Some look) = number_of_look look
 
 -- the text that a look tells, if it tells one
 abbrev pub text_of : Look → Option (List ℕ)
 text_of nothing = None
 text_of (natural n) = None
 text_of (text s) = Some s
-text_of (elements rs) = None
 text_of other = None
 
--- the text that a member's look tells, or its fault
-abbrev pub text_told : Option Look → Result (List ℕ) LineCause
+-- what is kept of `op`: where it is there, its text, if it is one
+abbrev pub op_told : KeptText → Option (Option (List ℕ))
+op_told kept_text.Missing = None
+op_told (kept_text.Text s) = Some (Some s.now)
+op_told kept_text.Other = Some None
+
+-- what is kept of `fields`: where it is there, its elements, if it is an array
+abbrev pub elements_told : KeptElements → Option (Option (List (Result Field LineCause)))
+elements_told kept_elements.Missing = None
+elements_told (kept_elements.Listed v) = Some (Some v.items)
+elements_told kept_elements.Other = Some None
+
+-- what is kept of the member of that name, a number
+abbrev pub kept_at : KeptMembers → NumberName → KeptNumber
+kept_at kept name = get_or kept.numbers (place name) kept_number.Missing
+
+-- of each name that an operation may ask for, what the object's member is, is kept
+pub record Tells (kept : KeptMembers) (ms : Members) : Type 0 where
+  pub numbers : (name : NumberName) → kept_at kept name ≡ number_kept (option_map look_of (get_member (number_text name) ms))
+  pub op : op_told kept.op ≡ option_map (λ d. text_of (look_of d)) (get_member (codes "op") ms)
+  pub fields : elements_told kept.fields ≡ option_map listed (get_member (codes "fields") ms)
+
+-- the number from low to high that is kept, or its fault
+abbrev pub number_told : ℕ → ℕ → KeptNumber → Result ℕ LineCause
+number_told low high kept_number.Missing = Err Missing
+number_told low high kept_number.Nothing = Err WrongType
+number_told low high (kept_number.Natural n) = within low high (Some n)
+number_told low high kept_number.Other = Err WrongType
+
+-- the handle's number that is kept; there is none where the member is missing or null
+abbrev pub perhaps_told : KeptNumber → Result (Option ℕ) LineCause
+perhaps_told kept_number.Missing = Ok None
+perhaps_told kept_number.Nothing = Ok None
+perhaps_told (kept_number.Natural n) = within 0 MAX_NAME (Some n) >>= λ h. Ok (Some h)
+perhaps_told kept_number.Other = Err WrongType
+
+-- the text that is kept, or the fault of the member
+abbrev pub text_told : Option (Option (List ℕ)) → Result (List ℕ) LineCause
 text_told None = Err Missing
-text_told (Some look) = ok_or (text_of look) WrongType
+text_told (Some o) = ok_or o WrongType
 
 -- ---- the fields of a new object
 
@@ -119,7 +176,6 @@ abbrev pub field_told : Look → Result Field LineCause
 field_told nothing = Ok Null
 field_told (natural n) = within 0 MAX_NAME (Some n) >>= λ h. Ok (Held h)
 field_told (text s) = field_named true s
-field_told (elements rs) = Err WrongType
 field_told other = Err WrongType
 
 -- an element, which was read as one of `new_cyclic`, as the operation takes it: `new` takes no `me`
@@ -139,18 +195,11 @@ fields_of cyclic done (r ∷ rs) = plain cyclic r >>= λ f. fields_of cyclic (do
 abbrev pub few_told : Bool → List (Result Field LineCause) → Result (List Field) LineCause
 few_told cyclic rs = if nat_le (length rs) MAX_FIELDS then fields_of cyclic [] rs else Err OutOfRange
 
--- the fields that a look tells: what is no array is of the wrong type
-abbrev pub elements_told : Bool → Look → Result (List Field) LineCause
-elements_told cyclic nothing = Err WrongType
-elements_told cyclic (natural n) = Err WrongType
-elements_told cyclic (text s) = Err WrongType
-elements_told cyclic (elements rs) = few_told cyclic rs
-elements_told cyclic other = Err WrongType
-
--- the fields that the look of the member `fields` tells, or the first fault
-abbrev pub fields_told : Bool → Option Look → Result (List Field) LineCause
+-- the fields that are kept, or their first fault; what is no array is of the wrong type
+abbrev pub fields_told : Bool → Option (Option (List (Result Field LineCause))) → Result (List Field) LineCause
 fields_told cyclic None = Err Missing
-fields_told cyclic (Some look) = elements_told cyclic look
+fields_told cyclic (Some None) = Err WrongType
+fields_told cyclic (Some (Some rs)) = few_told cyclic rs
 
 -- ---- tokens
 
@@ -188,6 +237,15 @@ is_object (number n) = false
 is_object (string s) = false
 is_object (array ds) = false
 is_object (object ms) = true
+
+-- whether the value is an array
+abbrev pub is_array : Data → Bool
+is_array null = false
+is_array (boolean b) = false
+is_array (number n) = false
+is_array (string s) = false
+is_array (array ds) = true
+is_array (object ms) = false
 
 -- the value that these tokens are, as serde_json reads a text of them
 abbrev pub read_tokens : List Token → Option Data

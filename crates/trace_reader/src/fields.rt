@@ -1,44 +1,43 @@
 //! The fields of a new object.
-ghost use Rattle.std.specs.Prelude.{◌≡◌, ◌≤◌, [], length, codes, IfOk, IsTrue};
+ghost use Rattle.std.specs.Prelude.{◌≡◌, ◌≤◌, [], length, IfOk, IsTrue};
 ghost use Rattle.std.specs.List.{list_all};
 ghost use Rattle.serde_json.specs.Data.{Members, object};
 ghost use Rattle.trace_reader.specs.Members.{Gives, fields_at, field_test};
-ghost use Rattle.trace_reader.specs.Looks.{find, Tells, fields_told, few_told, fields_of, plain};
+ghost use Rattle.trace_reader.specs.Looks.{elements_told, Tells, fields_told, few_told, fields_of, plain};
 
 use crate::fault::LineCause;
-use crate::members::get;
-use crate::seen::{Member, Seen};
+use crate::kept::{KeptElements, KeptMembers};
 use std::alloc::Global;
 use trace_types::kinds::Field;
 use trace_types::limits::{MAX_FIELDS, MAX_NAME};
 use trace_types::sequence::Sequence;
 
 /// The member `fields`: at most `MAX_FIELDS` elements, each a handle's number, null, or where `cyclic` the text `me`.
-pub fn fields<'a>(
+pub fn fields(
     alloc: Global,
-    list: &[Member<'a>],
+    kept: &KeptMembers<'_>,
     cyclic: bool,
 ) -> Result<Sequence<Field>, LineCause>
-    ensures value { (ms : Members) → Tells list.now ms → Gives result (fields_at cyclic (object ms)) }
+    ensures value { (ms : Members) → Tells kept.now ms → Gives result (fields_at cyclic (object ms)) }
     ensures length { IfOk result (λ fields. length fields ≤ MAX_FIELDS) }
     ensures within { IfOk result (λ fields. IsTrue (list_all (field_test cyclic) fields)) }
 {
-    seen_fields(alloc, list, cyclic)
+    kept_fields(alloc, &kept.fields, cyclic)
 }
 
-fn seen_fields<'a>(
+fn kept_fields(
     alloc: Global,
-    list: &[Member<'a>],
+    fields: &KeptElements,
     cyclic: bool,
 ) -> Result<Sequence<Field>, LineCause>
-    ensures value { Gives result (fields_told cyclic (find (codes "fields") list.now)) }
+    ensures value { Gives result (fields_told cyclic (elements_told fields.now)) }
     ensures length { IfOk result (λ fields. length fields ≤ MAX_FIELDS) }
     ensures within { IfOk result (λ fields. IsTrue (list_all (field_test cyclic) fields)) }
 {
-    match get(list, "fields") {
-        Some(Seen::Elements(elements)) => few_elements(alloc, elements.as_slice(), cyclic),
-        Some(_) => Err(LineCause::WrongType),
-        None => Err(LineCause::Missing),
+    match fields {
+        KeptElements::Listed(elements) => few_elements(alloc, elements.as_slice(), cyclic),
+        KeptElements::Other => Err(LineCause::WrongType),
+        KeptElements::Missing => Err(LineCause::Missing),
     }
 }
 

@@ -8,106 +8,107 @@ ghost use Rattle.trace_reader.specs.Kinds.{kind_of};
 
 use crate::fault::LineCause;
 use crate::fields::fields;
+use crate::kept::KeptMembers;
 use crate::members::{handle, index, perhaps_handle};
-use crate::seen::Member;
+use crate::names::NumberName;
 use std::alloc::Global;
 use trace_types::kinds::Kind;
 use trace_types::names::OpName;
 
 /// What an operation of that name does, with its members.
 #[tactic(auto, unfolding(crate::specs::Kinds::one_at, crate::specs::Kinds::two_at, crate::specs::Kinds::three_at, crate::specs::Kinds::field_at, crate::specs::Kinds::made_at, crate::specs::Kinds::swap_at))]
-pub fn kind<'a>(alloc: Global, name: OpName, list: &[Member<'a>]) -> Result<Kind, LineCause>
-    ensures value { (ms : Members) → Tells list.now ms → Gives result (kind_of name (object ms)) }
+pub fn kind(alloc: Global, name: OpName, kept: &KeptMembers<'_>) -> Result<Kind, LineCause>
+    ensures value { (ms : Members) → Tells kept.now ms → Gives result (kind_of name (object ms)) }
     ensures within { IfOk result (λ k. IsTrue (is_kind k)) }
 {
     match name {
         OpName::New => Ok(Kind::New {
-            to: handle(list, "to")?,
-            fields: fields(alloc, list, false)?,
+            to: handle(kept, NumberName::To)?,
+            fields: fields(alloc, kept, false)?,
         }),
         OpName::NewCyclic => Ok(Kind::NewCyclic {
-            to: handle(list, "to")?,
-            fields: fields(alloc, list, true)?,
+            to: handle(kept, NumberName::To)?,
+            fields: fields(alloc, kept, true)?,
         }),
         OpName::NewFrom => Ok(Kind::NewFrom {
-            from: handle(list, "from")?,
-            to: handle(list, "to")?,
+            from: handle(kept, NumberName::From)?,
+            to: handle(kept, NumberName::To)?,
         }),
         OpName::WeakNew => Ok(Kind::WeakNew {
-            to: handle(list, "to")?,
+            to: handle(kept, NumberName::To)?,
         }),
         OpName::Null => Ok(Kind::Null {
-            to: handle(list, "to")?,
+            to: handle(kept, NumberName::To)?,
         }),
         OpName::Clone => Ok(Kind::Clone {
-            from: handle(list, "from")?,
-            to: handle(list, "to")?,
+            from: handle(kept, NumberName::From)?,
+            to: handle(kept, NumberName::To)?,
         }),
         OpName::Drop => Ok(Kind::Drop {
-            h: handle(list, "h")?,
+            h: handle(kept, NumberName::Handle)?,
         }),
         OpName::Downgrade => Ok(Kind::Downgrade {
-            from: handle(list, "from")?,
-            to: handle(list, "to")?,
+            from: handle(kept, NumberName::From)?,
+            to: handle(kept, NumberName::To)?,
         }),
         OpName::Upgrade => Ok(Kind::Upgrade {
-            from: handle(list, "from")?,
-            to: handle(list, "to")?,
+            from: handle(kept, NumberName::From)?,
+            to: handle(kept, NumberName::To)?,
         }),
         OpName::TryUnwrap => Ok(Kind::TryUnwrap {
-            h: handle(list, "h")?,
+            h: handle(kept, NumberName::Handle)?,
         }),
         OpName::IntoInner => Ok(Kind::IntoInner {
-            h: handle(list, "h")?,
+            h: handle(kept, NumberName::Handle)?,
         }),
         OpName::GetMut => Ok(Kind::GetMut {
-            h: handle(list, "h")?,
+            h: handle(kept, NumberName::Handle)?,
         }),
         OpName::MakeMut => Ok(Kind::MakeMut {
-            h: handle(list, "h")?,
+            h: handle(kept, NumberName::Handle)?,
         }),
         OpName::Counts => Ok(Kind::Counts {
-            h: handle(list, "h")?,
+            h: handle(kept, NumberName::Handle)?,
         }),
         OpName::PtrEq => Ok(Kind::PtrEq {
-            a: handle(list, "a")?,
-            b: handle(list, "b")?,
+            a: handle(kept, NumberName::First)?,
+            b: handle(kept, NumberName::Second)?,
         }),
         OpName::Set => Ok(Kind::Set {
-            h: handle(list, "h")?,
-            i: index(list)?,
-            from: handle(list, "from")?,
+            h: handle(kept, NumberName::Handle)?,
+            i: index(kept)?,
+            from: handle(kept, NumberName::From)?,
         }),
         OpName::Take => Ok(Kind::Take {
-            h: handle(list, "h")?,
-            i: index(list)?,
-            to: handle(list, "to")?,
+            h: handle(kept, NumberName::Handle)?,
+            i: index(kept)?,
+            to: handle(kept, NumberName::To)?,
         }),
         OpName::Get => Ok(Kind::Get {
-            h: handle(list, "h")?,
-            i: index(list)?,
-            to: handle(list, "to")?,
+            h: handle(kept, NumberName::Handle)?,
+            i: index(kept)?,
+            to: handle(kept, NumberName::To)?,
         }),
         OpName::CellNew => Ok(Kind::CellNew {
-            c: handle(list, "c")?,
-            from: handle(list, "from")?,
+            c: handle(kept, NumberName::Cell)?,
+            from: handle(kept, NumberName::From)?,
         }),
         OpName::CellLoad => Ok(Kind::CellLoad {
-            c: handle(list, "c")?,
-            to: handle(list, "to")?,
+            c: handle(kept, NumberName::Cell)?,
+            to: handle(kept, NumberName::To)?,
         }),
         OpName::CellSwap => Ok(Kind::CellSwap {
-            c: handle(list, "c")?,
-            from: handle(list, "from")?,
-            to: perhaps_handle(list, "to")?,
+            c: handle(kept, NumberName::Cell)?,
+            from: handle(kept, NumberName::From)?,
+            to: perhaps_handle(kept, NumberName::To)?,
         }),
         OpName::CellCas => Ok(Kind::CellCas {
-            c: handle(list, "c")?,
-            expected: handle(list, "expected")?,
-            desired: handle(list, "desired")?,
+            c: handle(kept, NumberName::Cell)?,
+            expected: handle(kept, NumberName::Expected)?,
+            desired: handle(kept, NumberName::Desired)?,
         }),
         OpName::CellDrop => Ok(Kind::CellDrop {
-            c: handle(list, "c")?,
+            c: handle(kept, NumberName::Cell)?,
         }),
         OpName::ScopeEnd => Ok(Kind::ScopeEnd),
     }

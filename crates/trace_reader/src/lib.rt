@@ -3,9 +3,11 @@
 
 mod fault;
 mod fields;
+mod kept;
 mod kinds;
 mod lines;
 mod members;
+mod names;
 mod op;
 mod request;
 mod script;

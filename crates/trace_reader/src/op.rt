@@ -11,9 +11,10 @@ ghost use Rattle.trace_reader.specs.Reading as Reading;
 ghost use Rattle.trace_reader.specs.Writing.{op_of_line};
 
 use crate::fault::LineCause;
+use crate::kept::KeptMembers;
 use crate::kinds;
-use crate::members::{number, text};
-use crate::seen::Member;
+use crate::members::{number, op_text};
+use crate::names::NumberName;
 use crate::tokens::line::{Unread, line_members};
 use crate::values::value_members;
 use json::Scratch;
@@ -33,9 +34,10 @@ use trace_types::ops::Op;
 pub fn line_op(alloc: Global, line: &[u8], scratch: &mut Scratch) -> Result<Op, LineCause>
     ensures { Gives result (op_of_line line.now) }
 {
-    match line_members(alloc, line, scratch) {
-        Ok(Some(list)) => members_of_op(alloc, list.as_slice()),
-        Ok(None) => Err(LineCause::NotObject),
+    let mut kept = KeptMembers::none();
+    match line_members(alloc, line, scratch, &mut kept) {
+        Ok(true) => members_of_op(alloc, &kept),
+        Ok(false) => Err(LineCause::NotObject),
         Err(Unread::Refused) => Err(LineCause::NotJson),
         Err(Unread::Memory) => Err(LineCause::Memory),
     }
@@ -56,28 +58,28 @@ pub fn object_op(alloc: Global, value: &Value, cause: LineCause) -> Result<Op, L
     let Some(members) = value.as_object() else {
         return Err(cause);
     };
-    let list = value_members(alloc, members)?;
-    members_of_op(alloc, list.as_slice())
+    let kept = value_members(alloc, members)?;
+    members_of_op(alloc, &kept)
 }
 
 #[tactic(auto, unfolding(crate::specs::Reading::members_of_op))]
-fn members_of_op<'a>(alloc: Global, list: &[Member<'a>]) -> Result<Op, LineCause>
-    ensures { (ms : Members) → Tells list.now ms → Gives result (Reading.members_of_op (object ms)) }
+fn members_of_op(alloc: Global, kept: &KeptMembers<'_>) -> Result<Op, LineCause>
+    ensures { (ms : Members) → Tells kept.now ms → Gives result (Reading.members_of_op (object ms)) }
 {
-    let id = number(list, "id", 1, MAX_ID)?;
-    let thread = number(list, "t", 0, MAX_THREAD)?;
-    let kind = kind(alloc, list)?;
+    let id = number(kept, NumberName::Id, 1, MAX_ID)?;
+    let thread = number(kept, NumberName::Thread, 0, MAX_THREAD)?;
+    let kind = kind(alloc, kept)?;
     Op::make(id, thread, kind).map_err(|_| LineCause::OutOfRange)
 }
 
 #[tactic(auto, unfolding(crate::specs::Reading::kind_at))]
-fn kind<'a>(alloc: Global, list: &[Member<'a>]) -> Result<Kind, LineCause>
-    ensures value { (ms : Members) → Tells list.now ms → Gives result (Reading.kind_at (object ms)) }
+fn kind(alloc: Global, kept: &KeptMembers<'_>) -> Result<Kind, LineCause>
+    ensures value { (ms : Members) → Tells kept.now ms → Gives result (Reading.kind_at (object ms)) }
     ensures within { IfOk result (λ k. IsTrue (is_kind k)) }
 {
-    let text = text(list, "op")?;
+    let text = op_text(kept)?;
     let Some(name) = read_name(text) else {
         return Err(LineCause::UnknownOp);
     };
-    kinds::kind(alloc, name, list)
+    kinds::kind(alloc, name, kept)
 }

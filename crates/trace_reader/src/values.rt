@@ -1,13 +1,15 @@
-//! The members of a JSON value that was read before: those of a request, and what is seen of those of an operation in it.
-ghost use Rattle.std.specs.Prelude.{◌≡◌, ◌≤◌, true, None, Ok, Err, IfOk, MatchResult};
-ghost use Rattle.serde_json.specs.Find.{as_array};
+//! The members of a JSON value that was read before: those of a request, and what is kept of those of an operation in it.
+ghost use Rattle.std.specs.Prelude.{◌≡◌, ◌≤◌, true, Some, Ok, Err, IfOk, OnOk, MatchResult};
+ghost use Rattle.serde_json.specs.Data.{Members, put};
 ghost use Rattle.serde_json.specs.View.{view, items_view, members_view};
 ghost use Rattle.trace_reader.specs.Members.{field_of, number_at, text_at};
-ghost use Rattle.trace_reader.specs.Looks.{told, look_of, elements_of, field_told, Tells};
+ghost use Rattle.trace_reader.specs.Looks.{told, look_of, elements_of, listed, elements_told, field_told, Tells};
 
 use crate::fault::LineCause;
+use crate::kept::{KeptElements, KeptMembers};
 use crate::members::in_range;
-use crate::seen::{Member, Seen, field};
+use crate::names::{MemberName, member_name};
+use crate::seen::{Seen, field};
 use serde_json::{Map, Value};
 use std::alloc::{AllocError, Global};
 use trace_types::kinds::Field;
@@ -43,25 +45,41 @@ pub fn text<'a>(value: &'a Value, name: &str) -> Result<&'a str, LineCause>
 pub fn value_members<'a>(
     alloc: Global,
     members: &'a Map<String, Value>,
-) -> Result<Vec<Member<'a>>, AllocError>
-    ensures { IfOk result (λ list. Tells list.items (members_view members.now.entries)) }
+) -> Result<KeptMembers<'a>, AllocError>
+    ensures { IfOk result (λ kept. Tells kept (members_view members.now.entries)) }
 {
-    let mut list = Vec::new(alloc);
-    for (name, member) in members.iter() {
-        let key = name.as_str();
-        let seen = see(alloc, member)?;
-        list.push((key, seen))?;
+    let mut kept = KeptMembers::none();
+    for (text, value) in members.iter() {
+        keep(alloc, text.as_str(), value, &mut kept)?;
     }
-    Ok(list)
+    Ok(kept)
 }
 
-// What a value is seen as.
-fn see<'a>(alloc: Global, value: &'a Value) -> Result<Seen<'a>, AllocError>
-    ensures { IfOk result (λ s. told s ≡ look_of (view value.now)) }
+// Keeps a member, if an operation may ask for its name.
+fn keep<'a>(
+    alloc: Global,
+    text: &str,
+    value: &'a Value,
+    kept: &mut KeptMembers<'a>,
+) -> Result<(), AllocError>
+    ensures { OnOk result ((ms : Members) → Tells kept.old ms → Tells kept.new (put text.now (view value.now) ms)) }
+{
+    match member_name(text) {
+        Some(MemberName::Number(name)) => kept.keep_number(name, glance(value)),
+        Some(MemberName::Op) => kept.keep_op(glance(value)),
+        Some(MemberName::Fields) => kept.keep_fields(fields_of(alloc, value)?),
+        None => {}
+    }
+    Ok(())
+}
+
+// What is kept of the member `fields`.
+fn fields_of(alloc: Global, value: &Value) -> Result<KeptElements, AllocError>
+    ensures { IfOk result (λ elements. elements_told elements ≡ Some (listed (view value.now))) }
 {
     match value.as_array() {
-        Some(items) => Ok(Seen::Elements(elements(alloc, items.as_slice())?)),
-        None => Ok(glance(value)),
+        Some(items) => Ok(KeptElements::Listed(elements(alloc, items.as_slice())?)),
+        None => Ok(KeptElements::Other),
     }
 }
 
@@ -70,14 +88,14 @@ fn elements(alloc: Global, items: &[Value]) -> Result<Vec<Result<Field, LineCaus
 {
     let mut found = Vec::new(alloc);
     for item in items {
-        found.push(field(&glance(item)))?;
+        found.push(field(glance(item)))?;
     }
     Ok(found)
 }
 
-// What a value that is no array is seen as.
+// What a value is seen as.
 fn glance<'a>(value: &'a Value) -> Seen<'a>
-    ensures value { as_array (view value.now) ≡ None → told result ≡ look_of (view value.now) }
+    ensures value { told result ≡ look_of (view value.now) }
     ensures field { field_told (told result) ≡ field_of true (view value.now) }
 {
     match value {

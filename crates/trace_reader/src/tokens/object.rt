@@ -1,30 +1,32 @@
 //! The members of an object, as far as an operation asks of them.
-ghost use Rattle.std.specs.Prelude.{◌≡◌, ◌<◌, length, Some, None, Ok, Err, IfOk, OnOk, OnSome, IsErrOf, MatchOption, false, ◌∷◌, ◌≤◌, true};
+ghost use Rattle.std.specs.Prelude.{◌≡◌, ◌<◌, ℕ, List, length, Some, None, Ok, Err, IfOk, OnOk, OnSome, IsErrOf, MatchOption, false, ◌∷◌, ◌≤◌, true};
 ghost use Rattle.json.specs.Json.{value, items, members};
 ghost use Rattle.json.specs.Reads.{token_of};
-ghost use Rattle.serde_json.specs.Data.{Data, Items, Members, no_members};
+ghost use Rattle.serde_json.specs.Data.{Data, Items, Members, put};
 ghost use Rattle.serde_json.specs.Read.{of_json, of_items, of_members, converted};
 ghost use Rattle.trace_reader.specs.Members.{field_of};
-ghost use Rattle.trace_reader.specs.Looks.{told, look_of, elements_of, Tells, field_told, opens_array, opens_object, is_object};
+ghost use Rattle.trace_reader.specs.Looks.{told, look_of, elements_of, listed, elements_told, IsNamed, Tells};
+ghost use Rattle.trace_reader.specs.Looks.{field_told, opens_array, opens_object, is_object, is_array};
 
 use crate::fault::LineCause;
-use crate::seen::{Member, Seen, field};
+use crate::kept::{KeptElements, KeptMembers};
+use crate::names::{MemberName, member_name};
+use crate::seen::{Seen, field};
 use crate::tokens::line::Unread;
 use crate::tokens::numbers::natural;
-use crate::tokens::pass::{pass_items, pass_members};
+use crate::tokens::pass::{pass, pass_items, pass_members};
 use json::{Reader, Token};
 use std::alloc::Global;
 use trace_types::kinds::Field;
 
-// `id`, `t`, `op` and at most three more: room for these is taken at once.
-const USUAL_MEMBERS: usize = 6;
-
-// What a value that is no array is seen as, after its first token; None where it is refused.
+// What a value is seen as, after its first token; None where it is refused. It is inlined with `see`, since an answer of this
+// size would go through memory at each member.
+#[inline(always)]
 pub fn glance<'a>(reader: &mut Reader<'a>, token: Token<'a>, depth: usize) -> Option<Seen<'a>>
-    requires { opens_array (token_of token) ≡ false }
     ensures value { MatchOption result (converted of_json (value depth (token_of token.entry ∷ reader.old)) ≡ None)
-        (λ s. (d : Data) × (converted of_json (value depth (token_of token.entry ∷ reader.old)) ≡ Some (d, reader.new)) × (told s ≡ look_of d)
-        × (field_of true d ≡ field_told (look_of d)) × (is_object d ≡ opens_object (token_of token.entry))) }
+        (λ s. (d : Data) × (converted of_json (value depth (token_of token.entry ∷ reader.old)) ≡ Some (d, reader.new))
+        × (told s ≡ look_of d) × (field_of true d ≡ field_told (look_of d))
+        × (is_object d ≡ opens_object (token_of token.entry)) × (is_array d ≡ opens_array (token_of token.entry))) }
     ensures shorter { OnSome result (length reader.new ≤ length reader.old) }
 {
     match token {
@@ -46,33 +48,44 @@ pub fn glance<'a>(reader: &mut Reader<'a>, token: Token<'a>, depth: usize) -> Op
                 None
             }
         }
-        Token::BeginArray => None,
+        Token::BeginArray => {
+            if depth == 0 {
+                return None;
+            }
+            if pass_items(reader, depth - 1) {
+                Some(Seen::Other)
+            } else {
+                None
+            }
+        }
         Token::EndObject | Token::EndArray | Token::Key(_) | Token::Bad => None,
     }
 }
 
-// The field that an element is in `new_cyclic`, or its fault; None where the element is refused.
-pub fn element(reader: &mut Reader<'_>, depth: usize) -> Option<Result<Field, LineCause>>
+// What a value is seen as.
+#[inline(always)]
+fn see<'a>(reader: &mut Reader<'a>, depth: usize) -> Option<Seen<'a>>
     ensures value { MatchOption result (converted of_json (value depth reader.old) ≡ None)
-        (λ r. (d : Data) × (converted of_json (value depth reader.old) ≡ Some (d, reader.new)) × (field_of true d ≡ r)) }
+        (λ s. (d : Data) × (converted of_json (value depth reader.old) ≡ Some (d, reader.new))
+        × (told s ≡ look_of d) × (field_of true d ≡ field_told (look_of d))) }
     ensures shorter { OnSome result (length reader.new < length reader.old) }
 {
     let Some(token) = reader.next() else {
         return None;
     };
-    if let Token::BeginArray = token {
-        if depth == 0 {
-            return None;
-        }
-        if pass_items(reader, depth - 1) {
-            return Some(Err(LineCause::WrongType));
-        }
-        return None;
-    }
-    let Some(seen) = glance(reader, token, depth) else {
+    glance(reader, token, depth)
+}
+
+// The field that an element is in `new_cyclic`, or its fault; None where the element is refused.
+fn element(reader: &mut Reader<'_>, depth: usize) -> Option<Result<Field, LineCause>>
+    ensures value { MatchOption result (converted of_json (value depth reader.old) ≡ None)
+        (λ r. (d : Data) × (converted of_json (value depth reader.old) ≡ Some (d, reader.new)) × (field_of true d ≡ r)) }
+    ensures shorter { OnSome result (length reader.new < length reader.old) }
+{
+    let Some(seen) = see(reader, depth) else {
         return None;
     };
-    Some(field(&seen))
+    Some(field(seen))
 }
 
 // The elements of an array, with its closing bracket.
@@ -97,9 +110,10 @@ fn elements(
     Ok(found)
 }
 
-// What a value is seen as.
-fn see<'a>(alloc: Global, reader: &mut Reader<'a>, depth: usize) -> Result<Seen<'a>, Unread>
-    ensures ok { IfOk result (λ s. (d : Data) × (converted of_json (value depth reader.old) ≡ Some (d, reader.new)) × (told s ≡ look_of d)) }
+// What is kept of the member `fields`.
+fn fields(alloc: Global, reader: &mut Reader<'_>, depth: usize) -> Result<KeptElements, Unread>
+    ensures ok { IfOk result (λ f. (d : Data) × (converted of_json (value depth reader.old) ≡ Some (d, reader.new))
+        × (elements_told f ≡ Some (listed d))) }
     ensures shorter { OnOk result (length reader.new < length reader.old) }
     ensures err { IsErrOf result Unread.Refused → converted of_json (value depth reader.old) ≡ None }
 {
@@ -111,37 +125,60 @@ fn see<'a>(alloc: Global, reader: &mut Reader<'a>, depth: usize) -> Result<Seen<
             return Err(Unread::Refused);
         }
         let elements = elements(alloc, reader, depth - 1)?;
-        return Ok(Seen::Elements(elements));
+        return Ok(KeptElements::Listed(elements));
     }
     match glance(reader, token, depth) {
-        Some(seen) => Ok(seen),
+        Some(_) => Ok(KeptElements::Other),
         None => Err(Unread::Refused),
     }
 }
 
-/// The members of an object, with its closing brace.
+// Reads the value of a member, and keeps it where an operation may ask for its name.
+fn keep<'a>(
+    alloc: Global,
+    reader: &mut Reader<'a>,
+    depth: usize,
+    name: Option<MemberName>,
+    kept: &mut KeptMembers<'a>,
+) -> Result<(), Unread>
+    ensures ok { OnOk result ((d : Data) × (converted of_json (value depth reader.old) ≡ Some (d, reader.new))
+        × ((key : List ℕ) (ms : Members) → IsNamed key name → Tells kept.old ms → Tells kept.new (put key d ms))) }
+    ensures shorter { OnOk result (length reader.new < length reader.old) }
+    ensures err { IsErrOf result Unread.Refused → converted of_json (value depth reader.old) ≡ None }
+{
+    match name {
+        Some(MemberName::Number(name)) => match see(reader, depth) {
+            Some(seen) => kept.keep_number(name, seen),
+            None => return Err(Unread::Refused),
+        },
+        Some(MemberName::Op) => match see(reader, depth) {
+            Some(seen) => kept.keep_op(seen),
+            None => return Err(Unread::Refused),
+        },
+        Some(MemberName::Fields) => kept.keep_fields(fields(alloc, reader, depth)?),
+        None => if !pass(reader, depth) {
+            return Err(Unread::Refused);
+        },
+    }
+    Ok(())
+}
+
+/// The members of an object, with its closing brace: they join those that are kept.
 pub fn read_members<'a>(
     alloc: Global,
     reader: &mut Reader<'a>,
     depth: usize,
-) -> Result<Vec<Member<'a>>, Unread>
-    ensures ok { IfOk result (λ list. (ms : Members) × (converted (λ js. of_members js no_members)
-        (members (value depth) (length reader.old) reader.old) ≡ Some (ms, reader.new)) × Tells list.items ms) }
-    ensures err { IsErrOf result Unread.Refused → converted (λ js. of_members js no_members)
+    kept: &mut KeptMembers<'a>,
+) -> Result<(), Unread>
+    ensures ok { OnOk result ((old : Members) → (ms : Members) × (converted (λ js. of_members js old)
+        (members (value depth) (length reader.old) reader.old) ≡ Some (ms, reader.new)) × (Tells kept.old old → Tells kept.new ms)) }
+    ensures err { IsErrOf result Unread.Refused → (old : Members) → converted (λ js. of_members js old)
         (members (value depth) (length reader.old) reader.old) ≡ None }
 {
-    let Ok(mut list) = Vec::with_capacity(alloc, USUAL_MEMBERS) else {
-        return Err(Unread::Memory);
-    };
     'members: loop {
         match reader.next_key() {
-            Ok(Some(key)) => {
-                let seen = see(alloc, reader, depth)?;
-                if list.push((key, seen)).is_err() {
-                    return Err(Unread::Memory);
-                }
-            }
-            Ok(None) => return Ok(list),
+            Ok(Some(key)) => keep(alloc, reader, depth, member_name(key), kept)?,
+            Ok(None) => return Ok(()),
             Err(_) => return Err(Unread::Refused),
         }
     }
