@@ -44,7 +44,7 @@ IsWritten due held held' exit =
     ((exit ≡ exit_of due) × Appends held held' due.text)
     ⊎ ((exit ≡ Device) × AppendsFront held held' due.text)
 
--- all of an input was read, and what is due for it was written
+-- an input was read, all of it or as far as is allowed, and what is due for it was written, or a front
 abbrev pub IsAnswered : (List ℕ → Due → Type 0) → List ℕ
     → Option (List ℕ) → Option (List ℕ) → Option (List ℕ) → Option (List ℕ) → Exit → Type 0
 IsAnswered IsDue input left left' held held' exit =
