@@ -1,9 +1,11 @@
 //! Requests to a desk.
 ghost use Rattle.std.specs.Prelude.{◌≡◌, [], IfOk};
 
-use edit_desk::{Desk, Reply, Request, export, push_reply, what_if};
+use edit_desk::{Desk, Prepared, Published, Reply, Request, export, push_reply, what_if};
 use op_step::Meter;
 use run_engine::Refusal;
+use std::alloc::Global;
+use std::process::Abort;
 use std::test::Fail;
 use trace_types::edits::{Batch, Edit};
 use trace_types::kinds::Kind;
@@ -12,18 +14,18 @@ use trace_types::ops::Op;
 use trace_types::sequence::Sequence;
 use trace_types::trace::Trace;
 
-fn opened(rt: &HostRuntime) -> Result<Desk, Fail>
+fn opened(alloc: Global) -> Result<Desk, Fail>
     ensures { IfOk result (λ d. d.standing.history ≡ []) }
 {
-    let fields = Sequence::empty(rt.alloc());
+    let fields = Sequence::empty(alloc);
     let op = Op::make(1, 0, Kind::New { to: 0, fields })?;
-    let mut trace = Trace::new(rt.alloc());
+    let mut trace = Trace::new(alloc);
     trace.push(op)?;
-    Ok(Desk::open(rt.alloc(), trace)?)
+    Ok(Desk::open(alloc, trace)?)
 }
 
-fn removal(rt: &HostRuntime, id: u32, times: u32) -> Result<Batch, Fail> {
-    let mut batch = Sequence::empty(rt.alloc());
+fn removal(alloc: Global, id: u32, times: u32) -> Result<Batch, Fail> {
+    let mut batch = Sequence::empty(alloc);
     for _ in 0..times {
         batch.push(Edit::Remove { id })?;
     }
@@ -31,19 +33,28 @@ fn removal(rt: &HostRuntime, id: u32, times: u32) -> Result<Batch, Fail> {
 }
 
 fn asked(
-    rt: &HostRuntime,
+    alloc: Global,
     desk: &mut Desk,
     session: u32,
     base: u32,
     times: u32,
 ) -> Result<Reply, Fail> {
-    let batch = removal(rt, 1, times)?;
-    Ok(desk.answer(rt.alloc(), session, Request { base, batch })?)
+    let batch = removal(alloc, 1, times)?;
+    Ok(desk.answer(alloc, session, Request { base, batch })?)
 }
 
-#[test]
-fn desk_replies(rt: HostRuntime) -> Result<(), Fail> {
-    let mut desk = opened(&rt)?;
+// The desk after one request that was accepted, the last of five.
+fn assert_changed_once(rt: &impl Abort, desk: &Desk) -> Result<(), Fail> {
+    assert_eq!(rt; desk.version(), 1);
+    assert_eq!(rt; desk.len(), 5);
+    assert_eq!(rt; desk.published().run().len(), 0);
+    let last = desk.entry(4).ok_or("five entries")?;
+    assert_eq!(rt; last.session, 3);
+    Ok(())
+}
+
+// A request of each session for a version, with so many edits, and its reply.
+fn assert_replies(rt: &impl Abort, alloc: Global, desk: &mut Desk) -> Result<(), Fail> {
     let table = [
         (0, 0, 0, Reply::Refused(Refusal::EmptyBatch)),
         (0, 0, 65, Reply::Refused(Refusal::TooManyEdits)),
@@ -52,15 +63,18 @@ fn desk_replies(rt: HostRuntime) -> Result<(), Fail> {
         (3, 0, 1, Reply::Accepted(1)),
     ];
     for (session, base, times, due) in table {
-        let reply = asked(&rt, &mut desk, session, base, times)?;
+        let reply = asked(alloc, desk, session, base, times)?;
         assert_eq!(rt; reply, due);
     }
-    assert_eq!(rt; desk.version(), 1);
-    assert_eq!(rt; desk.len(), 5);
-    assert_eq!(rt; desk.published().run().len(), 0);
-    let last = desk.entry(4).ok_or("five entries")?;
-    assert_eq!(rt; last.session, 3);
     Ok(())
+}
+
+#[test]
+fn desk_replies(rt: HostRuntime) -> Result<(), Fail> {
+    let alloc = rt.alloc();
+    let mut desk = opened(alloc)?;
+    assert_replies(&rt, alloc, &mut desk)?;
+    assert_changed_once(&rt, &desk)
 }
 
 #[test]
@@ -72,38 +86,60 @@ fn replies_are_told(rt: HostRuntime) -> Result<(), Fail> {
     Ok(())
 }
 
-#[test]
-fn prepared_request_counts_when_committed(rt: HostRuntime) -> Result<(), Fail> {
-    let alloc = rt.alloc();
-    let mut desk = opened(&rt)?;
-    let batch = removal(&rt, 1, 1)?;
-    let prepared = desk.prepare(alloc, 2, Request { base: 0, batch })?;
+// What is prepared is the next version and its entry.
+fn assert_prepared(rt: &impl Abort, prepared: &Prepared) {
     assert_eq!(rt; prepared.published().version(), 1);
     assert_eq!(rt; prepared.published().run().len(), 0);
     assert_eq!(rt; prepared.entry().session, 2);
     assert_eq!(rt; prepared.entry().reply, Reply::Accepted(1));
-    assert_eq!(rt; desk.version(), 0);
-    assert_eq!(rt; desk.len(), 0);
-    assert_eq!(rt; desk.commit(prepared), Reply::Accepted(1));
+}
+
+// The desk with what was prepared.
+fn assert_committed(rt: &impl Abort, desk: &Desk) {
     // The operation of the opening trace; its removal replays none.
     assert_eq!(rt; desk.meter().count(), 1);
     assert_eq!(rt; desk.version(), 1);
     assert_eq!(rt; desk.published().run().len(), 0);
     assert_eq!(rt; desk.opening().len(), 1);
+}
+
+// A request of session 2 is prepared, which changes no version, and then committed.
+fn assert_commits(rt: &impl Abort, alloc: Global, desk: &mut Desk) -> Result<(), Fail>
+    requires { desk.old.standing.history ≡ [] }
+{
+    let batch = removal(alloc, 1, 1)?;
+    let prepared = desk.prepare(alloc, 2, Request { base: 0, batch })?;
+    assert_prepared(rt, &prepared);
+    assert_eq!(rt; desk.version(), 0);
+    assert_eq!(rt; desk.len(), 0);
+    assert_eq!(rt; desk.commit(prepared), Reply::Accepted(1));
     Ok(())
+}
+
+#[test]
+fn prepared_request_counts_when_committed(rt: HostRuntime) -> Result<(), Fail> {
+    let alloc = rt.alloc();
+    let mut desk = opened(alloc)?;
+    assert_commits(&rt, alloc, &mut desk)?;
+    assert_committed(&rt, &desk);
+    Ok(())
+}
+
+// How many operations the version would have without its one operation, or none where that is refused.
+fn len_without_it(alloc: Global, published: &Published) -> Result<Option<usize>, Fail> {
+    let batch = removal(alloc, 1, 1)?;
+    match what_if(alloc, published, &batch, &mut Meter::new()) {
+        Ok(run) => Ok(Some(run.len())),
+        Err(_) => Ok(None),
+    }
 }
 
 #[test]
 fn version_asked_what_if_stays(rt: HostRuntime) -> Result<(), Fail> {
     let alloc = rt.alloc();
-    let desk = opened(&rt)?;
-    let batch = removal(&rt, 1, 1)?;
-    let mut meter = Meter::new();
+    let desk = opened(alloc)?;
     let share = desk.published().share()?;
-    match what_if(alloc, &share, &batch, &mut meter) {
-        Ok(run) => assert_eq!(rt; run.len(), 0),
-        Err(_) => assert!(rt; false),
-    }
+    assert_eq!(rt; len_without_it(alloc, &share)?, Some(0));
     let text = export(alloc, share.run())?;
     assert!(rt;
         text.as_slice() == b"{\"fields\":[],\"id\":1,\"op\":\"new\",\"t\":0,\"to\":0}\n".as_slice()
@@ -112,18 +148,20 @@ fn version_asked_what_if_stays(rt: HostRuntime) -> Result<(), Fail> {
     Ok(())
 }
 
+// As many requests for a version that isn't there as a history has room for.
+fn fill(rt: &impl Abort, alloc: Global, desk: &mut Desk) -> Result<(), Fail> {
+    for _ in 0..MAX_ENTRIES {
+        assert!(rt; asked(alloc, desk, 0, 1, 0)? == Reply::Stale(0));
+    }
+    Ok(())
+}
+
 #[test]
 fn full_history(rt: HostRuntime) -> Result<(), Fail> {
     let alloc = rt.alloc();
-    let mut desk = opened(&rt)?;
-    for _ in 0..MAX_ENTRIES {
-        let batch = Sequence::empty(alloc);
-        let reply = desk.answer(alloc, 0, Request { base: 1, batch })?;
-        assert!(rt; reply == Reply::Stale(0));
-    }
-    let batch = removal(&rt, 1, 1)?;
-    let reply = desk.answer(alloc, 0, Request { base: 0, batch })?;
-    assert_eq!(rt; reply, Reply::HistoryFull);
+    let mut desk = opened(alloc)?;
+    fill(&rt, alloc, &mut desk)?;
+    assert_eq!(rt; asked(alloc, &mut desk, 0, 0, 1)?, Reply::HistoryFull);
     assert_eq!(rt; desk.len(), MAX_ENTRIES);
     assert_eq!(rt; desk.version(), 0);
     Ok(())

@@ -1,14 +1,19 @@
 //! How many checkpoints a desk keeps, and which stretches it steps no second time.
-use crate::small_traces::{add, add_pairs, batch, broken_cycle, new, op, two};
+ghost use Rattle.std.specs.Prelude.{◌<◌};
+
+use crate::small_runs::run_of;
+use crate::small_traces::{add, add_pairs, batch, broken_cycle, change, insertion, new, set, two};
 use edit_desk::{Desk, KEPT_CHUNKS, KEPT_MARKS, KEPT_NAMES, Reply, Request};
 use mark_shelf::MarkShelf;
 use object_heap::Heap;
 use op_step::{ChunkRun, Meter, run};
 use run_engine::Run;
 use std::alloc::Global;
+use std::process::Abort;
 use std::test::Fail;
 use trace_types::edits::{Batch, Edit};
 use trace_types::kinds::Kind;
+use trace_types::sequence::Sequence;
 use trace_types::trace::Trace;
 
 // A null pointer is made and dropped in turn.
@@ -20,46 +25,66 @@ fn null_trace(alloc: Global, ops: u32) -> Result<Trace, Fail> {
 fn nulls(alloc: Global, first: u32, last: u32) -> Result<Trace, Fail> {
     let mut trace = Trace::new(alloc);
     for id in first..=last {
-        if id % 2 == 1 {
-            add(&mut trace, id, Kind::Null { to: 0 })?;
+        let kind = if id % 2 == 1 {
+            Kind::Null { to: 0 }
         } else {
-            add(&mut trace, id, Kind::Drop { h: 0 })?;
-        }
+            Kind::Drop { h: 0 }
+        };
+        add(&mut trace, id, kind)?;
     }
     Ok(trace)
 }
 
 fn inserted(alloc: Global, after: u32, id: u32) -> Result<Batch, Fail> {
-    let op = op(id, Kind::Counts { h: 5 })?;
-    batch(alloc, Edit::Insert { after, op })
+    batch(alloc, insertion(after, id, Kind::Counts { h: 5 })?)
 }
 
-// Each request makes a stretch longer by one, so that a checkpoint more would stand in it.
+// How many checkpoints the run of a desk has.
+fn marks(alloc: Global, desk: &Desk) -> Result<usize, Fail> {
+    Ok(desk.published().run().marks(alloc)?.as_slice().len())
+}
+
+// A request that makes a stretch longer by one, so that a checkpoint more would stand in it, and how many stand then.
+fn lengthened(rt: &impl Abort, alloc: Global, desk: &mut Desk, turn: u32) -> Result<usize, Fail>
+    requires { turn < 2_000 }
+{
+    let batch = inserted(alloc, 19_999 - turn % 977, 100_000 + turn)?;
+    let reply = desk.answer(alloc, 0, Request { base: turn, batch })?;
+    assert_eq!(rt; reply, Reply::Accepted(turn + 1));
+    marks(alloc, desk)
+}
+
+// The most checkpoints that stand after any of two thousand such requests.
+fn most_marks(rt: &impl Abort, alloc: Global, desk: &mut Desk) -> Result<usize, Fail> {
+    let mut most = 0;
+    for turn in 0..2_000u32 {
+        let kept = lengthened(rt, alloc, desk, turn)?;
+        assert!(rt; kept <= 1_026);
+        most = most.max(kept);
+    }
+    Ok(most)
+}
+
 #[test]
 fn two_thousand_requests(rt: HostRuntime) -> Result<(), Fail> {
     let alloc = rt.alloc();
     let mut desk = Desk::open(alloc, null_trace(alloc, 20_000)?)?;
-    let mut most = 0;
-    for turn in 0..2_000u32 {
-        let batch = inserted(alloc, 19_999 - turn % 977, 100_000 + turn)?;
-        let reply = desk.answer(alloc, 0, Request { base: turn, batch })?;
-        assert_eq!(rt; reply, Reply::Accepted(turn + 1));
-        let marks = desk.published().run().marks(alloc)?;
-        most = most.max(marks.as_slice().len());
-        assert!(rt; marks.as_slice().len() <= 1_026);
-    }
-    assert_eq!(rt; most, 1_026);
+    assert_eq!(rt; most_marks(&rt, alloc, &mut desk)?, 1_026);
     Ok(())
+}
+
+// The checkpoints that a desk keeps of a trace as it opens.
+fn opening_marks(alloc: Global, trace: Trace) -> Result<Sequence<usize>, Fail> {
+    let mut shelf = MarkShelf::new(alloc, KEPT_MARKS, KEPT_CHUNKS, KEPT_NAMES)?;
+    let run = Run::load_kept(alloc, &trace, &mut shelf, &mut Meter::new())?;
+    Ok(run.marks(alloc)?)
 }
 
 // Of the checkpoints of a long trace the last ones are kept, and the first and the end.
 #[test]
 fn long_trace_is_opened(rt: HostRuntime) -> Result<(), Fail> {
     let alloc = rt.alloc();
-    let trace = null_trace(alloc, 100_000)?;
-    let mut shelf = MarkShelf::new(alloc, KEPT_MARKS, KEPT_CHUNKS, KEPT_NAMES)?;
-    let run = Run::load_kept(alloc, &trace, &mut shelf, &mut Meter::new())?;
-    let marks = run.marks(alloc)?;
+    let marks = opening_marks(alloc, null_trace(alloc, 100_000)?)?;
     let marks = marks.as_slice();
     assert_eq!(rt; marks.len(), KEPT_MARKS + 2);
     assert_eq!(rt; marks.first().copied(), Some(0));
@@ -69,17 +94,55 @@ fn long_trace_is_opened(rt: HostRuntime) -> Result<(), Fail> {
     Ok(())
 }
 
+// A run after an edit over a shelf, and how many operations were stepped for it.
+fn over(alloc: Global, run: &Run, edits: Batch, shelf: &mut MarkShelf) -> Result<(Run, u64), Fail> {
+    let mut meter = Meter::new();
+    let edited = run.edited(alloc, &edits, shelf, &mut meter)?;
+    Ok((edited, meter.count()))
+}
+
 // The shelf has room for two: the restart's name and the new ones are touched, and the checkpoints of others are given up.
 #[test]
 fn touched_checkpoints_stay(rt: HostRuntime) -> Result<(), Fail> {
     let alloc = rt.alloc();
-    let run = Run::load(alloc, &null_trace(alloc, 640)?, &mut Meter::new())?;
+    let run = run_of(alloc, null_trace(alloc, 640)?)?;
     let mut shelf = MarkShelf::new(alloc, 2, 1, 1)?;
-    let edits = inserted(alloc, 100, 1_000)?;
-    let run = run.edited(alloc, &edits, &mut shelf, &mut Meter::new())?;
+    let (run, _) = over(alloc, &run, inserted(alloc, 100, 1_000)?, &mut shelf)?;
     let marks = run.marks(alloc)?;
     let wanted = [0usize, 128, 129, 193, 257, 321, 385, 449, 513, 577, 641];
     assert!(rt; marks.as_slice() == wanted.as_slice());
+    Ok(())
+}
+
+// An object, and behind it others that come and go.
+fn pairs(alloc: Global) -> Result<Trace, Fail> {
+    let mut trace = Trace::new(alloc);
+    add(&mut trace, 1, new(alloc, 0, &[])?)?;
+    add_pairs(alloc, &mut trace, 2, 192)?;
+    Ok(trace)
+}
+
+// Operation 1 makes a null pointer, except in the second turn, where it makes an object.
+fn first_made(alloc: Global, turn: usize) -> Result<Batch, Fail> {
+    let kind = match turn {
+        1 => new(alloc, 0, &[])?,
+        _ => Kind::Null { to: 0 },
+    };
+    batch(alloc, change(1, kind)?)
+}
+
+// Each of three edits steps so many operations.
+fn assert_steps(
+    rt: &impl Abort,
+    alloc: Global,
+    run: &mut Run,
+    shelf: &mut MarkShelf,
+) -> Result<(), Fail> {
+    for (turn, due) in [192u64, 192, 128].iter().enumerate() {
+        let (edited, steps) = over(alloc, run, first_made(alloc, turn)?, shelf)?;
+        assert_eq!(rt; steps, *due);
+        *run = edited;
+    }
     Ok(())
 }
 
@@ -88,45 +151,37 @@ fn touched_checkpoints_stay(rt: HostRuntime) -> Result<(), Fail> {
 #[test]
 fn chunk_behind_a_checkpoint_given_up(rt: HostRuntime) -> Result<(), Fail> {
     let alloc = rt.alloc();
-    let mut trace = Trace::new(alloc);
-    add(&mut trace, 1, new(alloc, 0, &[])?)?;
-    add_pairs(alloc, &mut trace, 2, 192)?;
     let mut shelf = MarkShelf::new(alloc, 1, 8, 8)?;
-    let mut run = Run::load_kept(alloc, &trace, &mut shelf, &mut Meter::new())?;
-    for (turn, rise) in [192u64, 192, 128].iter().enumerate() {
-        let kind = match turn {
-            1 => new(alloc, 0, &[])?,
-            _ => Kind::Null { to: 0 },
-        };
-        let edit = Edit::Change {
-            id: 1,
-            op: op(1, kind)?,
-        };
-        let mut meter = Meter::new();
-        run = run.edited(alloc, &batch(alloc, edit)?, &mut shelf, &mut meter)?;
-        assert_eq!(rt; meter.count(), *rise);
-    }
+    let mut run = Run::load_kept(alloc, &pairs(alloc)?, &mut shelf, &mut Meter::new())?;
+    assert_steps(&rt, alloc, &mut run, &mut shelf)?;
     assert_eq!(rt; run.marks(alloc)?.as_slice().len(), 2);
     Ok(())
 }
 
 // The operation makes a Weak to no allocation in place of a null pointer.
 fn dangling(id: u32) -> Result<Edit, Fail> {
-    let op = op(id, Kind::WeakNew { to: 0 })?;
-    Ok(Edit::Change { id, op })
+    change(id, Kind::WeakNew { to: 0 })
 }
 
-// How many operations an edit of operations 1 and 249 steps: behind 64 a stretch of 128 operations may serve, since the checkpoint in it
-// is given up.
-fn rise_over(alloc: Global, shelf: &mut MarkShelf) -> Result<u64, Fail> {
-    let mut run = Run::load(alloc, &null_trace(alloc, 256)?, &mut Meter::new())?;
+// A run in which a stretch of 128 operations follows behind 64, since the checkpoint in it is given up.
+fn with_a_long_stretch(alloc: Global) -> Result<Run, Fail> {
+    let mut run = run_of(alloc, null_trace(alloc, 256)?)?;
     if !run.give_up(128) {
         return Err(Fail::from("no checkpoint"));
     }
-    let edits = two(alloc, dangling(1)?, dangling(249)?)?;
-    let mut meter = Meter::new();
-    run.edited(alloc, &edits, shelf, &mut meter)?;
-    Ok(meter.count())
+    Ok(run)
+}
+
+// How many operations an edit of operations 1 and 249 of that run steps: the long stretch may serve.
+fn rise_over(alloc: Global, shelf: &mut MarkShelf) -> Result<u64, Fail> {
+    let run = with_a_long_stretch(alloc)?;
+    let (_, steps) = over(
+        alloc,
+        &run,
+        two(alloc, dangling(1)?, dangling(249)?)?,
+        shelf,
+    )?;
+    Ok(steps)
 }
 
 // The operations as a chunk that begins with nothing.
@@ -160,36 +215,52 @@ fn rise(alloc: Global, desk: &mut Desk, edit: Edit) -> Result<u64, Fail> {
     Ok(desk.meter().count() - before)
 }
 
+// Operation 8 goes and comes again, by turns; in the end operation 7 goes.
+fn turned(turn: usize) -> Result<Edit, Fail> {
+    match turn {
+        0 | 2 => Ok(Edit::Remove { id: 8 }),
+        1 | 3 => insertion(7, 8, set(0, 4)),
+        _ => Ok(Edit::Remove { id: 7 }),
+    }
+}
+
+// Each of these turns steps so many operations.
+fn assert_rises(rt: &impl Abort, alloc: Global, desk: &mut Desk) -> Result<(), Fail> {
+    for (turn, steps) in [63u64, 64, 0, 0, 63].iter().enumerate() {
+        assert_eq!(rt; rise(alloc, desk, turned(turn)?)?, *steps);
+    }
+    Ok(())
+}
+
 // The first stretch without operation 8, with it again, and so once more: then both are known. Without operation 7 it has the name
 // of the first, and other operations.
 #[test]
 fn memo_by_content(rt: HostRuntime) -> Result<(), Fail> {
     let alloc = rt.alloc();
     let mut desk = Desk::open(alloc, broken_cycle(alloc)?)?;
-    for (turn, steps) in [63u64, 64, 0, 0, 63].iter().enumerate() {
-        let set = Kind::Set {
-            h: 0,
-            i: 0,
-            from: 4,
-        };
-        let edit = match turn {
-            0 | 2 => Edit::Remove { id: 8 },
-            1 | 3 => Edit::Insert {
-                after: 7,
-                op: op(8, set)?,
-            },
-            _ => Edit::Remove { id: 7 },
-        };
-        assert_eq!(rt; rise(alloc, &mut desk, edit)?, *steps);
-    }
-    Ok(())
+    assert_rises(&rt, alloc, &mut desk)
 }
 
 // Takes operation 2 out of the first stretch, and puts it back: two stretches, each of a name of its own.
 fn take_and_put(alloc: Global, desk: &mut Desk) -> Result<(), Fail> {
     rise(alloc, desk, Edit::Remove { id: 2 })?;
-    let op = op(2, Kind::Drop { h: 0 })?;
-    rise(alloc, desk, Edit::Insert { after: 1, op })?;
+    rise(alloc, desk, insertion(1, 2, Kind::Drop { h: 0 })?)?;
+    Ok(())
+}
+
+// Steps so many other stretches, each of a name of its own. Where the first stretch is asked for `again`, it is also found by the way.
+fn step_others(alloc: Global, desk: &mut Desk, others: u32, again: bool) -> Result<(), Fail> {
+    let mut left = others;
+    for id in 65..1_280u32 {
+        // A stretch goes by its first operation and its length, and the last one drops what the first one made: both stay.
+        if left > 0 && id % 64 > 1 {
+            left -= 1;
+            rise(alloc, desk, Edit::Remove { id })?;
+            if again && left % 100 == 50 {
+                take_and_put(alloc, desk)?;
+            }
+        }
+    }
     Ok(())
 }
 
@@ -198,17 +269,7 @@ fn take_and_put(alloc: Global, desk: &mut Desk) -> Result<(), Fail> {
 fn rise_after(alloc: Global, others: u32, again: bool) -> Result<u64, Fail> {
     let mut desk = Desk::open(alloc, null_trace(alloc, 1_280)?)?;
     take_and_put(alloc, &mut desk)?;
-    let mut left = others;
-    for id in 65..1_280u32 {
-        // A stretch goes by its first operation and its length, and the last one drops what the first one made: both stay.
-        if left > 0 && id % 64 > 1 {
-            left -= 1;
-            rise(alloc, &mut desk, Edit::Remove { id })?;
-            if again && left % 100 == 50 {
-                take_and_put(alloc, &mut desk)?;
-            }
-        }
-    }
+    step_others(alloc, &mut desk, others, again)?;
     rise(alloc, &mut desk, Edit::Remove { id: 2 })
 }
 

@@ -16,4 +16,6 @@ mod relabelled;
 #[cfg(test)]
 mod runs;
 #[cfg(test)]
+mod small_runs;
+#[cfg(test)]
 mod small_traces;

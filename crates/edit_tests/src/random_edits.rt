@@ -2,7 +2,8 @@
 //! were given up: each run is what a replay from nothing gives.
 ghost use Rattle.std.specs.Prelude.{◌<◌};
 
-use crate::small_traces::{add, batch, has_outcome, new, op_of};
+use crate::small_runs::{has_outcome, run_of};
+use crate::small_traces::{add, batch, insertion, new, op};
 use mark_shelf::MarkShelf;
 use op_step::Meter;
 use op_step::replay::replay;
@@ -11,7 +12,6 @@ use std::alloc::Global;
 use std::test::Fail;
 use trace_types::edits::{Batch, Edit};
 use trace_types::kinds::{Field, Kind};
-use trace_types::ops::Op;
 use trace_types::trace::Trace;
 
 const TRACES: u32 = 100;
@@ -73,7 +73,7 @@ fn rolled_trace(alloc: Global, dice: &mut Dice) -> Result<Trace, Fail> {
 // An edit near the front, whose new operation, if it has one, has a number of its own.
 fn rolled_edit(alloc: Global, dice: &mut Dice, id: u32) -> Result<Batch, Fail> {
     let at = dice.roll(OPS / 2) + 1;
-    let op: Op = op_of(id, 0, rolled(alloc, dice)?)?;
+    let op = op(id, rolled(alloc, dice)?)?;
     let edit = match dice.roll(3) {
         0 => Edit::Insert { after: at, op },
         1 => Edit::Change { id: at, op },
@@ -87,8 +87,7 @@ fn turned(alloc: Global, is_there: bool) -> Result<Batch, Fail> {
     if is_there {
         return batch(alloc, Edit::Remove { id: TURNED });
     }
-    let op = op_of(TURNED, 0, Kind::Counts { h: 0 })?;
-    batch(alloc, Edit::Insert { after: 0, op })
+    batch(alloc, insertion(0, TURNED, Kind::Counts { h: 0 })?)
 }
 
 fn give_up_some(alloc: Global, run: &mut Run, dice: &mut Dice) -> Result<(), Fail> {
@@ -113,58 +112,115 @@ fn is_replay(alloc: Global, run: &Run) -> Result<bool, Fail> {
     Ok(same && outcomes.as_slice().len() == run.len())
 }
 
-// How many edits of one trace are made, how many of them stop early though the ends differ, and how many step nothing.
-fn told(alloc: Global, seed: u32) -> Result<(u32, u32, u32), Fail> {
+// How many edits were made, how many of them stopped early though the ends differ, and how many stepped nothing.
+#[derive(Clone, Copy)]
+struct Tally {
+    made: u32,
+    early: u32,
+    known: u32,
+}
+
+impl Tally {
+    fn nothing() -> Tally {
+        Tally {
+            made: 0,
+            early: 0,
+            known: 0,
+        }
+    }
+
+    // An edit that was made, and how many operations were stepped for it.
+    fn count(&mut self, is_same_end: bool, steps: u64) {
+        self.made = self.made.saturating_add(1);
+        if steps <= 128 && !is_same_end {
+            self.early = self.early.saturating_add(1);
+        }
+        if steps == 0 {
+            self.known = self.known.saturating_add(1);
+        }
+    }
+
+    fn add(&mut self, other: Tally) {
+        self.made = self.made.saturating_add(other.made);
+        self.early = self.early.saturating_add(other.early);
+        self.known = self.known.saturating_add(other.known);
+    }
+}
+
+// The run after edits, which is that of a replay, or none where they are refused.
+fn edited_once(
+    alloc: Global,
+    run: &Run,
+    edits: &Batch,
+    shelf: &mut MarkShelf,
+    tally: &mut Tally,
+) -> Result<Option<Run>, Fail> {
+    let mut meter = Meter::new();
+    let Ok(edited) = run.edited(alloc, edits, shelf, &mut meter) else {
+        return Ok(None);
+    };
+    if !is_replay(alloc, &edited)? {
+        return Err(Fail::from("another replay"));
+    }
+    tally.count(edited.end().same(run.end()), meter.count());
+    Ok(Some(edited))
+}
+
+// The edits of a turn.
+fn rolled_edits(
+    alloc: Global,
+    dice: &mut Dice,
+    turns: bool,
+    is_there: bool,
+    id: u32,
+) -> Result<Batch, Fail> {
+    if turns {
+        turned(alloc, is_there)
+    } else {
+        rolled_edit(alloc, dice, id)
+    }
+}
+
+// Edits of a run, one after another, over a shelf.
+fn edited_often(
+    alloc: Global,
+    dice: &mut Dice,
+    run: &mut Run,
+    shelf: &mut MarkShelf,
+) -> Result<Tally, Fail> {
+    let mut tally = Tally::nothing();
+    let mut is_there = false;
+    for turn in 0..EDITS {
+        give_up_some(alloc, run, dice)?;
+        let turns = dice.roll(3) == 0;
+        let edits = rolled_edits(alloc, dice, turns, is_there, 1000 + turn)?;
+        // an operation that went in an earlier turn can't be edited
+        if let Some(edited) = edited_once(alloc, run, &edits, shelf, &mut tally)? {
+            is_there = is_there != turns;
+            *run = edited;
+        }
+    }
+    Ok(tally)
+}
+
+// The edits of one trace.
+fn told(alloc: Global, seed: u32) -> Result<Tally, Fail> {
     let mut dice = Dice { state: seed };
-    let mut run = Run::load(alloc, &rolled_trace(alloc, &mut dice)?, &mut Meter::new())?;
+    let mut run = run_of(alloc, rolled_trace(alloc, &mut dice)?)?;
     // a shelf with few names answers most that an edit touches
     let marks = if seed % 2 == 0 { 64 } else { 3 };
     let mut shelf = MarkShelf::new(alloc, marks, 32, 32)?;
-    let mut made = 0u32;
-    let mut early = 0u32;
-    let mut known = 0u32;
-    let mut is_there = false;
-    for turn in 0..EDITS {
-        give_up_some(alloc, &mut run, &mut dice)?;
-        let turns = dice.roll(3) == 0;
-        let edits = if turns {
-            turned(alloc, is_there)?
-        } else {
-            rolled_edit(alloc, &mut dice, 1000 + turn)?
-        };
-        let mut meter = Meter::new();
-        // an operation that went in an earlier turn can't be edited
-        if let Ok(edited) = run.edited(alloc, &edits, &mut shelf, &mut meter) {
-            if !is_replay(alloc, &edited)? {
-                return Err(Fail::from("another replay"));
-            }
-            if meter.count() <= 128 && !edited.end().same(run.end()) {
-                early = early.saturating_add(1);
-            }
-            if meter.count() == 0 {
-                known = known.saturating_add(1);
-            }
-            made = made.saturating_add(1);
-            is_there = is_there != turns;
-            run = edited;
-        }
-    }
-    Ok((made, early, known))
+    edited_often(alloc, &mut dice, &mut run, &mut shelf)
 }
 
 #[test]
 fn edited_runs_are_replays(rt: HostRuntime) -> Result<(), Fail> {
-    let mut made = 0u32;
-    let mut early = 0u32;
-    let mut known = 0u32;
+    let mut tally = Tally::nothing();
     for seed in 0..TRACES {
-        let (edited, stopped, found) = told(rt.alloc(), seed)?;
-        made = made.saturating_add(edited);
-        early = early.saturating_add(stopped);
-        known = known.saturating_add(found);
+        tally.add(told(rt.alloc(), seed)?);
     }
-    assert!(rt; made >= MADE);
-    assert!(rt; early > 0);
-    assert!(rt; known > 0);
+    assert!(rt; tally.made >= MADE);
+    assert!(rt; tally.early > 0);
+    assert!(rt; tally.known > 0);
     Ok(())
 }

@@ -1,7 +1,9 @@
 //! An operation of another label: where the replay stops, and what the report says.
-use crate::small_traces::{add, add_pairs, batch, edited_alone, new, op_of};
+use crate::small_runs::{after, run_of};
+use crate::small_traces::{add, add_of, add_pairs, new, op_of};
 use leak_report::report::report;
 use leak_report::{report_of_stretches, text_of};
+use object_heap::Heap;
 use op_step::Meter;
 use op_step::replay::replay;
 use run_engine::Run;
@@ -11,25 +13,24 @@ use trace_reader::read_trace;
 use trace_types::edits::Edit;
 use trace_types::kinds::{Field, Kind};
 use trace_types::ops::Op;
+use trace_types::outcomes::Outcome;
 use trace_types::trace::Trace;
 
-// The report of the run of a trace, where one operation has become another. The meter counts what this edit steps.
-fn reported_with(
-    alloc: Global,
-    trace: &Trace,
-    changed: Op,
-    meter: &mut Meter,
-) -> Result<String, Fail> {
-    let run = Run::load(alloc, trace, &mut Meter::new())?;
+// The report of a run.
+fn run_shown(alloc: Global, run: &Run) -> Result<String, Fail> {
+    let shown = report_of_stretches(alloc, run.stretches(alloc)?, run.end())?;
+    Ok(text_of(alloc, &shown)?)
+}
+
+// The report of the run of a trace, where one operation has become another, and how many operations this edit steps.
+fn reported_with(alloc: Global, trace: Trace, changed: Op) -> Result<(String, u64), Fail> {
+    let run = run_of(alloc, trace)?;
     let edit = Edit::Change {
         id: changed.id(),
         op: changed,
     };
-    let edited = edited_alone(&run, alloc, &batch(alloc, edit)?, meter).map_err(|_| Fail::from(
-        "a refusal",
-    ))?;
-    let shown = report_of_stretches(alloc, edited.stretches(alloc)?, edited.end())?;
-    Ok(text_of(alloc, &shown)?)
+    let (edited, steps) = after(alloc, &run, edit)?;
+    Ok((run_shown(alloc, &edited)?, steps))
 }
 
 const TWO_LABELS: &str = "\
@@ -46,9 +47,9 @@ const TWO_LABELS: &str = "\
 #[test]
 fn scope_end_relabelled(rt: HostRuntime) -> Result<(), Fail> {
     let alloc = rt.alloc();
-    let trace = read_trace(alloc, TWO_LABELS.as_bytes()).map_err(|_| Fail::from("a fault"))?;
+    let trace = read_trace(alloc, TWO_LABELS.as_bytes())?;
     let other = op_of(5, 1, new(alloc, 4, &[Field::Held(2)])?)?;
-    let text = reported_with(alloc, &trace, other, &mut Meter::new())?;
+    let (text, _) = reported_with(alloc, trace, other)?;
     assert_eq!(rt;
         text.as_str(),
         "\
@@ -69,37 +70,40 @@ total 8 ops 0 skipped 3 objects 0 alive 0 leaks 0 husks
     Ok(())
 }
 
-fn push(trace: &mut Trace, op: Op) -> Result<(), Fail> {
-    trace.push(op).map_err(|_| Fail::from("refused"))?;
-    Ok(())
-}
-
 // A handle of label 0 or 1, objects that come and go, and the end of the scope of label 1 far behind.
 fn far_scope_end(alloc: Global, label: u32) -> Result<Trace, Fail> {
     let mut trace = Trace::new(alloc);
-    push(&mut trace, op_of(1, label, Kind::Null { to: 0 })?)?;
+    add_of(&mut trace, 1, label, Kind::Null { to: 0 })?;
     add_pairs(alloc, &mut trace, 2, 129)?;
-    push(&mut trace, op_of(130, 1, Kind::ScopeEnd)?)?;
+    add_of(&mut trace, 130, 1, Kind::ScopeEnd)?;
     add(&mut trace, 131, Kind::Drop { h: 0 })?;
     Ok(trace)
+}
+
+// The report of a trace, its outcomes and the heap that they end with.
+fn shown(alloc: Global, trace: &Trace, outcomes: &[Outcome], end: &Heap) -> Result<String, Fail> {
+    if outcomes.len() != trace.len() {
+        return Err(Fail::from("as many outcomes as operations"));
+    }
+    let shown = report(alloc, trace, outcomes, end)?;
+    Ok(text_of(alloc, &shown)?)
+}
+
+// The report of the replay of the trace from nothing.
+fn reported(alloc: Global, trace: &Trace) -> Result<String, Fail> {
+    let (outcomes, end) = replay(alloc, trace, &mut Meter::new())?;
+    shown(alloc, trace, outcomes.as_slice(), &end)
 }
 
 // Two states that differ in the label of a handle alone do not agree, so that the old checkpoints are not taken.
 #[test]
 fn scopes_differ(rt: HostRuntime) -> Result<(), Fail> {
     let alloc = rt.alloc();
-    let trace = far_scope_end(alloc, 0)?;
     let other = op_of(1, 1, Kind::Null { to: 0 })?;
-    let mut meter = Meter::new();
-    let text = reported_with(alloc, &trace, other, &mut meter)?;
-    assert_eq!(rt; meter.count(), 131);
-    let edited = far_scope_end(alloc, 1)?;
-    let (outcomes, end) = replay(alloc, &edited, &mut Meter::new())?;
-    if outcomes.len() != edited.len() {
-        return Err(Fail::from("as many outcomes as operations"));
-    }
-    let shown = report(alloc, &edited, outcomes.as_slice(), &end)?;
-    assert!(rt; text.as_str() == text_of(alloc, &shown)?.as_str());
+    let (text, steps) = reported_with(alloc, far_scope_end(alloc, 0)?, other)?;
+    assert_eq!(rt; steps, 131);
+    let wanted = reported(alloc, &far_scope_end(alloc, 1)?)?;
+    assert!(rt; text.as_str() == wanted.as_str());
     assert!(rt;
         text.as_str()
             .contains("\n130 scope_end done\n131 drop skipped NotHeld 0\n")

@@ -1,65 +1,63 @@
 //! Runs of small traces, and what edits make of them.
-use crate::small_traces::{
-    add_cycle, are_marks, batch, broken_cycle, edited_alone, has_outcome, new, op, op_of, two,
-};
+use crate::small_runs::{after, after_two, are_marks, assert_refused, has_outcome, run_of};
+use crate::small_traces::{add_cycle, batch, broken_cycle, change, insertion, new, op_of, two};
 use op_step::Meter;
 use run_engine::{Run, RunFault, apply};
+use std::alloc::Global;
+use std::process::Abort;
 use std::test::Fail;
 use trace_types::edits::Edit;
 use trace_types::kinds::Kind;
 use trace_types::sequence::Sequence;
 use trace_types::trace::Trace;
 
+// Whether the run tells as many outcomes as these, each of them the same.
+fn assert_copied(rt: &impl Abort, alloc: Global, run: &Run) -> Result<(), Fail> {
+    let copies = run.outcomes(alloc)?;
+    assert_eq!(rt; copies.as_slice().len(), 6);
+    for (place, copy) in copies.as_slice().iter().enumerate() {
+        assert!(rt; has_outcome(run, place, copy));
+    }
+    Ok(())
+}
+
+// How many outcomes the last stretch lends.
+fn lent(alloc: Global, run: &Run) -> Result<usize, Fail> {
+    let mut lent = 0;
+    for stretch in &run.stretches(alloc)? {
+        lent = stretch.outcomes.len();
+    }
+    Ok(lent)
+}
+
 #[test]
 fn outcomes_are_copied_or_lent(rt: HostRuntime) -> Result<(), Fail> {
     let alloc = rt.alloc();
     let mut trace = Trace::new(alloc);
     add_cycle(alloc, &mut trace)?;
-    let run = Run::load(alloc, &trace, &mut Meter::new())?;
-    let copies = run.outcomes(alloc)?;
-    assert_eq!(rt; copies.as_slice().len(), 6);
-    for (place, copy) in copies.as_slice().iter().enumerate() {
-        assert!(rt; has_outcome(&run, place, copy));
-    }
-    let mut lent = 0;
-    for stretch in &run.stretches(alloc)? {
-        lent = stretch.outcomes.len();
-    }
-    assert_eq!(rt; lent, 6);
+    let run = run_of(alloc, trace)?;
+    assert_copied(&rt, alloc, &run)?;
+    assert_eq!(rt; lent(alloc, &run)?, 6);
     Ok(())
+}
+
+// Operation 3 with another label, whose outcome is the same.
+fn labelled() -> Result<Edit, Fail> {
+    let op = op_of(3, 1, Kind::Clone { from: 0, to: 2 })?;
+    Ok(Edit::Change { id: 3, op })
 }
 
 #[test]
 fn stretches_kept(rt: HostRuntime) -> Result<(), Fail> {
     let alloc = rt.alloc();
-    let mut meter = Meter::new();
-    let run = Run::load(alloc, &broken_cycle(alloc)?, &mut meter)?;
-    let labelled = op_of(3, 1, Kind::Clone { from: 0, to: 2 })?;
-    let null = op(3000, Kind::Null { to: 30 })?;
-    let edits = two(
-        alloc,
-        Edit::Change {
-            id: 3,
-            op: labelled,
-        },
-        Edit::Insert {
-            after: 1000,
-            op: null,
-        },
-    )?;
-    let mut meter = Meter::new();
-    let edited = edited_alone(&run, alloc, &edits, &mut meter)?;
-    assert_eq!(rt; meter.count(), 116);
+    let run = run_of(alloc, broken_cycle(alloc)?)?;
+    let null = insertion(1000, 3000, Kind::Null { to: 30 })?;
+    let (edited, steps) = after_two(alloc, &run, labelled()?, null)?;
+    assert_eq!(rt; steps, 116);
     assert!(rt; are_marks(alloc, &edited, &[], 0, 1012)?);
-    let null = op(4000, Kind::Null { to: 31 })?;
-    let edits = two(
-        alloc,
-        Edit::Insert { after: 0, op: null },
-        Edit::Remove { id: 4000 },
-    )?;
-    let mut meter = Meter::new();
-    let edited = edited_alone(&run, alloc, &edits, &mut meter)?;
-    assert_eq!(rt; meter.count(), 0);
+    let null = insertion(0, 4000, Kind::Null { to: 31 })?;
+    let (edited, steps) = after_two(alloc, &run, null, Edit::Remove { id: 4000 })?;
+    assert_eq!(rt; steps, 0);
     assert_eq!(rt; edited.len(), 1011);
     Ok(())
 }
@@ -68,44 +66,31 @@ fn stretches_kept(rt: HostRuntime) -> Result<(), Fail> {
 #[test]
 fn last_stretch_is_kept(rt: HostRuntime) -> Result<(), Fail> {
     let alloc = rt.alloc();
-    let mut meter = Meter::new();
-    let run = Run::load(alloc, &broken_cycle(alloc)?, &mut meter)?;
-    let labelled = op_of(3, 1, Kind::Clone { from: 0, to: 2 })?;
-    let null = op(3000, Kind::Null { to: 30 })?;
-    let edits = two(
-        alloc,
-        Edit::Change {
-            id: 3,
-            op: labelled,
-        },
-        Edit::Insert {
-            after: 1011,
-            op: null,
-        },
-    )?;
-    let mut meter = Meter::new();
-    let edited = edited_alone(&run, alloc, &edits, &mut meter)?;
-    assert_eq!(rt; meter.count(), 65);
+    let run = run_of(alloc, broken_cycle(alloc)?)?;
+    let null = insertion(1011, 3000, Kind::Null { to: 30 })?;
+    let (edited, steps) = after_two(alloc, &run, labelled()?, null)?;
+    assert_eq!(rt; steps, 65);
     assert_eq!(rt; edited.len(), 1012);
     Ok(())
+}
+
+// Only a checkpoint that stands, other than the first and the end, is given up.
+fn assert_given_up(rt: &impl Abort, run: &mut Run) {
+    assert!(rt; run.give_up(64));
+    for place in [64usize, 0, 63, 1011] {
+        assert!(rt; !run.give_up(place));
+    }
 }
 
 #[test]
 fn a_checkpoint_is_given_up(rt: HostRuntime) -> Result<(), Fail> {
     let alloc = rt.alloc();
-    let mut meter = Meter::new();
-    let mut run = Run::load(alloc, &broken_cycle(alloc)?, &mut meter)?;
-    assert!(rt; run.give_up(64));
-    assert!(rt; !run.give_up(64));
-    assert!(rt; !run.give_up(0));
-    assert!(rt; !run.give_up(63));
-    assert!(rt; !run.give_up(1011));
+    let mut run = run_of(alloc, broken_cycle(alloc)?)?;
+    assert_given_up(&rt, &mut run);
     assert!(rt; are_marks(alloc, &run, &[0], 128, 1011)?);
-    let same = op(70, new(alloc, 9, &[])?)?;
-    let edits = batch(alloc, Edit::Change { id: 70, op: same })?;
-    let mut meter = Meter::new();
-    let edited = edited_alone(&run, alloc, &edits, &mut meter)?;
-    assert_eq!(rt; meter.count(), 0);
+    let same = change(70, new(alloc, 9, &[])?)?;
+    let (edited, steps) = after(alloc, &run, same)?;
+    assert_eq!(rt; steps, 0);
     assert!(rt; are_marks(alloc, &edited, &[0], 128, 1011)?);
     Ok(())
 }
@@ -113,43 +98,28 @@ fn a_checkpoint_is_given_up(rt: HostRuntime) -> Result<(), Fail> {
 #[test]
 fn refusals_replay_nothing(rt: HostRuntime) -> Result<(), Fail> {
     let alloc = rt.alloc();
-    let mut meter = Meter::new();
-    let run = Run::load(alloc, &broken_cycle(alloc)?, &mut meter)?;
-    let mut meter = Meter::new();
+    let run = run_of(alloc, broken_cycle(alloc)?)?;
     let unknown = batch(alloc, Edit::Remove { id: 5000 })?;
-    let fault = edited_alone(&run, alloc, &unknown, &mut meter).err();
-    assert_eq!(rt; fault, Some(RunFault::NoSuchOp(0)));
-    let taken = op(12, Kind::Null { to: 30 })?;
-    let edits = two(
-        alloc,
-        Edit::Remove { id: 11 },
-        Edit::Insert {
-            after: 5,
-            op: taken,
-        },
-    )?;
-    let fault = edited_alone(&run, alloc, &edits, &mut meter).err();
-    assert_eq!(rt; fault, Some(RunFault::IdTaken(1)));
-    let fault = edited_alone(&run, alloc, &Sequence::empty(alloc), &mut meter).err();
-    assert_eq!(rt; fault, Some(RunFault::EmptyBatch));
-    assert_eq!(rt; meter.count(), 0);
+    assert_refused(&rt, alloc, &run, unknown, RunFault::NoSuchOp(0));
+    let taken = insertion(5, 12, Kind::Null { to: 30 })?;
+    let edits = two(alloc, Edit::Remove { id: 11 }, taken)?;
+    assert_refused(&rt, alloc, &run, edits, RunFault::IdTaken(1));
+    let none = Sequence::empty(alloc);
+    assert_refused(&rt, alloc, &run, none, RunFault::EmptyBatch);
     Ok(())
+}
+
+// The trace without its first operation, and with one more behind the last.
+fn without_the_first(alloc: Global) -> Result<Trace, Fail> {
+    let null = insertion(1011, 2000, Kind::Null { to: 30 })?;
+    let edits = two(alloc, null, Edit::Remove { id: 1 })?;
+    let trace = broken_cycle(alloc)?;
+    Ok(apply(alloc, &trace, &edits)?)
 }
 
 #[test]
 fn a_trace_is_edited(rt: HostRuntime) -> Result<(), Fail> {
-    let alloc = rt.alloc();
-    let trace = broken_cycle(alloc)?;
-    let null = op(2000, Kind::Null { to: 30 })?;
-    let edits = two(
-        alloc,
-        Edit::Insert {
-            after: 1011,
-            op: null,
-        },
-        Edit::Remove { id: 1 },
-    )?;
-    let edited = apply(alloc, &trace, &edits)?;
+    let edited = without_the_first(rt.alloc())?;
     assert_eq!(rt; edited.len(), 1011);
     assert_eq!(rt; edited.place(2), Some(0));
     assert_eq!(rt; edited.place(2000), Some(1010));

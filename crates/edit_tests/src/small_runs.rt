@@ -1,0 +1,132 @@
+//! Runs of small traces, their edits, and what is asked of them.
+use crate::small_traces::{batch, two};
+use edit_desk::{KEPT_CHUNKS, KEPT_MARKS, KEPT_NAMES};
+use leak_report::find_leaks;
+use mark_shelf::MarkShelf;
+use op_step::Meter;
+use run_engine::{Run, RunFault};
+use std::alloc::Global;
+use std::process::Abort;
+use std::test::Fail;
+use trace_types::edits::{Batch, Edit};
+use trace_types::outcomes::{Answer, Counts, Event, Outcome, Reason, Verdict};
+use trace_types::trace::Trace;
+
+pub fn run_of(alloc: Global, trace: Trace) -> Result<Run, Fail> {
+    Ok(Run::load(alloc, &trace, &mut Meter::new())?)
+}
+
+/// The run of the trace after edits, over a shelf of its own as large as a desk's.
+pub fn edited_alone(
+    run: &Run,
+    alloc: Global,
+    batch: &Batch,
+    meter: &mut Meter,
+) -> Result<Run, RunFault> {
+    let mut shelf = MarkShelf::new(alloc, KEPT_MARKS, KEPT_CHUNKS, KEPT_NAMES)?;
+    run.edited(alloc, batch, &mut shelf, meter)
+}
+
+// Such a run, and how many operations were stepped for it.
+fn after_edits(alloc: Global, run: &Run, edits: Batch) -> Result<(Run, u64), Fail> {
+    let mut meter = Meter::new();
+    let edited = edited_alone(run, alloc, &edits, &mut meter)?;
+    Ok((edited, meter.count()))
+}
+
+/// The run after one edit, and how many operations were stepped for it.
+pub fn after(alloc: Global, run: &Run, edit: Edit) -> Result<(Run, u64), Fail> {
+    after_edits(alloc, run, batch(alloc, edit)?)
+}
+
+/// The run after two edits, and how many operations were stepped for it.
+pub fn after_two(alloc: Global, run: &Run, first: Edit, second: Edit) -> Result<(Run, u64), Fail> {
+    after_edits(alloc, run, two(alloc, first, second)?)
+}
+
+/// The edits are refused for this cause, and no operation is stepped.
+pub fn assert_refused(rt: &impl Abort, alloc: Global, run: &Run, edits: Batch, due: RunFault) {
+    let mut meter = Meter::new();
+    let fault = edited_alone(run, alloc, &edits, &mut meter).err();
+    assert_eq!(rt; fault, Some(due));
+    assert_eq!(rt; meter.count(), 0);
+}
+
+// What is wanted of the outcome of one operation.
+#[derive(Clone, Copy)]
+pub struct Told<'a> {
+    id: u32,
+    verdict: Verdict,
+    counts: Option<Counts>,
+    events: &'a [Event],
+}
+
+pub fn did<'a>(id: u32, answer: Answer, counts: Option<Counts>, events: &'a [Event]) -> Told<'a> {
+    Told {
+        id,
+        verdict: Verdict::Did(answer),
+        counts,
+        events,
+    }
+}
+
+pub fn skipped(id: u32, reason: Reason) -> Told<'static> {
+    Told {
+        id,
+        verdict: Verdict::Skipped(reason),
+        counts: None,
+        events: &[],
+    }
+}
+
+pub fn counts(object: u32, strong: u64, weak: u64) -> Option<Counts> {
+    Some(Counts {
+        object,
+        strong,
+        weak,
+    })
+}
+
+/// Whether the run tells this of the operation at a place.
+pub fn tells(run: &Run, place: usize, told: Told) -> bool {
+    match run.outcome(place) {
+        Some(outcome) => {
+            outcome.id == told.id
+                && outcome.verdict == told.verdict
+                && outcome.counts == told.counts
+                && outcome.events.as_slice() == told.events
+        }
+        None => false,
+    }
+}
+
+pub fn has_outcome(run: &Run, place: usize, outcome: &Outcome) -> bool {
+    match run.outcome(place) {
+        Some(known) => known.same(outcome),
+        None => false,
+    }
+}
+
+/// How many objects leak in the end.
+pub fn leaks(alloc: Global, run: &Run) -> Result<usize, Fail> {
+    Ok(find_leaks(alloc, run.end())?.leaked.len())
+}
+
+// The first place, then a place every 64, up to the last.
+pub fn are_marks(
+    alloc: Global,
+    run: &Run,
+    first: &[usize],
+    from: usize,
+    last: usize,
+) -> Result<bool, Fail> {
+    let mut wanted = Vec::from_slice(alloc, first)?;
+    for at in from..last {
+        if (at - from) % 64 == 0 {
+            wanted.push(at)?;
+        }
+    }
+    wanted.push(last)?;
+    let marks = run.marks(alloc)?;
+    Ok(marks.as_slice() == wanted.as_slice())
+}
