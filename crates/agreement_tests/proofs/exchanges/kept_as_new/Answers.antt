@@ -21,18 +21,18 @@ patched-requires-clause-sound c =
     let new = c.args.new.now in
     let old = c.args.old.now in
     let alike : ReplayAlike (is_apart new old) new old c.in-Some.remains = subst (λ (r : Option Remains). IfSome r (λ x. ReplayAlike (is_apart new old) new old x)) c.in-Some.is c.in_ok-agree.ensures.law in
-    rw (c.of-kept.ensures, c.in_ok-share-in-Some.ensures) (stops new old c.in-Some.remains alike).sound
+    rw (c.in_ok-kept-in-Some.ensures, c.in_ok-share-in-Some.ensures) (stops new old c.in-Some.remains alike).sound
 
 pub patched-requires-clause-there : goal.patched-requires-clause-there
 patched-requires-clause-there c =
     let new = c.args.new.now in
     let old = c.args.old.now in
     let remains : AreRemains new old c.in-Some.remains = subst (λ (r : Option Remains). IfSome r (λ x. AreRemains new old x)) c.in-Some.is c.in_ok-agree.ensures.remains in
-    rw (c.of-kept.ensures, c.in_ok-share-in-Some.ensures) (is_there new old c.in-Some.remains remains)
+    rw (c.in_ok-kept-in-Some.ensures, c.in_ok-share-in-Some.ensures) (is_there new old c.in-Some.remains remains)
 
 pub returns-in_ok-later-in-Some : goal.returns-in_ok-later-in-Some
 returns-in_ok-later-in-Some c =
     let new = c.args.new.now in
     let old = c.args.old.now in
     let alike : ReplayAlike (is_apart new old) new old c.in-Some.remains = subst (λ (r : Option Remains). IfSome r (λ x. ReplayAlike (is_apart new old) new old x)) c.in-Some.is c.in_ok-agree.ensures.law in
-    c.in_ok-later-in-Some.ensures ∙ ap (λ (m : State). patched m c.in-Some.remains) (c.of-kept.ensures ∙ c.in_ok-share-in-Some.ensures) ∙ sym (stops new old c.in-Some.remains alike).state
+    c.in_ok-later-in-Some.ensures ∙ ap (λ (m : State). patched m c.in-Some.remains) (c.in_ok-kept-in-Some.ensures ∙ c.in_ok-share-in-Some.ensures) ∙ sym (stops new old c.in-Some.remains alike).state
