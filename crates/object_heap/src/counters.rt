@@ -33,7 +33,7 @@ pub fn counters_of(counts: &ShareTree<Counters>, object: u32) -> Counters
     }
 }
 
-/// Gives an object these counters. None are kept for an object that nothing names.
+/// Gives an object these counters, and keeps none where nothing names it and no end of it is pending.
 pub fn set_counters(
     alloc: Global,
     counts: &mut ShareTree<Counters>,
@@ -49,6 +49,18 @@ pub fn set_counters(
     }
 }
 
+/// Gives an object these counters, zeros too: what comes next may name it again.
+pub fn put_counters(
+    alloc: Global,
+    counts: &mut ShareTree<Counters>,
+    object: u32,
+    counters: Counters,
+) -> Result<(), AllocError>
+    ensures { OnOk result (IsSetAt counts.old counts.new object counters) }
+{
+    counts.insert(alloc, object, counters)
+}
+
 /// Counts a slot more.
 pub fn hold(alloc: Global, counts: &mut ShareTree<Counters>, slot: Slot) -> Result<(), AllocError>
     requires { HasRoom counts.old 1 }
@@ -61,7 +73,7 @@ pub fn hold(alloc: Global, counts: &mut ShareTree<Counters>, slot: Slot) -> Resu
                 strong: was.strong + 1,
                 ..was
             };
-            set_counters(alloc, counts, object, more)
+            put_counters(alloc, counts, object, more)
         }
         Slot::Weak(object) => {
             let was = counters_of(counts, object);
@@ -69,7 +81,7 @@ pub fn hold(alloc: Global, counts: &mut ShareTree<Counters>, slot: Slot) -> Resu
                 weak: was.weak + 1,
                 ..was
             };
-            set_counters(alloc, counts, object, more)
+            put_counters(alloc, counts, object, more)
         }
         Slot::Nothing | Slot::Dangling => Ok(()),
     }
@@ -87,7 +99,7 @@ pub fn let_go(alloc: Global, counts: &mut ShareTree<Counters>, slot: Slot) -> Re
                 strong: was.strong - 1,
                 ..was
             };
-            set_counters(alloc, counts, object, less)
+            put_counters(alloc, counts, object, less)
         }
         Slot::Weak(object) => {
             let was = counters_of(counts, object);
@@ -95,7 +107,7 @@ pub fn let_go(alloc: Global, counts: &mut ShareTree<Counters>, slot: Slot) -> Re
                 weak: was.weak - 1,
                 ..was
             };
-            set_counters(alloc, counts, object, less)
+            put_counters(alloc, counts, object, less)
         }
         Slot::Nothing | Slot::Dangling => Ok(()),
     }
@@ -118,7 +130,7 @@ pub fn hold_item(
                 ends: was.ends + 1,
                 ..was
             };
-            set_counters(alloc, counts, object, more)
+            put_counters(alloc, counts, object, more)
         }
     }
 }

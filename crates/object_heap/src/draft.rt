@@ -51,11 +51,12 @@ impl Draft {
         *self = Draft::empty();
     }
 
-    /// Makes the changes, drops all that is then pending, and tells what became of objects, in order. Where memory runs out the
-    /// draft is unspecified: let it go.
+    /// Makes the changes, drops all that is then pending, on a work list, and tells what became of objects, in order. Where memory runs
+    /// out the draft is unspecified: let it go.
     pub fn carry_out(
         &mut self,
         alloc: Global,
+        work: &mut VecDeque<Item>,
         changes: &[Change],
         pending: &[Item],
     ) -> Result<Vec<Event>, AllocError>
@@ -68,10 +69,10 @@ impl Draft {
         ensures events { IfOk result (λ v. v.items ≡ (release (changed (drafted self.old) changes.now) pending.now).events) }
     {
         self.apply(alloc, changes)?;
-        let mut list = VecDeque::new(alloc);
-        self.add_all(alloc, pending, &mut list)?;
+        work.clear();
+        self.add_all(alloc, pending, work)?;
         let mut events = Vec::new(alloc);
-        self.release(alloc, &mut list, &mut events)?;
+        self.release(alloc, work, &mut events)?;
         Ok(events)
     }
 

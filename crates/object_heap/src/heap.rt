@@ -20,6 +20,7 @@ use crate::draft::Draft;
 use ownership_model::remaining::Remaining;
 use share_tree::ShareTree;
 use std::alloc::{AllocError, Global};
+use std::collections::VecDeque;
 use std::marker::Model;
 use trace_types::outcomes::Event;
 use trace_types::sequence::Sequence;
@@ -244,7 +245,27 @@ impl Heap {
         ensures cascade { IfOk result (λ events. CascadesTo (changed self.old changes.now) self.new events) }
         ensures err { OnErr result (self.new ≡ nothing_held) }
     {
-        match self.draft.carry_out(alloc, changes, pending) {
+        let mut work = VecDeque::new(alloc);
+        self.release_on(alloc, &mut work, changes, pending)
+    }
+
+    /// As `release_in_place`, on a work list that is emptied first: one that serves again and again takes memory once.
+    pub fn release_on(
+        &mut self,
+        alloc: Global,
+        work: &mut VecDeque<Item>,
+        changes: &[Change],
+        pending: &[Item],
+    ) -> Result<Sequence<Event>, AllocError>
+        requires can { CanChange self.old changes.now }
+        requires fits { ChangesFit changes.now }
+        requires sound { IsSound (changed self.old changes.now) pending.now }
+        ensures state { OnOk result (self.new ≡ (release (changed self.old changes.now) pending.now).state) }
+        ensures events { IfOk result (λ events. events ≡ (release (changed self.old changes.now) pending.now).events) }
+        ensures cascade { IfOk result (λ events. CascadesTo (changed self.old changes.now) self.new events) }
+        ensures err { OnErr result (self.new ≡ nothing_held) }
+    {
+        match self.draft.carry_out(alloc, work, changes, pending) {
             Ok(events) => Ok(Sequence::from_vec(events)),
             Err(error) => {
                 self.draft.let_go();

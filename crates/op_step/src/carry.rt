@@ -9,7 +9,8 @@ ghost use Rattle.ownership_model.specs.Step as Step;
 ghost use Rattle.op_step.specs.Meter.{raised};
 
 use crate::meter::Meter;
-use crate::rows::plan;
+use crate::room::Room;
+use crate::rows::plan_in;
 use object_heap::Heap;
 use ownership_model::Plan;
 use std::alloc::{AllocError, Global};
@@ -67,7 +68,25 @@ pub fn step_in_place(
     ensures counted { OnOk result (meter.new ≡ raised meter.old 1) }
     ensures uncounted { OnErr result (meter.new ≡ meter.old) }
 {
-    match carried(alloc, heap, op) {
+    let mut room = Room::new(alloc);
+    step_in(&mut room, heap, op, meter)
+}
+
+/// As `step_in_place`, with what it takes memory for on the way in a room.
+pub fn step_in(
+    room: &mut Room,
+    heap: &mut Heap,
+    op: &Op,
+    meter: &mut Meter,
+) -> Result<Outcome, AllocError>
+    requires { get heap.old.objects op.now.id ≡ None }
+    ensures state { OnOk result (heap.new ≡ (step heap.old op.now).state) }
+    ensures outcome { IfOk result (λ r. r ≡ (step heap.old op.now).outcome) }
+    ensures err { OnErr result (heap.new ≡ nothing_held) }
+    ensures counted { OnOk result (meter.new ≡ raised meter.old 1) }
+    ensures uncounted { OnErr result (meter.new ≡ meter.old) }
+{
+    match carried(room, heap, op) {
         Ok(outcome) => {
             meter.raise();
             Ok(outcome)
@@ -80,14 +99,14 @@ pub fn step_in_place(
 }
 
 // Plans an operation and carries it out. Where memory runs out it isn't told what the heap holds.
-fn carried(alloc: Global, heap: &mut Heap, op: &Op) -> Result<Outcome, AllocError>
+fn carried(room: &mut Room, heap: &mut Heap, op: &Op) -> Result<Outcome, AllocError>
     requires { get heap.old.objects op.now.id ≡ None }
     ensures state { OnOk result (heap.new ≡ (step heap.old op.now).state) }
     ensures outcome { IfOk result (λ r. r ≡ (step heap.old op.now).outcome) }
 {
-    let planned = plan(alloc, heap, op)?;
+    let planned = plan_in(room, heap, op)?;
     heap.kept();
-    let outcome = carry_out(alloc, heap, op.id(), planned)?;
+    let outcome = carry_out(room, heap, op.id(), planned)?;
     Ok(outcome)
 }
 
@@ -99,14 +118,14 @@ fn let_go(heap: &mut Heap)
     *heap = Heap::empty();
 }
 
-fn carry_out(alloc: Global, heap: &mut Heap, id: u32, plan: Plan) -> Result<Outcome, AllocError>
+fn carry_out(room: &mut Room, heap: &mut Heap, id: u32, plan: Plan) -> Result<Outcome, AllocError>
     requires carriable { IsCarriable heap.old plan }
     requires fits { PlanFits plan }
     ensures state { OnOk result (heap.new ≡ (carried_out heap.old id plan).state) }
     ensures outcome { IfOk result (λ r. r ≡ (carried_out heap.old id plan).outcome) }
 {
     match plan {
-        Plan::Skip(reason) => Ok(skipped(alloc, id, reason)),
+        Plan::Skip(reason) => Ok(skipped(room.alloc(), id, reason)),
         Plan::Act {
             answer,
             changes,
@@ -114,7 +133,10 @@ fn carry_out(alloc: Global, heap: &mut Heap, id: u32, plan: Plan) -> Result<Outc
             pending,
             object,
         } => {
-            let released = heap.release_in_place(alloc, changes.as_slice(), pending.as_slice())?;
+            let alloc = room.alloc();
+            let work = room.work();
+            let released = heap.release_on(alloc, work, changes.as_slice(), pending.as_slice())?;
+            room.give_back(changes.into_vec(), pending.into_vec());
             Ok(Outcome {
                 id,
                 verdict: Verdict::Did(answer),

@@ -2,6 +2,7 @@
 ghost use Rattle.trace_types.specs.declared.kinds.Kind.TheVariants as kind;
 ghost use Rattle.ownership_model.specs.Rows.{row_in, Tells};
 
+use crate::room::Room;
 use crate::wants::{held, is_alive, unheld};
 use object_heap::Heap;
 use ownership_model::effects::drops;
@@ -13,40 +14,40 @@ use trace_types::outcomes::Answer;
 use trace_types::slots::{Change, Holding, Item, Slot};
 
 /// `Arc::clone`, `Weak::clone`
-pub fn clone(alloc: Global, heap: &Heap, label: u32, from: u32, to: u32) -> Result<Plan, Stop>
+pub fn clone(room: &mut Room, heap: &Heap, label: u32, from: u32, to: u32) -> Result<Plan, Stop>
     ensures { Tells result (row_in heap.now label 0 (kind.Clone from to)) }
 {
     let slot = slot_in(from, held(heap, from)?)?;
     unheld(heap, to)?;
-    Ok(Plan::hold(alloc, label, Answer::Done, to, slot, slot.object())?)
+    Ok(Plan::hold(room.changes(), label, Answer::Done, to, slot, slot.object())?)
 }
 
 /// `drop`
-pub fn drop(alloc: Global, heap: &Heap, h: u32) -> Result<Plan, Stop>
+pub fn drop(room: &mut Room, heap: &Heap, h: u32) -> Result<Plan, Stop>
     ensures { Tells result (row_in heap.now 0 0 (kind.Drop h)) }
 {
     let held = held(heap, h)?;
-    let changes = vec![in alloc; Change::EndHandle(h)]?;
+    let changes = room.change(Change::EndHandle(h))?;
     match held {
         Holding::Slot(slot) => {
-            let pending = vec![in alloc; Item::Slot(*slot)]?;
+            let pending = room.item(Item::Slot(*slot))?;
             Ok(Plan::act(Answer::Done, changes, pending, slot.object()))
         }
         Holding::Bare(fields) => {
-            let pending = drops(alloc, fields.as_slice(), &[])?;
+            let pending = drops(room.alloc(), fields.as_slice(), &[])?;
             Ok(Plan::act(Answer::Done, changes, pending, None))
         }
     }
 }
 
 /// `Arc::downgrade`
-pub fn downgrade(alloc: Global, heap: &Heap, label: u32, from: u32, to: u32) -> Result<Plan, Stop>
+pub fn downgrade(room: &mut Room, heap: &Heap, label: u32, from: u32, to: u32) -> Result<Plan, Stop>
     ensures { Tells result (row_in heap.now label 0 (kind.Downgrade from to)) }
 {
     let object = strong_in(from, held(heap, from)?)?;
     unheld(heap, to)?;
     Ok(Plan::hold(
-        alloc,
+        room.changes(),
         label,
         Answer::Done,
         to,
@@ -56,16 +57,23 @@ pub fn downgrade(alloc: Global, heap: &Heap, label: u32, from: u32, to: u32) -> 
 }
 
 /// `Weak::upgrade`
-pub fn upgrade(alloc: Global, heap: &Heap, label: u32, from: u32, to: u32) -> Result<Plan, Stop>
+pub fn upgrade(room: &mut Room, heap: &Heap, label: u32, from: u32, to: u32) -> Result<Plan, Stop>
     ensures { Tells result (row_in heap.now label 0 (kind.Upgrade from to)) }
 {
     let object = weak_in(from, held(heap, from)?)?;
     unheld(heap, to)?;
     match object {
         Some(named) if is_alive(heap, named) => {
-            Ok(Plan::hold(alloc, label, Answer::Yes, to, Slot::Strong(named), object)?)
+            Ok(Plan::hold(
+                room.changes(),
+                label,
+                Answer::Yes,
+                to,
+                Slot::Strong(named),
+                object,
+            )?)
         }
-        _ => Ok(Plan::hold(alloc, label, Answer::No, to, Slot::Nothing, object)?),
+        _ => Ok(Plan::hold(room.changes(), label, Answer::No, to, Slot::Nothing, object)?),
     }
 }
 

@@ -10,6 +10,7 @@ mod make;
 mod meter;
 mod names;
 pub mod replay;
+mod room;
 mod rows;
 mod scope;
 mod unique;

@@ -7,6 +7,7 @@ ghost use Rattle.ownership_model.specs.Table.{new_row, ending};
 ghost use Rattle.ownership_model.specs.Table as Table;
 ghost use Rattle.ownership_model.specs.Rows.{row_in, Tells};
 
+use crate::room::Room;
 use crate::wants::{all_held, all_slots, held, unheld};
 use object_heap::Heap;
 use ownership_model::effects::{copy_fields, push_make};
@@ -20,7 +21,7 @@ use trace_types::slots::{Change, Holding, Slot};
 
 /// `Arc::new`, `Arc::new_cyclic`
 pub fn new(
-    alloc: Global,
+    room: &mut Room,
     heap: &Heap,
     label: u32,
     id: u32,
@@ -32,13 +33,13 @@ pub fn new(
     all_held(heap, fields)?;
     all_slots(heap, fields)?;
     unheld(heap, to)?;
-    let changes = making(alloc, heap, label, id, fields, to)?;
-    Ok(Plan::act(Answer::Made, changes, Vec::new(alloc), Some(id)))
+    let changes = making(room, heap, label, id, fields, to)?;
+    Ok(Plan::act(Answer::Made, changes, room.nothing(), Some(id)))
 }
 
 /// `Arc::new` of a value that was moved out of another `Arc`
 pub fn new_from(
-    alloc: Global,
+    room: &mut Room,
     heap: &Heap,
     label: u32,
     id: u32,
@@ -49,28 +50,33 @@ pub fn new_from(
 {
     let fields = bare_in(from, held(heap, from)?)?;
     unheld(heap, to)?;
-    let changes = vec![in alloc;
-        Change::EndHandle(from),
-        Change::Make(id, copy_fields(alloc, fields)?),
-        Change::SetHandle(label, to, Holding::Slot(Slot::Strong(id))),
-    ]?;
-    Ok(Plan::act(Answer::Made, changes, Vec::new(alloc), Some(id)))
+    let mut changes = room.change(Change::EndHandle(from))?;
+    let fields = copy_fields(room.alloc(), fields)?;
+    push_make(&mut changes, label, id, fields, to)?;
+    Ok(Plan::act(Answer::Made, changes, room.nothing(), Some(id)))
 }
 
 /// `Weak::new`
-pub fn weak_new(alloc: Global, heap: &Heap, label: u32, to: u32) -> Result<Plan, Stop>
+pub fn weak_new(room: &mut Room, heap: &Heap, label: u32, to: u32) -> Result<Plan, Stop>
     ensures { Tells result (row_in heap.now label 0 (kind.WeakNew to)) }
 {
     unheld(heap, to)?;
-    Ok(Plan::hold(alloc, label, Answer::Done, to, Slot::Dangling, None)?)
+    Ok(Plan::hold(
+        room.changes(),
+        label,
+        Answer::Done,
+        to,
+        Slot::Dangling,
+        None,
+    )?)
 }
 
 /// An empty pointer.
-pub fn null(alloc: Global, heap: &Heap, label: u32, to: u32) -> Result<Plan, Stop>
+pub fn null(room: &mut Room, heap: &Heap, label: u32, to: u32) -> Result<Plan, Stop>
     ensures { Tells result (row_in heap.now label 0 (kind.Null to)) }
 {
     unheld(heap, to)?;
-    Ok(Plan::hold(alloc, label, Answer::Done, to, Slot::Nothing, None)?)
+    Ok(Plan::hold(room.changes(), label, Answer::Done, to, Slot::Nothing, None)?)
 }
 
 // What the handles hold, in order.
@@ -104,7 +110,7 @@ fn slot_of(heap: &Heap, h: u32) -> Slot
 
 // The handles of the fields end, and the object comes to be.
 fn making(
-    alloc: Global,
+    room: &mut Room,
     heap: &Heap,
     label: u32,
     id: u32,
@@ -113,8 +119,8 @@ fn making(
 ) -> Result<Vec<Change>, AllocError>
     ensures { IfOk result (λ v. let es = elements_of heap.now fields.now in v.items ≡ ending es (Table.make label id (Table.made_fields id es) to)) }
 {
-    let made = made_fields(alloc, heap, id, fields)?;
-    let mut changes = Vec::new(alloc);
+    let made = made_fields(room.alloc(), heap, id, fields)?;
+    let mut changes = room.changes();
     for field in fields {
         if let Field::Held(h) = field {
             changes.push(Change::EndHandle(*h))?;

@@ -4,8 +4,9 @@ ghost use Rattle.ownership_model.specs.State.{nothing_held};
 ghost use Rattle.ownership_model.specs.Step.{AreNew, outcomes_from, end_from};
 ghost use Rattle.op_step.specs.Meter.{raised};
 
-use crate::carry::step_in_place;
+use crate::carry::step_in;
 use crate::meter::Meter;
+use crate::room::Room;
 use object_heap::Heap;
 use std::alloc::{AllocError, Global};
 use trace_types::ops::Op;
@@ -47,8 +48,9 @@ pub fn replay_from(
 {
     let mut outcomes = Vec::with_capacity(alloc, ops.len())?;
     let mut heap = start;
+    let mut room = Room::new(alloc);
     for op in ops {
-        outcomes.push(step_in_place(alloc, &mut heap, op, meter)?)?;
+        outcomes.push(step_in(&mut room, &mut heap, op, meter)?)?;
     }
     Ok((Sequence::from_vec(outcomes), heap))
 }

@@ -5,6 +5,7 @@ ghost use Rattle.trace_types.specs.declared.kinds.Kind.TheVariants as kind;
 ghost use Rattle.ownership_model.specs.Table.{holding_drops};
 ghost use Rattle.ownership_model.specs.Rows.{row_in, Tells};
 
+use crate::room::Room;
 use object_heap::Heap;
 use ownership_model::effects::drops;
 use ownership_model::{Plan, Stop};
@@ -13,15 +14,15 @@ use trace_types::outcomes::Answer;
 use trace_types::slots::{Change, Holding, Item};
 
 /// The end of the label's scope: its handles end, the last made first, and what they hold is dropped in that order.
-pub fn scope_end(alloc: Global, heap: &Heap, label: u32) -> Result<Plan, Stop>
+pub fn scope_end(room: &mut Room, heap: &Heap, label: u32) -> Result<Plan, Stop>
     ensures { Tells result (row_in heap.now label 0 kind.ScopeEnd) }
 {
-    let mut changes = Vec::new(alloc);
-    let mut pending = Vec::new(alloc);
+    let mut changes = room.changes();
+    let mut pending = room.nothing();
     let mut next = heap.last(label);
     while let Some(h) = next {
         changes.push(Change::EndHandle(h))?;
-        push_held(alloc, &mut pending, heap.holding(h))?;
+        push_held(room.alloc(), &mut pending, heap.holding(h))?;
         next = heap.earlier(h);
     }
     Ok(Plan::act(Answer::Done, changes, pending, None))

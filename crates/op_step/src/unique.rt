@@ -8,9 +8,10 @@ ghost use Rattle.ownership_model.specs.declared.plan.Plan.TheVariants.{Act};
 ghost use Rattle.ownership_model.specs.Table as Table;
 ghost use Rattle.ownership_model.specs.Rows.{row_in, Tells};
 
+use crate::room::Room;
 use crate::wants::{fields_of, held};
 use object_heap::Heap;
-use ownership_model::effects::{copy_fields, unwrapped};
+use ownership_model::effects::{copy_fields, push_make, unwrapped};
 use ownership_model::plan::yes_if;
 use ownership_model::questions::strong_in;
 use ownership_model::{Plan, Stop};
@@ -19,27 +20,27 @@ use trace_types::outcomes::{Answer, Event};
 use trace_types::slots::{Change, Holding, Item, Slot};
 
 /// `Arc::try_unwrap`
-pub fn try_unwrap(alloc: Global, heap: &Heap, label: u32, h: u32) -> Result<Plan, Stop>
+pub fn try_unwrap(room: &mut Room, heap: &Heap, label: u32, h: u32) -> Result<Plan, Stop>
     ensures { Tells result (row_in heap.now label 0 (kind.TryUnwrap h)) }
 {
     let object = strong_in(h, held(heap, h)?)?;
     if heap.strong(object) != 1 {
-        return Ok(Plan::say(alloc, Answer::No, Some(object)));
+        return Ok(Plan::say(room.alloc(), Answer::No, Some(object)));
     }
-    Ok(unwrapped(alloc, label, h, object, fields_of(heap, object))?)
+    Ok(unwrapped(room.alloc(), label, h, object, fields_of(heap, object))?)
 }
 
 /// `Arc::into_inner`
-pub fn into_inner(alloc: Global, heap: &Heap, label: u32, h: u32) -> Result<Plan, Stop>
+pub fn into_inner(room: &mut Room, heap: &Heap, label: u32, h: u32) -> Result<Plan, Stop>
     ensures { Tells result (row_in heap.now label 0 (kind.IntoInner h)) }
 {
     let object = strong_in(h, held(heap, h)?)?;
     if heap.strong(object) != 1 {
-        let changes = vec![in alloc; Change::SetHandle(label, h, Holding::Slot(Slot::Nothing))]?;
-        let pending = vec![in alloc; Item::Slot(Slot::Strong(object))]?;
+        let changes = room.change(Change::SetHandle(label, h, Holding::Slot(Slot::Nothing)))?;
+        let pending = room.item(Item::Slot(Slot::Strong(object)))?;
         return Ok(Plan::act(Answer::No, changes, pending, Some(object)));
     }
-    Ok(unwrapped(alloc, label, h, object, fields_of(heap, object))?)
+    Ok(unwrapped(room.alloc(), label, h, object, fields_of(heap, object))?)
 }
 
 /// `Arc::get_mut`
@@ -52,22 +53,22 @@ pub fn get_mut(alloc: Global, heap: &Heap, h: u32) -> Result<Plan, Stop>
 }
 
 /// `Arc::make_mut`
-pub fn make_mut(alloc: Global, heap: &Heap, label: u32, id: u32, h: u32) -> Result<Plan, Stop>
+pub fn make_mut(room: &mut Room, heap: &Heap, label: u32, id: u32, h: u32) -> Result<Plan, Stop>
     ensures { Tells result (row_in heap.now label id (kind.MakeMut h)) }
 {
     let object = strong_in(h, held(heap, h)?)?;
     if heap.strong(object) != 1 {
-        return Ok(cloned(alloc, label, id, h, object, fields_of(heap, object))?);
+        return Ok(cloned(room, label, id, h, object, fields_of(heap, object))?);
     }
     if heap.weak(object) != 0 {
-        return Ok(moved(alloc, label, id, h, object, fields_of(heap, object))?);
+        return Ok(moved(room, label, id, h, object, fields_of(heap, object))?);
     }
-    Ok(Plan::say(alloc, Answer::Unique, Some(object)))
+    Ok(Plan::say(room.alloc(), Answer::Unique, Some(object)))
 }
 
 // No other Arc is there, and the value moves away from the Weaks.
 fn moved(
-    alloc: Global,
+    room: &mut Room,
     label: u32,
     id: u32,
     h: u32,
@@ -76,18 +77,16 @@ fn moved(
 ) -> Result<Plan, AllocError>
     ensures { IfOk result (λ p. p ≡ Act Answer.Moved (TurnHusk object ∷ Table.make label id fields.now h) (Some (Event.Moved object)) [] (Some id)) }
 {
-    let changes = vec![in alloc;
-        Change::TurnHusk(object),
-        Change::Make(id, copy_fields(alloc, fields)?),
-        Change::SetHandle(label, h, Holding::Slot(Slot::Strong(id))),
-    ]?;
+    let mut changes = room.change(Change::TurnHusk(object))?;
+    let fields = copy_fields(room.alloc(), fields)?;
+    push_make(&mut changes, label, id, fields, h)?;
     let event = Event::Moved(object);
-    Ok(Plan::act_naming(Answer::Moved, changes, event, Vec::new(alloc), id))
+    Ok(Plan::act_naming(Answer::Moved, changes, event, room.nothing(), id))
 }
 
 // The other Arcs keep the value, and the handle gets its own.
 fn cloned(
-    alloc: Global,
+    room: &mut Room,
     label: u32,
     id: u32,
     h: u32,
@@ -96,10 +95,9 @@ fn cloned(
 ) -> Result<Plan, AllocError>
     ensures { IfOk result (λ p. p ≡ Table.act Answer.Cloned (Table.make label id fields.now h) (item.Slot (Strong object) ∷ []) (Some id)) }
 {
-    let changes = vec![in alloc;
-        Change::Make(id, copy_fields(alloc, fields)?),
-        Change::SetHandle(label, h, Holding::Slot(Slot::Strong(id))),
-    ]?;
-    let pending = vec![in alloc; Item::Slot(Slot::Strong(object))]?;
+    let mut changes = room.changes();
+    let fields = copy_fields(room.alloc(), fields)?;
+    push_make(&mut changes, label, id, fields, h)?;
+    let pending = room.item(Item::Slot(Slot::Strong(object)))?;
     Ok(Plan::act(Answer::Cloned, changes, pending, Some(id)))
 }

@@ -33,7 +33,14 @@ pub fn cell_load(
 {
     let slot = in_cell(state, c)?;
     unheld(state, to)?;
-    Ok(Plan::hold(alloc, label, Answer::Done, to, slot, slot.object())?)
+    Ok(Plan::hold(
+        Vec::new(alloc),
+        label,
+        Answer::Done,
+        to,
+        slot,
+        slot.object(),
+    )?)
 }
 
 /// `atomic<shared_ptr<T>>::exchange`, or `store` where there is no `to`

@@ -68,5 +68,5 @@ pub fn get(
     let fields = fields_in(state, h, held(state, h)?)?;
     let slot = field_at(i, fields.slots)?;
     unheld(state, to)?;
-    Ok(Plan::hold(alloc, label, Answer::Done, to, slot, fields.owner)?)
+    Ok(Plan::hold(Vec::new(alloc), label, Answer::Done, to, slot, fields.owner)?)
 }

@@ -25,7 +25,14 @@ pub fn clone(
 {
     let slot = slot_in(from, held(state, from)?)?;
     unheld(state, to)?;
-    Ok(Plan::hold(alloc, label, Answer::Done, to, slot, slot.object())?)
+    Ok(Plan::hold(
+        Vec::new(alloc),
+        label,
+        Answer::Done,
+        to,
+        slot,
+        slot.object(),
+    )?)
 }
 
 /// `drop`
@@ -59,7 +66,7 @@ pub fn downgrade(
     let object = strong_in(from, held(state, from)?)?;
     unheld(state, to)?;
     Ok(Plan::hold(
-        alloc,
+        Vec::new(alloc),
         label,
         Answer::Done,
         to,
@@ -82,9 +89,23 @@ pub fn upgrade(
     unheld(state, to)?;
     match object {
         Some(named) if is_alive_named(state, from) => {
-            Ok(Plan::hold(alloc, label, Answer::Yes, to, Slot::Strong(named), object)?)
+            Ok(Plan::hold(
+                Vec::new(alloc),
+                label,
+                Answer::Yes,
+                to,
+                Slot::Strong(named),
+                object,
+            )?)
         }
-        _ => Ok(Plan::hold(alloc, label, Answer::No, to, Slot::Nothing, object)?),
+        _ => Ok(Plan::hold(
+            Vec::new(alloc),
+            label,
+            Answer::No,
+            to,
+            Slot::Nothing,
+            object,
+        )?),
     }
 }
 

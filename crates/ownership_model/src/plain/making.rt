@@ -60,7 +60,14 @@ pub fn weak_new(alloc: Global, state: &PlainState, label: u32, to: u32) -> Resul
     ensures { Tells result (row_in (state_of state.now) label 0 (kind.WeakNew to)) }
 {
     unheld(state, to)?;
-    Ok(Plan::hold(alloc, label, Answer::Done, to, Slot::Dangling, None)?)
+    Ok(Plan::hold(
+        Vec::new(alloc),
+        label,
+        Answer::Done,
+        to,
+        Slot::Dangling,
+        None,
+    )?)
 }
 
 /// An empty pointer.
@@ -68,7 +75,14 @@ pub fn null(alloc: Global, state: &PlainState, label: u32, to: u32) -> Result<Pl
     ensures { Tells result (row_in (state_of state.now) label 0 (kind.Null to)) }
 {
     unheld(state, to)?;
-    Ok(Plan::hold(alloc, label, Answer::Done, to, Slot::Nothing, None)?)
+    Ok(Plan::hold(
+        Vec::new(alloc),
+        label,
+        Answer::Done,
+        to,
+        Slot::Nothing,
+        None,
+    )?)
 }
 
 // What the handles hold, in order.

@@ -14,7 +14,7 @@ pub returns-in-End : goal.returns-in-End
 returns-in-End c =
     let was = c.counters_of-was.result in
     let more : Counters = record { strong = was.strong; weak = was.weak; ends = was.ends + 1 } in
-    on_ok c.set_counters.result c.set_counters.ensures (λ set.
-    subst (λ (x : Item). CountsItem c.args.counts.now c.set_counters.new.counts x) (sym c.in-End.is)
-    (counts_end c.args.counts.now c.set_counters.new.counts c.in-End.object more set
+    on_ok c.put_counters.result c.put_counters.ensures (λ set.
+    subst (λ (x : Item). CountsItem c.args.counts.now c.put_counters.new.counts x) (sym c.in-End.is)
+    (counts_end c.args.counts.now c.put_counters.new.counts c.in-End.object more set
     (ap (λ (v : Counters). v.strong) c.counters_of-was.ensures) (ap (λ (v : Counters). v.weak) c.counters_of-was.ensures) (omega (arith, ap (λ (v : Counters). v.ends) c.counters_of-was.ensures))))

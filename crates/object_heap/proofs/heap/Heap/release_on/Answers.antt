@@ -4,7 +4,7 @@ use Rattle.ownership_model.specs.Changes.{changed}
 use Rattle.object_heap.specs.Counted.{drafted}
 use Rattle.object_heap.proofs.DropLemmas.{cascades}
 use Rattle.object_heap.proofs.NothingLemmas.{kept_nothing}
-use Rattle.object_heap.proofs.heap.Heap.release_in_place.Goals as goal
+use Rattle.object_heap.proofs.heap.Heap.release_on.Goals as goal
 
 pub invariant_of-self-in-Err : goal.invariant_of-self-in-Err
 invariant_of-self-in-Err c = kept_nothing c.let_go.new.self c.let_go.ensures.state c.let_go.ensures.counts
