@@ -21,6 +21,7 @@ mod TouchLemmas
 mod NameLemmas
 mod GoneLemmas
 mod ClearedLemmas
+mod BlockLemmas
 mod AnsweredLemmas
 mod OnwardLemmas
 mod GoesOnLemmas

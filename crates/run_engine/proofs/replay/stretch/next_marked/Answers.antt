@@ -1,6 +1,6 @@
 use Rattle.std.proofs.Common.{sym, ◌∙◌}
 use Rattle.run_engine.proofs.PieceLemmas.{marks-bare-next}
-use Rattle.run_engine.proofs.replay.stretch.unmarked.Goals as goal
+use Rattle.run_engine.proofs.replay.stretch.next_marked.Goals as goal
 
 pub loop-i-preserved : goal.loop-i-preserved
 loop-i-preserved c =
