@@ -22,6 +22,7 @@ mod NameLemmas
 mod GoneLemmas
 mod ClearedLemmas
 mod BlockLemmas
+mod BlocksLemmas
 mod AnsweredLemmas
 mod OnwardLemmas
 mod GoesOnLemmas

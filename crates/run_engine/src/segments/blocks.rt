@@ -1,6 +1,6 @@
 //! The segments of a run, in blocks.
-ghost use Rattle.std.specs.Prelude.{◌≡◌, ◌+◌, ◌++◌, ◌∷◌, [], ◌<◌, ◌≤◌, length, map, IfOk, slice_index_or, slice_range};
-ghost use Rattle.run_engine.specs.Parts.{IsPartAt};
+ghost use Rattle.std.specs.Prelude.{◌≡◌, ◌+◌, ◌++◌, ◌∷◌, [], ◌<◌, ◌≤◌, length, map, take, IfOk, OnOk, IfSome, IfNone, slice_index_or, slice_range};
+ghost use Rattle.run_engine.specs.Parts.{joined, starts_from};
 ghost use Rattle.run_engine.specs.Segments.{without_mark, has_mark};
 ghost use Rattle.run_engine.specs.Exchanged.{exchanged, AreExchangeable};
 
@@ -67,19 +67,8 @@ impl Segments {
         requires { index < length self.now }
         ensures { result ≡ slice_index_or self.now index result }
     {
-        let i = self.block_of(index);
-        self.blocks[i].at(index - self.starts[i])
-    }
-
-    // The index of the block that has the segment at an index.
-    fn block_of(&self, index: usize) -> usize
-        requires { index < length self.now }
-        ensures { IsPartAt self.now.blocks.items index result }
-    {
-        match part_at(&self.starts, index) {
-            None => 0,
-            Some(i) => i,
-        }
+        let (i, rest) = find(&self.blocks, &self.starts, index);
+        self.blocks[i].at(rest)
     }
 
     /// The segments, and another one behind them.
@@ -89,17 +78,23 @@ impl Segments {
         if self.len >= MAX_OPS {
             return Err(AllocError);
         }
-        let mut all = self;
-        let last = all.blocks.len();
-        if last == 0 {
-            return all.begin(alloc, segment);
-        }
-        match all.blocks[last - 1].push(segment)? {
-            None => {
-                all.len += 1;
-                Ok(all)
+        let Segments {
+            mut blocks,
+            starts,
+            len,
+        } = self;
+        match push_last(&mut blocks, segment)? {
+            None => Ok(Segments {
+                blocks,
+                starts,
+                len: len + 1,
+            }),
+            Some(back) => Segments {
+                blocks,
+                starts,
+                len,
             }
-            Some(back) => all.begin(alloc, back),
+            .begin(alloc, back),
         }
     }
 
@@ -196,9 +191,9 @@ impl Segments {
         ensures kept { self.new ≡ without_mark self.old index }
         ensures answer { result ≡ has_mark self.old index }
     {
-        let i = self.block_of(index);
-        let place = index - self.starts[i];
-        self.blocks[i].clear_mark(place)
+        let was = self.at(index).is_marked();
+        clear_at(&mut self.blocks, &self.starts, index);
+        was
     }
 
     /// The same segments, none of which keeps a heap of a checkpoint that is given up.
@@ -211,4 +206,45 @@ impl Segments {
         }
         Ok(all)
     }
+}
+
+// The block that has the segment at an index, and how many segments stand before that in it. It is found by halves.
+fn find(blocks: &[Block], starts: &[usize], index: usize) -> (usize, usize)
+    requires starts { starts.now ≡ starts_from 0 blocks.now }
+    requires index { index < length (joined blocks.now) }
+    ensures within { result.0 < length blocks.now }
+    ensures place { length (joined (take result.0 blocks.now)) + result.1 ≡ index }
+    ensures inside { index < length (joined (take (result.0 + 1) blocks.now)) }
+{
+    match part_at(starts, index) {
+        None => (0, index),
+        Some(i) => (i, index - starts[i]),
+    }
+}
+
+// Puts a segment behind those of the last block, where there is one and it has room: else gives it back.
+fn push_last(blocks: &mut Vec<Block>, segment: Segment) -> Result<Option<Segment>, AllocError>
+    ensures taken { IfOk result (λ o. IfNone o
+        (joined blocks.new.items ≡ joined blocks.old.items ++ segment ∷ [])) }
+    ensures back { IfOk result (λ o. IfSome o
+        (λ s. (s ≡ segment) × (joined blocks.new.items ≡ joined blocks.old.items))) }
+    ensures starts { OnOk result (starts_from 0 blocks.new.items ≡ starts_from 0 blocks.old.items) }
+{
+    let len = blocks.len();
+    if len == 0 {
+        return Ok(Some(segment));
+    }
+    let back = blocks[len - 1].push(segment)?;
+    Ok(back)
+}
+
+// Gives up the checkpoint of the segment at an index.
+fn clear_at(blocks: &mut Vec<Block>, starts: &[usize], index: usize)
+    requires starts { starts.now ≡ starts_from 0 blocks.old.items }
+    requires index { index < length (joined blocks.old.items) }
+    ensures segments { joined blocks.new.items ≡ without_mark (joined blocks.old.items) index }
+    ensures starts { starts_from 0 blocks.new.items ≡ starts_from 0 blocks.old.items }
+{
+    let (i, rest) = find(blocks, starts, index);
+    let _ = blocks[i].clear_mark(rest);
 }
