@@ -37,7 +37,7 @@ kept false x y = refl
 pub none_remaining : (m : State) (rest : FinMap nat_cmp Remaining) (o : ℕ) → None ≡ get m.objects o → (q : ℕ) → get rest q ≡ with_remaining m rest o q
 none_remaining m rest o none q = kept (o == q) (remaining_at m q (get m.objects q)) (get rest q) ∙ ap (λ b. if o == q && b then remaining_at m q (get m.objects q) else get rest q) (ap is_some none)
 
-has_next : (xs : List ℕ) (i d q : ℕ) → i < length xs → has q (take (i + 1) xs) ≡ (has q (take i xs) || (get_or xs i d == q))
+pub has_next : (xs : List ℕ) (i d q : ℕ) → i < length xs → has q (take (i + 1) xs) ≡ (has q (take i xs) || (get_or xs i d == q))
 has_next xs i d q within = ap (λ k. has q (take k xs)) (add-one i) ∙ ap (has q) (take-suc xs i d within) ∙ has-append q (take i xs) (get_or xs i d ∷ []) ∙ last (has q (take i xs)) (get_or xs i d == q)
   where
     last : (a b : Bool) → (a || (b || false)) ≡ (a || b)

@@ -2,5 +2,5 @@ pub mod RemainsCode
 pub mod Agreement
 pub mod Gathering
 pub mod Trimmed
-pub mod Pending
+pub mod Laid
 pub mod Meeting

@@ -1,110 +1,66 @@
-//! A checkpoint of a replay: a heap that is kept as an older one, with what is still to be exchanged.
-ghost use Rattle.std.specs.Prelude.{◌≡◌, [], map, IfOk};
-ghost use Rattle.std.specs.Arc.{arc_value};
+//! A checkpoint of a replay: a heap that is kept as an older one, with what is to be exchanged in it.
+ghost use Rattle.std.specs.Prelude.{◌≡◌, [], IfOk};
 ghost use Rattle.ownership_model.specs.State.{IsSound};
-ghost use Rattle.ownership_model.specs.Patch.{patched, AreThere};
+ghost use Rattle.ownership_model.specs.Patch.{patched};
 
 use crate::exchange::Exchange;
-use crate::remains::Remains;
 use object_heap::Heap;
 use std::alloc::{AllocError, Global};
 use std::marker::Model;
-use std::sync::Arc;
 
-// How many exchanges may be pending in a checkpoint. Where there are as many, its heap is made.
-const MOST_PENDING: usize = 16;
-
-/// A heap of a replay. Where remains are to be exchanged in many heaps, each is kept as it was with what differs in them beside it,
-/// which they share, and the exchanges are made when the heap is asked for. Contracts see the heap that it stands for.
+/// A heap of a replay, as it is or as an older one beside an exchange, which is made when the heap is asked for. Both stand
+/// elsewhere: many checkpoints may share one exchange. Contracts see the heap that it stands for.
 #[derive(Drop)]
-pub struct Checkpoint {
-    base: Arc<Heap>,
-    pending: Vec<Arc<Exchange>>,
+pub struct Checkpoint<'a> {
+    base: &'a Heap,
+    laid: Option<&'a Exchange>,
 }
 
-impl Model for Checkpoint {
-    ghost use Rattle.std.specs.Prelude.{map};
-    ghost use Rattle.std.specs.Arc.{arc_value};
+impl<'a> Model for Checkpoint<'a> {
+    ghost use Rattle.std.specs.Option.{option_copied};
     ghost use Rattle.ownership_model.specs.State.{State};
     ghost use Rattle.object_heap.specs.StateCode.{state_code};
-    ghost use Rattle.agreement.specs.Pending.{with_pending, StaysSound};
+    ghost use Rattle.agreement.specs.Laid.{with_laid, IsSoundWith};
 
     ghost Value = { State };
 
     ghost coded = { state_code };
 
-    ghost view = { λ c. with_pending (arc_value c.base) (map arc_value c.pending.items) };
+    ghost view = { λ c. with_laid (option_copied c.laid) c.base.now };
 
-    ghost invariant = { λ c. StaysSound (arc_value c.base) (map arc_value c.pending.items) };
+    ghost invariant = { λ c. IsSoundWith (option_copied c.laid) c.base.now };
 }
 
-impl Checkpoint {
+impl<'a> Checkpoint<'a> {
     /// A heap as it is.
-    pub fn of(alloc: Global, heap: Heap) -> Result<Checkpoint, AllocError>
-        ensures { IfOk result (λ c. c ≡ heap) }
+    pub fn of(heap: &'a Heap) -> Self
+        ensures { result ≡ heap.entry.now }
     {
-        Ok(Checkpoint {
-            base: Arc::new(alloc, heap)?,
-            pending: Vec::new(alloc),
-        })
+        Checkpoint {
+            base: heap,
+            laid: None,
+        }
     }
 
-    /// The same checkpoint again.
-    pub fn share(&self, alloc: Global) -> Result<Checkpoint, AllocError>
-        ensures { IfOk result (λ c. c ≡ self.now) }
+    /// A heap with an exchange made, which leaves it sound.
+    pub fn under(heap: &'a Heap, exchange: &'a Exchange) -> Self
+        requires { IsSound (patched heap.now exchange.now) [] }
+        ensures { result ≡ patched heap.entry.now exchange.entry.now }
     {
-        Ok(Checkpoint {
-            base: Arc::try_clone(&self.base)?,
-            pending: shares(alloc, &self.pending)?,
-        })
+        Checkpoint {
+            base: heap,
+            laid: Some(exchange),
+        }
     }
 
     /// The heap that it stands for. Takes memory only where there is something to be exchanged.
     pub fn heap(&self, alloc: Global) -> Result<Heap, AllocError>
         ensures { IfOk result (λ h. h ≡ self.now) }
     {
-        let mut heap = self.base.share()?;
-        for exchange in &self.pending {
-            heap = exchange.made_in(alloc, heap)?;
+        let heap = self.base.share()?;
+        match self.laid {
+            None => Ok(heap),
+            Some(exchange) => exchange.made_in(alloc, heap),
         }
-        Ok(heap)
     }
-
-    /// The checkpoint with further remains to be exchanged. This one stays as it is.
-    ///
-    /// Where many exchanges are pending already its heap is made, which takes the memory of what these exchange. Else it takes that of
-    /// their list. What the remains have beside what differs isn't kept.
-    pub fn patched(&self, alloc: Global, remains: &Remains) -> Result<Checkpoint, AllocError>
-        requires sound { IsSound (patched self.now remains.now) [] }
-        requires there { AreThere self.now remains.now }
-        ensures { IfOk result (λ c. c ≡ patched self.now remains.now) }
-    {
-        if remains.changes_nothing() {
-            return self.share(alloc);
-        }
-        let Checkpoint { base, mut pending } = self.with_room(alloc)?;
-        pending.push(Arc::try_clone(remains.differing())?)?;
-        Ok(Checkpoint { base, pending })
-    }
-
-    // The same checkpoint, with room for a further exchange.
-    fn with_room(&self, alloc: Global) -> Result<Checkpoint, AllocError>
-        ensures { IfOk result (λ c. c ≡ self.now) }
-    {
-        if self.pending.len() < MOST_PENDING {
-            return self.share(alloc);
-        }
-        Checkpoint::of(alloc, self.heap(alloc)?)
-    }
-}
-
-// The same exchanges again.
-fn shares(alloc: Global, pending: &[Arc<Exchange>]) -> Result<Vec<Arc<Exchange>>, AllocError>
-    ensures { IfOk result (λ v. map arc_value v.items ≡ map arc_value pending.now) }
-{
-    let mut all = Vec::with_capacity(alloc, pending.len() + 1)?;
-    for exchange in pending {
-        all.push(Arc::try_clone(exchange)?)?;
-    }
-    Ok(all)
 }

@@ -1,10 +1,11 @@
 //! Objects that are to go and others that come, and what of them differs.
 ghost use Rattle.std.specs.Prelude.{◌≡◌, ◌↔◌, [], IfOk, OnOk, IsTrue};
 ghost use Rattle.ownership_model.specs.State.{IsSound};
-ghost use Rattle.ownership_model.specs.Patch.{patched};
+ghost use Rattle.ownership_model.specs.Patch.{patched, AreBoth};
 ghost use Rattle.object_heap.specs.Exchange.{AreWithinLimits};
 ghost use Rattle.agreement.specs.Trimmed.{nothing, without_number, IsSameAt, IsTrimmed};
 
+use crate::merged::{replaced_by, with_missing, without_all};
 use object_heap::Heap;
 use ownership_model::remaining::Remaining;
 use share_tree::ShareTree;
@@ -83,6 +84,16 @@ impl Exchange {
             }
         }
         Ok(rest)
+    }
+
+    /// The exchange and then another, as one that makes the same. It shares what it has with the first: the work is that of the other.
+    pub fn then(&self, alloc: Global, next: &Exchange) -> Result<Exchange, AllocError>
+        ensures { IfOk result (λ x. AreBoth self.now next.now x) }
+    {
+        let removed = with_missing(alloc, &self.removed, &next.removed)?;
+        let stays = without_all(alloc, &self.added, &next.removed)?;
+        let added = replaced_by(alloc, &stays, &next.added)?;
+        Ok(Exchange { removed, added })
     }
 
     fn share(&self) -> Result<Exchange, AllocError>

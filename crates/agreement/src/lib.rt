@@ -6,11 +6,13 @@ pub mod agree;
 mod checkpoint;
 mod differing;
 mod exchange;
+mod merged;
 mod remains;
 mod search;
 mod trail;
 
 pub use checkpoint::Checkpoint;
+pub use exchange::Exchange;
 pub use remains::{Remains, patch};
 pub use search::{Meeting, meet};
 pub use trail::{Path, Root, Trail, refutes};

@@ -75,9 +75,11 @@ impl Remains {
         self.differing.is_nothing()
     }
 
-    /// Those that differ, which make the same patch.
-    pub(crate) fn differing(&self) -> &Arc<Exchange>
-        ensures { IsTrimmed self.now (arc_value result.now) }
+    /// Those that differ, which make the same patch. Checkpoints share them.
+    pub fn differing(&self) -> &Arc<Exchange>
+        ensures less { IsTrimmed self.now (arc_value result.now) }
+        ensures patch { (m : State) → AreThere m self.now →
+            patched m (arc_value result.now) ≡ patched m self.now }
     {
         &self.differing
     }

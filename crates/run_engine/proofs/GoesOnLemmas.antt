@@ -13,10 +13,10 @@ use Rattle.run_engine.proofs.SteppedLemmas.{HaveStepped-none}
 
 -- a replay that has not gone on yet
 pub GoesOn-none : (old ops : List Operation) (marks : List ℕ) (front : Piece) (shelf : Shelf) (count : ℕ)
-    → IsReached ops front.len front.segments.items front.end → GoesOn old ops marks front front shelf shelf count count
+    → IsReached ops front.len front.segments front.end → GoesOn old ops marks front front shelf shelf count count
 GoesOn-none old ops marks front shelf count reached = record {
   reached = reached;
-  onward = IsOnward-none ops marks front.len (marks_from 0 front.segments.items) shelf (contains nat_cmp front.gone);
+  onward = IsOnward-none ops marks front.len (marks_from 0 front.segments) shelf (contains nat_cmp front.gone);
   stepped = λ r start chunks h all. h;
 }
 
@@ -25,7 +25,7 @@ pub GoesOn-next : (old ops : List Operation) (marks : List ℕ) (a b c : Piece) 
     → GoesOn old ops marks a b s t l m → GoesOn old ops marks b c t u m n → GoesOn old ops marks a c s u l n
 GoesOn-next old ops marks a b c s t u l m n h k = record {
   reached = k.reached;
-  onward = IsOnward-next ops marks a.len b.len c.len (marks_from 0 a.segments.items) (marks_from 0 b.segments.items) (marks_from 0 c.segments.items) s t u
+  onward = IsOnward-next ops marks a.len b.len c.len (marks_from 0 a.segments) (marks_from 0 b.segments) (marks_from 0 c.segments) s t u
       (contains nat_cmp a.gone) (contains nat_cmp b.gone) (contains nat_cmp c.gone) h.onward k.onward;
   stepped = λ r start chunks before all.
       k.stepped r start chunks (h.stepped r start chunks before all) (λ e there. all e (h.onward.answered.touched.fewer e there));

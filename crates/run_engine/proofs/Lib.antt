@@ -21,6 +21,8 @@ mod TouchLemmas
 mod NameLemmas
 mod GoneLemmas
 mod ClearedLemmas
+mod BlockLemmas
+mod BlocksLemmas
 mod AnsweredLemmas
 mod OnwardLemmas
 mod GoesOnLemmas

@@ -3,7 +3,6 @@ use Rattle.std.proofs.Common.{◌≡◌, ℕ, suc, zero, ◌+◌, ◌-◌, ◌<�
 use mathlib.Core.Logic.{⊎_elim}
 use Rattle.std.proofs.lemmas.Bool.{cases_lt}
 use Rattle.std.proofs.lemmas.List.{take_all, take_more, take-map, map-append, length-map}
-use Rattle.trace_types.specs.Operation.{Operation}
 use Rattle.run_engine.specs.Parts.{joined, starts_from, IsPartAt}
 use Rattle.run_engine.specs.SegmentView.{SegmentView}
 use Rattle.run_engine.specs.Segments.{ops_of, trace_of}
@@ -11,12 +10,12 @@ use Rattle.run_engine.specs.Revision.{IsLastFrom}
 use Rattle.run_engine.proofs.ListingLemmas.{take-shorter}
 use Rattle.run_engine.proofs.PartLemmas.{joined-few}
 
-pub starts-long : (at : ℕ) (parts : List (List Operation)) → length (starts_from at parts) ≡ length parts
+pub starts-long : {X : Type 0} → (at : ℕ) (parts : List (List X)) → length (starts_from at parts) ≡ length parts
 starts-long at [] = refl
 starts-long at (p ∷ parts) = ap suc (starts-long (at + length p) parts)
 
 -- a part begins behind all operations before it
-pub start-is : (at : ℕ) (parts : List (List Operation)) (i d : ℕ) → i < length parts → get_or (starts_from at parts) i d ≡ at + length (joined (take i parts))
+pub start-is : {X : Type 0} → (at : ℕ) (parts : List (List X)) (i d : ℕ) → i < length parts → get_or (starts_from at parts) i d ≡ at + length (joined (take i parts))
 start-is at [] i d lt = absurd (omega arith)
 start-is at (p ∷ parts) zero d lt = omega arith
 start-is at (p ∷ parts) (suc i) d lt =
@@ -25,7 +24,7 @@ start-is at (p ∷ parts) (suc i) d lt =
     rest ∙ omega arith
 
 -- no part begins before the one in front of it
-pub starts-rise : (at : ℕ) (parts : List (List Operation)) (i j d : ℕ) → i ≤ j → j < length (starts_from at parts) → get_or (starts_from at parts) i d ≤ get_or (starts_from at parts) j d
+pub starts-rise : {X : Type 0} → (at : ℕ) (parts : List (List X)) (i j d : ℕ) → i ≤ j → j < length (starts_from at parts) → get_or (starts_from at parts) i d ≤ get_or (starts_from at parts) j d
 starts-rise at parts i j d le lt =
     let long = starts-long at parts in
     let one = start-is at parts i d (omega arith) in
@@ -34,19 +33,19 @@ starts-rise at parts i j d le lt =
     omega arith
 
 -- one part more
-pub starts-more : (at : ℕ) (parts : List (List Operation)) (p : List Operation) → starts_from at (parts ++ p ∷ []) ≡ starts_from at parts ++ (at + length (joined parts)) ∷ []
+pub starts-more : {X : Type 0} → (at : ℕ) (parts : List (List X)) (p : List X) → starts_from at (parts ++ p ∷ []) ≡ starts_from at parts ++ (at + length (joined parts)) ∷ []
 starts-more at [] p = ap (λ n. n ∷ []) (omega arith)
 starts-more at (q ∷ parts) p =
     let place : at + length q + length (joined parts) ≡ at + length (q ++ joined parts) = omega (arith, length-append q (joined parts)) in
     ap (λ ss. at ∷ ss) (starts-more (at + length q) parts p ∙ ap (λ n. starts_from (at + length q) parts ++ n ∷ []) place)
 
-pub starts-next : (parts : List (List Operation)) (i at : ℕ) (p : List Operation) → i < length parts → p ≡ get_or parts i p → at ≡ length (joined (take i parts)) → starts_from 0 (take (i + 1) parts) ≡ starts_from 0 (take i parts) ++ at ∷ []
+pub starts-next : {X : Type 0} → (parts : List (List X)) (i at : ℕ) (p : List X) → i < length parts → p ≡ get_or parts i p → at ≡ length (joined (take i parts)) → starts_from 0 (take (i + 1) parts) ≡ starts_from 0 (take i parts) ++ at ∷ []
 starts-next parts i at p lt is here =
     let place : 0 + length (joined (take i parts)) ≡ at = omega (arith, here) in
     ap (starts_from 0) (take_more parts i p lt ∙ ap (λ q. take i parts ++ q ∷ []) (sym is)) ∙ starts-more 0 (take i parts) p ∙ ap (λ n. starts_from 0 (take i parts) ++ n ∷ []) place
 
 -- the last of the parts that begin at or before a place has it
-pub last-begun : (parts : List (List Operation)) (starts : List ℕ) (place begun : ℕ) → starts ≡ starts_from 0 parts → 0 < begun → begun ≤ length starts
+pub last-begun : {X : Type 0} → (parts : List (List X)) (starts : List ℕ) (place begun : ℕ) → starts ≡ starts_from 0 parts → 0 < begun → begun ≤ length starts
     → ((k d : ℕ) → k < begun → get_or starts k d ≤ place) → ((k d : ℕ) → begun ≤ k → k < length starts → place < get_or starts k d) → IsPartAt parts place (begun - 1)
 last-begun parts starts place begun is some within early late =
     let long : length starts ≡ length parts = ap length is ∙ starts-long 0 parts in
@@ -66,7 +65,7 @@ last-begun parts starts place begun is some within early late =
     }
 
 -- where none begins at or before a place there is none
-pub none-begun : (parts : List (List Operation)) (starts : List ℕ) (place begun : ℕ) → starts ≡ starts_from 0 parts → begun ≡ 0
+pub none-begun : {X : Type 0} → (parts : List (List X)) (starts : List ℕ) (place begun : ℕ) → starts ≡ starts_from 0 parts → begun ≡ 0
     → ((k d : ℕ) → begun ≤ k → k < length starts → place < get_or starts k d) → parts ≡ []
 none-begun [] starts place begun is none late = refl
 none-begun (p ∷ parts) starts place begun is none late =
@@ -75,11 +74,11 @@ none-begun (p ∷ parts) starts place begun is none late =
     let gt : place < get_or starts 0 0 = late 0 0 (omega arith) (omega arith) in
     absurd (omega arith)
 
-pub start-there : (parts : List (List Operation)) (starts : List ℕ) (place i : ℕ) → starts ≡ starts_from 0 parts → IsPartAt parts place i → i < length starts
+pub start-there : {X : Type 0} → (parts : List (List X)) (starts : List ℕ) (place i : ℕ) → starts ≡ starts_from 0 parts → IsPartAt parts place i → i < length starts
 start-there parts starts place i is h = let lt = h.within in omega (arith, ap length is ∙ starts-long 0 parts)
 
 -- what of a place lies in its part
-pub rest-in-part : (parts : List (List Operation)) (starts : List ℕ) (place i : ℕ) → starts ≡ starts_from 0 parts → IsPartAt parts place i
+pub rest-in-part : {X : Type 0} → (parts : List (List X)) (starts : List ℕ) (place i : ℕ) → starts ≡ starts_from 0 parts → IsPartAt parts place i
     → (get_or starts i 0 ≤ place) × (length (joined (take i parts)) + (place - get_or starts i 0) ≡ place)
 rest-in-part parts starts place i is h =
     let here : get_or starts i 0 ≡ 0 + length (joined (take i parts)) = ap (λ ss. get_or ss i 0) is ∙ start-is 0 parts i 0 h.within in

@@ -14,7 +14,7 @@ use Rattle.run_engine.specs.Steps.{HaveSteppedOn}
 -- a replay that stands at its front may go on to a position
 pub record MayGoOn (ops : List Operation) (front : Piece) (to : ℕ) : Type 0 where
   -- the front is the replay of the first operations, as many as it has
-  pub reached : IsReached ops front.len front.segments.items front.end
+  pub reached : IsReached ops front.len front.segments front.end
   -- the position isn't before its end
   pub order : front.len ≤ to
   -- nor behind the last operation
@@ -23,10 +23,10 @@ pub record MayGoOn (ops : List Operation) (front : Piece) (to : ℕ) : Type 0 wh
 -- a replay has gone on from a front to the next one, beside an old trace with checkpoints, while a shelf and a meter went on
 pub record GoesOn (old ops : List Operation) (marks : List ℕ) (front next : Piece) (shelf after : Shelf) (before count : ℕ) : Type 0 where
   -- the next front is the replay of the first operations, as many as it has
-  pub reached : IsReached ops next.len next.segments.items next.end
+  pub reached : IsReached ops next.len next.segments next.end
   -- by cuts whose names were touched, and no chunk is new on the shelf
   pub onward :
-      IsOnward ops marks front.len next.len (marks_from 0 front.segments.items) (marks_from 0 next.segments.items) shelf after
+      IsOnward ops marks front.len next.len (marks_from 0 front.segments) (marks_from 0 next.segments) shelf after
       (contains nat_cmp front.gone) (contains nat_cmp next.gone)
   -- the operations between that are not covered were stepped
   pub stepped : HaveSteppedOn old ops marks shelf.chunks front.len next.len before count
@@ -39,8 +39,8 @@ GoesOnBeside r front next shelf after before count =
 -- a replay has gone on from a front to the next one by these cuts, whose names were touched before, and none is touched now
 pub record GoesAhead (ops : List Operation) (front next : Piece) (more : List ℕ) : Type 0 where
   -- the next front is the replay of the first operations, as many as it has
-  pub reached : IsReached ops next.len next.segments.items next.end
+  pub reached : IsReached ops next.len next.segments next.end
   -- whatever checkpoints an old run has, the new ones leave what is due
-  pub way : (marks : List ℕ) → IsWay ops marks front.len next.len more (marks_from 0 front.segments.items) (marks_from 0 next.segments.items) (contains nat_cmp front.gone)
+  pub way : (marks : List ℕ) → IsWay ops marks front.len next.len more (marks_from 0 front.segments) (marks_from 0 next.segments) (contains nat_cmp front.gone)
   -- no name is answered
   pub gone : next.gone ≡ front.gone

@@ -6,6 +6,7 @@ pub mod SegmentView
 pub mod Marks
 pub mod Segments
 pub mod Exchanged
+pub mod Blocks
 pub mod RunView
 pub mod HeadAndTail
 pub mod Bounds

@@ -24,10 +24,10 @@ use crate::editing::listing::Listing;
 use crate::replay::loading::{given_up_in, loaded};
 use crate::replay::restart::resumed;
 use crate::replay::touching::remember_all;
+use crate::segments::blocks::Segments;
 use crate::segments::contents::{len_in, marks_in, ops_in, outcomes_in, stretches_in};
 use crate::segments::names::clear_named;
-use crate::segments::seek::{clear_mark, op_at, outcome_at, segment_at};
-use crate::segments::segment::Segment;
+use crate::segments::seek::{op_at, outcome_at, segment_at};
 use mark_shelf::MarkShelf;
 use object_heap::Heap;
 use op_step::Meter;
@@ -49,7 +49,7 @@ use trace_types::trace::Trace;
 /// in common: an edit copies no operation of a stretch that stays.
 #[derive(Drop)]
 pub struct Run {
-    segments: Vec<Segment>,
+    segments: Segments,
     end: Heap,
 }
 
@@ -62,11 +62,11 @@ impl Model for Run {
     ghost coded = { run_code };
 
     ghost view = { λ r. record {
-      trace = trace_of r.segments.items;
-      marks = all_marks r.segments.items;
+      trace = trace_of r.segments;
+      marks = all_marks r.segments;
     } };
 
-    ghost invariant = { λ r. IsKept r.segments.items r.end };
+    ghost invariant = { λ r. IsKept r.segments r.end };
 }
 
 impl Run {
@@ -151,8 +151,9 @@ impl Run {
             segments: replay.segments,
             end: replay.end,
         };
-        remember_all(shelf, replay.fresh);
         run.give_up_named(&replay.gone);
+        let run = run.renewed(alloc)?;
+        remember_all(shelf, replay.fresh);
         Ok(run)
     }
 
@@ -169,7 +170,7 @@ impl Run {
                 if i == 0 {
                     return false;
                 }
-                clear_mark(&mut self.segments, i)
+                self.segments.clear_mark(i)
             }
         }
     }
@@ -181,6 +182,16 @@ impl Run {
             self.new.marks ≡ fold (given_up self.old.trace) self.old.marks names }
     {
         clear_named(&mut self.segments, gone);
+    }
+
+    // The same run, without the heaps of checkpoints that are given up.
+    fn renewed(self, alloc: Global) -> Result<Run, AllocError>
+        ensures { IfOk result (λ r. r ≡ self) }
+    {
+        Ok(Run {
+            segments: self.segments.renewed(alloc)?,
+            end: self.end,
+        })
     }
 
     /// How many operations the trace has.

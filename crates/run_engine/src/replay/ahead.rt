@@ -94,7 +94,7 @@ fn next_cut(
 {
     let known = found(alloc, &front.end, &next, shelf)?;
     if let Some(piece) = known {
-        let front = joined(front, piece)?;
+        let front = joined(alloc, front, piece)?;
         return Ok(front);
     }
     if is_among(inner_name(ops, front.len), &front.gone) {
@@ -102,6 +102,6 @@ fn next_cut(
         return Ok(front);
     }
     let piece = stepped(alloc, &front.end, next, meter)?;
-    let front = joined(front, piece)?;
+    let front = joined(alloc, front, piece)?;
     Ok(front)
 }

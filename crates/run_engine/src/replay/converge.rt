@@ -18,7 +18,7 @@ use crate::replay::rejoin::rejoined;
 use crate::replay::revision::Revision;
 use crate::replay::stretch::{may_begin, old_stretch};
 use crate::replay::touching::touch_at;
-use crate::segments::segment::{Segment, append};
+use crate::segments::blocks::Segments;
 use mark_shelf::MarkShelf;
 use object_heap::Heap;
 use op_step::Meter;
@@ -52,7 +52,7 @@ fn next_piece(
     requires some { front.now.len < to }
     ensures piece { IfOk result (λ p.
         IsPiece front.now.end (slice_range (new_trace revision.now) front.now.len to)
-        p.segments.items p.end p.len) }
+        p.segments p.end p.len) }
     ensures gap { IfOk result (λ p. IsGap (old_marks revision.now) p.len) }
     ensures steps { IfOk result (λ p. meter.new ≤ meter.old + p.len) }
     ensures taken { IfOk result (λ p.
@@ -121,7 +121,7 @@ fn serve(
         } else {
             touch_at(revision.ops, front.len, shelf, &mut front.gone)?;
             let piece = next_piece(alloc, revision, &front, leg.to, shelf, meter)?;
-            front = joined(front, piece)?;
+            front = joined(alloc, front, piece)?;
         }
     }
     Ok(front)
@@ -149,13 +149,18 @@ fn advance(
 }
 
 // The segments of the front, and then others.
-fn spliced(front: Piece, rest: Vec<Segment>, end: Heap, len: usize) -> Result<Piece, AllocError>
-    ensures segments { IfOk result (λ p. p.segments.items ≡ front.segments.items ++ rest.items) }
+fn spliced(
+    alloc: Global,
+    front: Piece,
+    rest: Segments,
+    end: Heap,
+    len: usize,
+) -> Result<Piece, AllocError>
+    ensures segments { IfOk result (λ p. p.segments ≡ front.segments ++ rest) }
     ensures end { IfOk result (λ p. p.end ≡ end) }
     ensures gone { IfOk result (λ p. p.gone ≡ front.gone) }
 {
-    let mut segments = front.segments;
-    append(&mut segments, rest)?;
+    let segments = front.segments.append(alloc, rest)?;
     Ok(Piece {
         segments,
         end,
@@ -178,11 +183,11 @@ pub fn converge(
 ) -> Result<Piece, AllocError>
     requires may { MayGoOn (new_trace revision.now) front seam.new }
     requires shared { ShareEnd (old_trace revision.now) (new_trace revision.now) seam.old seam.new }
-    ensures run { IfOk result (λ r. IsRun r.segments.items r.end) }
-    ensures trace { IfOk result (λ r. trace_of r.segments.items ≡ (new_trace revision.now)) }
+    ensures run { IfOk result (λ r. IsRun r.segments r.end) }
+    ensures trace { IfOk result (λ r. trace_of r.segments ≡ (new_trace revision.now)) }
     ensures marks { IfOk result (λ r.
         AreMarksLeft (old_trace revision.now) (new_trace revision.now)
-        (marks_from 0 front.segments.items) (old_marks revision.now) (all_marks r.segments.items)
+        (marks_from 0 front.segments) (old_marks revision.now) (all_marks r.segments)
         front.len seam.old seam.new shelf.old shelf.new
         (contains nat_cmp front.gone) (contains nat_cmp r.gone)) }
     ensures bound { StepsAtMost (old_trace revision.now) (new_trace revision.now) seam.old seam.new
@@ -197,7 +202,7 @@ pub fn converge(
     let (first, mut at) = revision.last_from(seam.old);
     let mut seen = None;
     for i in first..old.len() {
-        let segment = &old[i];
+        let segment = old.at(i);
         if at >= seam.old {
             if let Some(mark) = segment.mark() {
                 let leg = Leg {
@@ -205,11 +210,11 @@ pub fn converge(
                     open: seam.new,
                 };
                 front = advance(alloc, revision, front, leg, shelf, meter)?;
-                let found = rejoined(alloc, &front.end, mark, &old[i..], revision.end, &mut seen)?;
+                let found = rejoined(alloc, &front.end, &mark, old, i, revision.end, &mut seen)?;
                 if let Some((rest, end)) = found {
                     touch_at(revision.ops, front.len, shelf, &mut front.gone)?;
                     let len = revision.ops.len();
-                    return Ok(spliced(front, rest, end, len)?);
+                    return Ok(spliced(alloc, front, rest, end, len)?);
                 }
             }
         }

@@ -9,6 +9,7 @@ ghost use Rattle.run_engine.specs.GivenUp.{given_up, name_at, names_at, IsTouche
 ghost use Rattle.run_engine.specs.Loaded.{is_gone, kept_below, loaded_view};
 
 use crate::replay::piece::{Piece, STRIDE, joined, replayed_on, stepped};
+use crate::segments::blocks::Segments;
 use mark_shelf::MarkShelf;
 use object_heap::Heap;
 use op_step::{Meter, copy_ops};
@@ -25,15 +26,15 @@ pub fn loaded(
     meter: &mut Meter,
 ) -> Result<Piece, AllocError>
     requires trace { IsTrace ops.now }
-    ensures front { IfOk result (λ f. IsReached ops.now (length ops.now) f.segments.items f.end) }
+    ensures front { IfOk result (λ f. IsReached ops.now (length ops.now) f.segments f.end) }
     ensures marks { IfOk result
-        (λ f. marks_from 0 f.segments.items ≡ kept_below gone.now (length ops.now)) }
+        (λ f. marks_from 0 f.segments ≡ kept_below gone.now (length ops.now)) }
     ensures count { OnOk result (meter.new ≡ raised meter.old (length ops.now)) }
     ensures never_less { meter.old ≤ meter.new }
     ensures rise { meter.new ≤ meter.old + length ops.now }
 {
     let mut front = Piece {
-        segments: Vec::new(alloc),
+        segments: Segments::empty(alloc),
         end: Heap::empty(),
         len: 0,
         fresh: Vec::new(alloc),
@@ -47,7 +48,7 @@ pub fn loaded(
             front = replayed_on(alloc, front, copies, meter)?;
         } else {
             let piece = stepped(alloc, &front.end, copies, meter)?;
-            front = joined(front, piece)?;
+            front = joined(alloc, front, piece)?;
             // of a whole trace no chunk is remembered, and one that stayed would keep its heaps
             front.fresh.clear();
         }

@@ -6,7 +6,8 @@ ghost use Rattle.op_step.specs.Meter.{raised};
 ghost use Rattle.run_engine.specs.Segments.{bare_segment, IsPiece};
 ghost use Rattle.run_engine.specs.Memo.{IsAmong, IsSearched};
 
-use crate::segments::segment::{Segment, append};
+use crate::segments::blocks::Segments;
+use crate::segments::segment::Segment;
 use mark_shelf::{MarkShelf, finds_what_was_there};
 use object_heap::Heap;
 use op_step::{ChunkRun, Meter, replay_from, run_of};
@@ -21,7 +22,7 @@ pub const STRIDE: usize = 64;
 /// names of checkpoints that the shelf has answered so far.
 #[derive(Drop)]
 pub struct Piece {
-    pub segments: Vec<Segment>,
+    pub segments: Segments,
     pub end: Heap,
     pub len: usize,
     pub fresh: Vec<ChunkRun>,
@@ -33,11 +34,10 @@ impl Piece {
     pub fn of(alloc: Global, chunk: &ChunkRun) -> Result<Self, AllocError>
         requires { 0 < length chunk.now.ops }
         ensures piece { IfOk result
-            (λ p. IsPiece chunk.now.start chunk.now.ops p.segments.items p.end p.len) }
+            (λ p. IsPiece chunk.now.start chunk.now.ops p.segments p.end p.len) }
         ensures whole { IfOk result (λ p. p.len ≡ length chunk.now.ops) }
     {
-        let mut segments = Vec::new(alloc);
-        segments.push(Segment::of(alloc, chunk)?)?;
+        let segments = Segments::empty(alloc).push(alloc, Segment::of(alloc, chunk)?)?;
         Ok(Piece {
             segments,
             end: chunk.end().share()?,
@@ -49,16 +49,15 @@ impl Piece {
 }
 
 /// A piece and the next behind it, with the answered names of the first.
-pub fn joined(front: Piece, next: Piece) -> Result<Piece, AllocError>
+pub fn joined(alloc: Global, front: Piece, next: Piece) -> Result<Piece, AllocError>
     requires { front.len + next.len < 2 ^ 64 }
     ensures segments { IfOk result
-        (λ p. p.segments.items ≡ front.segments.items ++ next.segments.items) }
+        (λ p. p.segments ≡ front.segments ++ next.segments) }
     ensures end { IfOk result (λ p. p.end ≡ next.end) }
     ensures len { IfOk result (λ p. p.len ≡ front.len + next.len) }
     ensures gone { IfOk result (λ p. p.gone ≡ front.gone) }
 {
-    let mut segments = front.segments;
-    append(&mut segments, next.segments)?;
+    let segments = front.segments.append(alloc, next.segments)?;
     let mut fresh = front.fresh;
     for chunk in next.fresh {
         fresh.push(chunk)?;
@@ -82,7 +81,7 @@ pub fn stepped(
     requires some { 0 < length ops.items }
     requires distinct { IsTrue (has_distinct_numbers ops.items) }
     requires unused { AreUnused heap.now ops.items }
-    ensures piece { IfOk result (λ p. IsPiece heap.now ops.items p.segments.items p.end p.len) }
+    ensures piece { IfOk result (λ p. IsPiece heap.now ops.items p.segments p.end p.len) }
     ensures whole { IfOk result (λ p. p.len ≡ length ops.items) }
     ensures count { IfOk result (λ p. meter.new ≡ raised meter.old p.len) }
     ensures never_less { meter.old ≤ meter.new }
@@ -103,7 +102,7 @@ pub fn found(
 ) -> Result<Option<Piece>, AllocError>
     requires { 0 < length ops.now }
     ensures piece { IfOk result
-        (λ o. IfSome o (λ p. IsPiece heap.now ops.now p.segments.items p.end p.len)) }
+        (λ o. IfSome o (λ p. IsPiece heap.now ops.now p.segments p.end p.len)) }
     ensures whole { IfOk result (λ o. IfSome o (λ p. p.len ≡ length ops.now)) }
     ensures there { IfOk result (λ o. IfSome o (λ _. IsAmong shelf.old.chunks heap.now ops.now)) }
     ensures searched { IsSearched shelf.old shelf.new }
@@ -128,7 +127,7 @@ pub fn replayed_on(
     requires distinct { IsTrue (has_distinct_numbers ops.items) }
     requires unused { AreUnused front.end ops.items }
     ensures segments { IfOk result
-        (λ p. p.segments.items ≡ front.segments.items ++ bare_segment front.end ops.items ∷ []) }
+        (λ p. p.segments ≡ front.segments ++ bare_segment front.end ops.items ∷ []) }
     ensures end { IfOk result (λ p. p.end ≡ end_from front.end ops.items) }
     ensures len { IfOk result (λ p. p.len ≡ front.len + length ops.items) }
     ensures gone { IfOk result (λ p. p.gone ≡ front.gone) }
@@ -139,8 +138,8 @@ pub fn replayed_on(
     let len = front.len + ops.len();
     front.end.kept();
     let (outcomes, end) = replay_from(alloc, front.end, &ops, meter)?;
-    let mut segments = front.segments;
-    segments.push(Segment::bare(alloc, ops, outcomes)?)?;
+    let bare = Segment::bare(alloc, ops, outcomes)?;
+    let segments = front.segments.push(alloc, bare)?;
     Ok(Piece {
         segments,
         end,

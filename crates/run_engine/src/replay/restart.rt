@@ -13,7 +13,7 @@ use crate::editing::listing::Listing;
 use crate::replay::converge::{Seam, converge};
 use crate::replay::piece::Piece;
 use crate::replay::revision::Revision;
-use crate::segments::segment::{Segment, share_segments};
+use crate::segments::blocks::Segments;
 use mark_shelf::MarkShelf;
 use object_heap::Heap;
 use op_step::Meter;
@@ -45,8 +45,7 @@ fn greatest_mark(alloc: Global, revision: &Revision, head: usize) -> Result<Rest
     let mut i = last + 1;
     while i > 0 {
         i -= 1;
-        let segment = &old[i];
-        if let Some(mark) = segment.mark() {
+        if let Some(mark) = old.at(i).mark() {
             return Ok(Restart {
                 index: i,
                 at: revision.starts[i],
@@ -65,13 +64,13 @@ fn greatest_mark(alloc: Global, revision: &Revision, head: usize) -> Result<Rest
 // The front of the replay of an edited trace.
 fn front(alloc: Global, revision: &Revision, head: usize) -> Result<Piece, AllocError>
     ensures kept { IfOk result
-        (λ f. IsRestart revision.now.segments.now head (length f.segments.items) f.len f.end) }
+        (λ f. IsRestart revision.now.segments.now head (length f.segments) f.len f.end) }
     ensures segments { IfOk result
-        (λ f. f.segments.items ≡ take (length f.segments.items) revision.now.segments.now) }
+        (λ f. f.segments ≡ take (length f.segments) revision.now.segments.now) }
     ensures gone { IfOk result (λ f. AreNames (contains nat_cmp f.gone) []) }
 {
     let restart = greatest_mark(alloc, revision, head)?;
-    let kept = share_segments(alloc, &revision.segments[..restart.index])?;
+    let kept = revision.segments.stretch(alloc, 0, restart.index)?;
     Ok(Piece {
         segments: kept,
         end: restart.heap,
@@ -84,7 +83,7 @@ fn front(alloc: Global, revision: &Revision, head: usize) -> Result<Piece, Alloc
 /// The replay of an edited trace beside that of the old one, the base.
 pub fn resumed(
     alloc: Global,
-    segments: &[Segment],
+    segments: &Segments,
     end: &Heap,
     ops: &Listing,
     shelf: &mut MarkShelf,
@@ -93,11 +92,11 @@ pub fn resumed(
     requires kept { IsKept segments.now end.now }
     requires base { ops.now.base ≡ trace_of segments.now }
     requires trace { IsTrace ops.now.ops }
-    ensures run { IfOk result (λ r. IsRun r.segments.items r.end) }
-    ensures trace { IfOk result (λ r. trace_of r.segments.items ≡ ops.now.ops) }
+    ensures run { IfOk result (λ r. IsRun r.segments r.end) }
+    ensures trace { IfOk result (λ r. trace_of r.segments ≡ ops.now.ops) }
     ensures marks { IfOk result (λ r.
         AreMarksDue (record { trace = ops.now.base; marks = all_marks segments.now })
-        (record { trace = ops.now.ops; marks = all_marks r.segments.items })
+        (record { trace = ops.now.ops; marks = all_marks r.segments })
         shelf.old shelf.new (contains nat_cmp r.gone)) }
     ensures bound { StepsAtMostFrom ops.now.base ops.now.ops (all_marks segments.now)
         meter.old meter.new }

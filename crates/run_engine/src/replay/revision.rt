@@ -6,7 +6,7 @@ ghost use Rattle.run_engine.specs.Revision.{IsRevision, IsLastFrom};
 ghost use Rattle.run_engine.specs.RevisionProps.{IsRevision-prop};
 
 use crate::editing::listing::Listing;
-use crate::segments::segment::Segment;
+use crate::segments::blocks::Segments;
 use crate::segments::starts::part_at;
 use object_heap::Heap;
 use std::alloc::{AllocError, Global};
@@ -14,7 +14,7 @@ use std::alloc::{AllocError, Global};
 /// An old run, where its segments begin, and the operations that replace its own.
 #[derive(Drop)]
 pub struct Revision<'a> {
-    pub segments: &'a [Segment],
+    pub segments: &'a Segments,
     pub starts: Vec<usize>,
     pub end: &'a Heap,
     pub ops: &'a Listing<'a>,
@@ -27,7 +27,7 @@ impl<'a> Revision<'a> {
     /// position is found by halves.
     pub fn of(
         alloc: Global,
-        segments: &'a [Segment],
+        segments: &'a Segments,
         end: &'a Heap,
         ops: &'a Listing<'a>,
     ) -> Result<Self, AllocError>
@@ -40,9 +40,9 @@ impl<'a> Revision<'a> {
     {
         let mut starts = Vec::with_capacity(alloc, segments.len())?;
         let mut at = 0;
-        for segment in segments {
+        for i in 0..segments.len() {
             starts.push(at)?;
-            at += segment.ops().len();
+            at += segments.at(i).ops().len();
         }
         Ok(Revision {
             segments,

@@ -10,7 +10,7 @@ ghost use Rattle.run_engine.specs.Steps.{IsOldStretch};
 use crate::replay::piece::Piece;
 use crate::replay::revision::Revision;
 use crate::segments::contents::len_in;
-use crate::segments::segment::{Segment, share_segments};
+use crate::segments::blocks::Segments;
 use object_heap::Heap;
 use std::alloc::{AllocError, Global};
 use std::collections::BTreeSet;
@@ -32,7 +32,7 @@ pub fn old_stretch(
         (slice_range (new_trace revision.now) at to) p.len)) }
     ensures piece { IfOk result (λ o. IfSome o (λ p.
         IsPiece heap.now (slice_range (new_trace revision.now) at to)
-        p.segments.items p.end p.len)) }
+        p.segments p.end p.len)) }
 {
     let Some(alike) = revision.ops.alike(at) else {
         return Ok(None);
@@ -42,13 +42,12 @@ pub fn old_stretch(
         return Ok(None);
     };
     let old = revision.segments;
-    let Some(mark) = old[i].mark() else {
+    let Some(mark) = old.at(i).mark() else {
         return Ok(None);
     };
-    let bare = unmarked(&old[i + 1..]);
-    let j = i + 1 + bare;
-    let stretch = &old[i..j];
-    let len = len_in(stretch);
+    let j = next_marked(old, i + 1);
+    let segments = old.stretch(alloc, i, j)?;
+    let len = len_in(&segments);
     if len > alike.len - before {
         return Ok(None);
     }
@@ -62,7 +61,6 @@ pub fn old_stretch(
     let Some(after) = heap_at(alloc, old, revision.end, j)? else {
         return Ok(None);
     };
-    let segments = share_segments(alloc, stretch)?;
     Ok(Some(Piece {
         segments,
         end: after,
@@ -82,17 +80,19 @@ pub fn may_begin(revision: &Revision, at: usize) -> bool
     let before = at - alike.at;
     match revision.segment_at(alike.from + before) {
         None => false,
-        Some(i) => revision.segments[i].is_marked(),
+        Some(i) => revision.segments.at(i).is_marked(),
     }
 }
 
-// How many segments in front have no checkpoint.
-fn unmarked(segments: &[Segment]) -> usize
+// The next segment from an index on that has a checkpoint, or the end.
+fn next_marked(segments: &Segments, from: usize) -> usize
+    requires { from ≤ length segments.now }
+    ensures order { from ≤ result }
     ensures within { result ≤ length segments.now }
-    ensures none { (at : ℕ) → marks_from at (take result segments.now) ≡ [] }
+    ensures none { (at : ℕ) → marks_from at (take (result - from) (drop from segments.now)) ≡ [] }
 {
-    for (i, segment) in segments.iter().enumerate() {
-        if segment.is_marked() {
+    for i in from..segments.len() {
+        if segments.at(i).is_marked() {
             return i;
         }
     }
@@ -102,7 +102,7 @@ fn unmarked(segments: &[Segment]) -> usize
 // The heap where the segment at j begins, or the end, if it is kept.
 fn heap_at(
     alloc: Global,
-    segments: &[Segment],
+    segments: &Segments,
     end: &Heap,
     j: usize,
 ) -> Result<Option<Heap>, AllocError>
@@ -115,7 +115,7 @@ fn heap_at(
     if j == segments.len() {
         return Ok(Some(end.share()?));
     }
-    match segments[j].mark() {
+    match segments.at(j).mark() {
         None => Ok(None),
         Some(mark) => Ok(Some(mark.heap(alloc)?)),
     }

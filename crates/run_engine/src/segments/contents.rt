@@ -6,7 +6,8 @@ ghost use Rattle.ownership_model.specs.State.{nothing_held};
 ghost use Rattle.run_engine.specs.Segments.{trace_of, outcomes_in, mark_here, all_marks, AreReplayFrom};
 
 use crate::editing::original::Original;
-use crate::segments::segment::Segment;
+use crate::segments::blocks::Segments;
+use crate::segments::standing::Standing;
 use std::alloc::{AllocError, Global};
 use trace_types::limits::MAX_OPS;
 use trace_types::outcomes::Outcome;
@@ -14,24 +15,26 @@ use trace_types::sequence::Sequence;
 use trace_types::stretches::Stretch;
 
 /// How many operations there are.
-pub fn len_in(segments: &[Segment]) -> usize
+pub fn len_in(segments: &Segments) -> usize
     requires { length (trace_of segments.now) ≤ MAX_OPS }
     ensures { result ≡ length (trace_of segments.now) }
 {
     let mut len = 0;
-    for segment in segments {
+    for i in 0..segments.len() {
+        let segment = segments.at(i);
         len += segment.ops().len();
     }
     len
 }
 
 /// The operations, where they stand.
-pub fn ops_in<'a>(alloc: Global, segments: &'a [Segment]) -> Result<Original<'a>, AllocError>
+pub fn ops_in<'a>(alloc: Global, segments: &'a Segments) -> Result<Original<'a>, AllocError>
     requires { length (trace_of segments.now) ≤ MAX_OPS }
     ensures { IfOk result (λ v. v ≡ trace_of segments.now) }
 {
     let mut parts = Vec::with_capacity(alloc, segments.len())?;
-    for segment in segments {
+    for i in 0..segments.len() {
+        let segment = segments.at(i);
         parts.push(segment.part())?;
     }
     Original::of(alloc, parts)
@@ -40,25 +43,27 @@ pub fn ops_in<'a>(alloc: Global, segments: &'a [Segment]) -> Result<Original<'a>
 /// The operations and outcomes of each segment, where they stand.
 pub fn stretches_in<'a>(
     alloc: Global,
-    segments: &'a [Segment],
+    segments: &'a Segments,
 ) -> Result<Vec<Stretch<'a>>, AllocError>
     requires { AreReplayFrom nothing_held segments.now }
     ensures ops { IfOk result (λ v. lent.ops_of v.items ≡ trace_of segments.now) }
     ensures outcomes { IfOk result (λ v. outcomes_of v.items ≡ outcomes_in segments.now) }
 {
     let mut stretches = Vec::with_capacity(alloc, segments.len())?;
-    for segment in segments {
+    for i in 0..segments.len() {
+        let segment = segments.at(i);
         stretches.push(segment.stretch())?;
     }
     Ok(stretches)
 }
 
 /// Copies of the outcomes.
-pub fn outcomes_in(alloc: Global, segments: &[Segment]) -> Result<Sequence<Outcome>, AllocError>
+pub fn outcomes_in(alloc: Global, segments: &Segments) -> Result<Sequence<Outcome>, AllocError>
     ensures { IfOk result (λ v. v ≡ outcomes_in segments.now) }
 {
     let mut all = Sequence::empty(alloc);
-    for segment in segments {
+    for i in 0..segments.len() {
+        let segment = segments.at(i);
         extend(&mut all, segment.outcomes())?;
     }
     Ok(all)
@@ -75,14 +80,15 @@ fn extend(all: &mut Sequence<Outcome>, more: &[Outcome]) -> Result<(), AllocErro
 }
 
 /// The positions of the checkpoints, rising.
-pub fn marks_in(alloc: Global, segments: &[Segment]) -> Result<Sequence<usize>, AllocError>
+pub fn marks_in(alloc: Global, segments: &Segments) -> Result<Sequence<usize>, AllocError>
     requires { length (trace_of segments.now) ≤ MAX_OPS }
     ensures { IfOk result (λ v. v ≡ all_marks segments.now) }
 {
     let mut marks = Sequence::empty(alloc);
     let mut at = 0;
-    for segment in segments {
-        push_mark(&mut marks, at, segment)?;
+    for i in 0..segments.len() {
+        let segment = segments.at(i);
+        push_mark(&mut marks, at, &segment)?;
         at += segment.ops().len();
     }
     marks.push(at)?;
@@ -90,7 +96,7 @@ pub fn marks_in(alloc: Global, segments: &[Segment]) -> Result<Sequence<usize>, 
 }
 
 // Adds the position of a segment's checkpoint, if it has one.
-fn push_mark(marks: &mut Sequence<usize>, at: usize, segment: &Segment) -> Result<(), AllocError>
+fn push_mark(marks: &mut Sequence<usize>, at: usize, segment: &Standing) -> Result<(), AllocError>
     ensures { OnOk result (marks.new ≡ marks.old ++ mark_here at segment.now.mark) }
 {
     if segment.is_marked() {

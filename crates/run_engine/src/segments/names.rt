@@ -1,11 +1,12 @@
 //! The names of checkpoints: each is the number of the operation before it.
-ghost use Rattle.std.specs.Prelude.{◌≡◌, ◌++◌, ℕ, List, None, OnOk, true, option_to_list};
+ghost use Rattle.std.specs.Prelude.{◌≡◌, ◌++◌, ◌<◌, ℕ, List, None, OnOk, true, length, option_to_list, if◌then◌else◌};
 ghost use Rattle.std.specs.Ordering.{nat_cmp};
 ghost use Rattle.std.specs.BTreeSet.{contains};
 ghost use Rattle.run_engine.specs.Onward.{AreNames};
-ghost use Rattle.run_engine.specs.Cleared.{is_named, cleared_if, cleared};
+ghost use Rattle.run_engine.specs.Cleared.{is_named, cleared};
+ghost use Rattle.run_engine.specs.Segments.{without_mark};
 
-use crate::segments::segment::Segment;
+use crate::segments::blocks::Segments;
 use std::alloc::AllocError;
 use std::collections::BTreeSet;
 
@@ -23,13 +24,13 @@ pub fn add_name(names: &mut BTreeSet<u32>, name: Option<u32>) -> Result<(), Allo
 }
 
 /// Gives up the checkpoints whose names are in the set, in one pass.
-pub fn clear_named(segments: &mut Vec<Segment>, names: &BTreeSet<u32>)
-    ensures { segments.new.items ≡ cleared (contains nat_cmp names.now) None segments.old.items }
+pub fn clear_named(segments: &mut Segments, names: &BTreeSet<u32>)
+    ensures { segments.new ≡ cleared (contains nat_cmp names.now) None segments.old }
 {
     let mut before = None;
-    for segment in segments.iter_mut() {
-        clear_if(segment, is_among(before, names));
-        before = segment.last_id();
+    for i in 0..segments.len() {
+        clear_if(segments, i, is_among(before, names));
+        before = segments.at(i).last_id();
     }
 }
 
@@ -44,10 +45,11 @@ pub fn is_among(name: Option<u32>, names: &BTreeSet<u32>) -> bool
 }
 
 // Gives up a segment's checkpoint where it is to go.
-fn clear_if(segment: &mut Segment, goes: bool)
-    ensures { segment.new ≡ cleared_if goes segment.old }
+fn clear_if(segments: &mut Segments, i: usize, goes: bool)
+    requires { i < length segments.old }
+    ensures { segments.new ≡ (if goes then without_mark segments.old i else segments.old) }
 {
     if goes {
-        let _ = segment.clear_mark();
+        let _ = segments.clear_mark(i);
     }
 }

@@ -1,12 +1,11 @@
 //! A segment of a run.
-ghost use Rattle.std.specs.Prelude.{◌≡◌, ◌++◌, length, IfOk, OnOk, None, Some, is_some};
+ghost use Rattle.std.specs.Prelude.{◌≡◌, IfOk, None, Some};
 ghost use Rattle.std.specs.Option.{option_copied};
 ghost use Rattle.ownership_model.specs.Step.{outcomes_from};
 ghost use Rattle.run_engine.specs.Cleared.{last_name};
-ghost use Rattle.run_engine.specs.Exchanged.{exchanged, IsExchangeable};
 
 use crate::segments::part::{Bounds, Part, bounds_of};
-use agreement::{Checkpoint, Remains};
+use object_heap::Heap;
 use op_step::{ChunkRun, Replayed};
 use std::alloc::{AllocError, Global};
 use std::marker::Model;
@@ -14,13 +13,12 @@ use std::sync::Arc;
 use trace_types::ops::Op;
 use trace_types::outcomes::Outcome;
 use trace_types::sequence::Sequence;
-use trace_types::stretches::Stretch;
 
 /// Operations with their outcomes, and the heap where they begin, if that is kept. The versions of a run share both: one
 /// more of a segment takes two counts.
 #[derive(Drop)]
 pub struct Segment {
-    mark: Option<Arc<Checkpoint>>,
+    mark: Option<Arc<Heap>>,
     body: Arc<Replayed>,
     bounds: Bounds,
     last: Option<u32>,
@@ -60,9 +58,8 @@ impl Segment {
               outcomes = outcomes_from chunk.now.start chunk.now.ops;
             }) }
     {
-        let start = Checkpoint::of(alloc, chunk.start().share()?)?;
         Ok(Segment {
-            mark: Some(Arc::new(alloc, start)?),
+            mark: Some(Arc::new(alloc, chunk.start().share()?)?),
             body: Arc::try_clone(chunk.replayed())?,
             bounds: bounds_of(chunk.ops()),
             last: last_id(chunk.ops()),
@@ -94,7 +91,7 @@ impl Segment {
     {
         let mark = match &self.mark {
             None => None,
-            Some(checkpoint) => Some(Arc::try_clone(checkpoint)?),
+            Some(heap) => Some(Arc::try_clone(heap)?),
         };
         Ok(Segment {
             mark,
@@ -104,17 +101,12 @@ impl Segment {
         })
     }
 
-    /// The same operations and outcomes, which are shared, with the remains exchanged in the checkpoint.
-    pub fn exchanged(&self, alloc: Global, remains: &Remains) -> Result<Self, AllocError>
-        requires { IsExchangeable remains.now self.now }
-        ensures { IfOk result (λ s. s ≡ exchanged remains.now self.now) }
+    /// The same operations and outcomes, which are shared, with no checkpoint.
+    pub fn without_mark(&self) -> Result<Self, AllocError>
+        ensures { IfOk result (λ s. s ≡ record self.now { mark = None }) }
     {
-        let mark = match &self.mark {
-            None => None,
-            Some(checkpoint) => Some(Arc::new(alloc, checkpoint.patched(alloc, remains)?)?),
-        };
         Ok(Segment {
-            mark,
+            mark: None,
             body: Arc::try_clone(&self.body)?,
             bounds: self.bounds,
             last: self.last,
@@ -149,41 +141,14 @@ impl Segment {
         self.body.outcomes.as_slice()
     }
 
-    /// The operations and their outcomes, where they stand.
-    pub fn stretch(&self) -> Stretch<'_>
-        requires { length self.now.outcomes ≡ length self.now.ops }
-        ensures ops { result.ops.now ≡ self.now.ops }
-        ensures outcomes { result.outcomes.now ≡ self.now.outcomes }
-    {
-        Stretch {
-            ops: self.ops(),
-            outcomes: self.outcomes(),
-        }
-    }
-
-    /// Whether there is a checkpoint where it begins.
-    pub fn is_marked(&self) -> bool
-        ensures { result ≡ is_some self.now.mark }
-    {
-        self.mark.is_some()
-    }
-
-    /// The checkpoint where it begins, if there is one.
-    pub fn mark(&self) -> Option<&Checkpoint>
+    /// The heap where it begins, if that is kept.
+    pub fn mark(&self) -> Option<&Heap>
         ensures { option_copied result ≡ self.now.mark }
     {
         match &self.mark {
             None => None,
-            Some(checkpoint) => Some(checkpoint),
+            Some(heap) => Some(heap),
         }
-    }
-
-    /// Gives up the checkpoint, and tells whether there was one.
-    pub fn clear_mark(&mut self) -> bool
-        ensures answer { result ≡ is_some self.old.mark }
-        ensures rest { self.new ≡ record self.old { mark = None } }
-    {
-        self.mark.take().is_some()
     }
 }
 
@@ -193,25 +158,4 @@ fn last_id(ops: &[Op]) -> Option<u32>
 {
     let op = ops.last()?;
     Some(op.id())
-}
-
-/// The same segments again.
-pub fn share_segments(alloc: Global, segments: &[Segment]) -> Result<Vec<Segment>, AllocError>
-    ensures { IfOk result (λ v. v.items ≡ segments.now) }
-{
-    let mut shares = Vec::new(alloc);
-    for segment in segments {
-        shares.push(segment.share()?)?;
-    }
-    Ok(shares)
-}
-
-/// Puts segments behind others.
-pub fn append(segments: &mut Vec<Segment>, more: Vec<Segment>) -> Result<(), AllocError>
-    ensures { OnOk result (segments.new.items ≡ segments.old.items ++ more.items) }
-{
-    for segment in more {
-        segments.push(segment)?;
-    }
-    Ok(())
 }

@@ -38,12 +38,12 @@ returns-in-Some-clause-goes_ahead c =
     let joined = c.in_ok-front.ensures in
     record {
       reached = rw (joined.segments, joined.end, joined.len)
-          (IsReached-next c.args.ops.now.ops c.args.front.len (c.args.front.len + length c.args.next.items) c.in-Some.piece.len c.args.front.segments.items c.in-Some.piece.segments.items c.args.front.end c.in-Some.piece.end
-          c.requires.may.reached (omega arith) c.requires.may.within (subst (λ os. IsPiece c.args.front.end os c.in-Some.piece.segments.items c.in-Some.piece.end c.in-Some.piece.len) c.requires.next (rw (c.in-Some.is, c.deref.ensures.value) at c.in_ok-known.ensures).piece));
+          (IsReached-next c.args.ops.now.ops c.args.front.len (c.args.front.len + length c.args.next.items) c.in-Some.piece.len c.args.front.segments c.in-Some.piece.segments c.args.front.end c.in-Some.piece.end
+          c.requires.may.reached (omega arith) c.requires.may.within (subst (λ os. IsPiece c.args.front.end os c.in-Some.piece.segments c.in-Some.piece.end c.in-Some.piece.len) c.requires.next (rw (c.in-Some.is, c.deref.ensures.value) at c.in_ok-known.ensures).piece));
       way = λ old. rw (joined.segments, joined.len, (rw (c.in-Some.is, c.deref.ensures.value) at c.in_ok-known.ensures).whole)
-          (IsWay-marked c.args.ops.now.ops old c.args.front.len (length c.args.next.items) (marks_from 0 c.args.front.segments.items) _ (contains nat_cmp c.args.front.gone) c.requires.trace.distinct
+          (IsWay-marked c.args.ops.now.ops old c.args.front.len (length c.args.next.items) (marks_from 0 c.args.front.segments) _ (contains nat_cmp c.args.front.gone) c.requires.trace.distinct
           (record { some = c.requires.some; small = inl c.requires.small })
-          (marks_from-piece c.args.ops.now.ops c.args.next.items c.args.front.len c.in-Some.piece.len c.args.front.segments.items c.in-Some.piece.segments.items c.args.front.end c.in-Some.piece.end c.requires.may.reached (rw (c.in-Some.is, c.deref.ensures.value) at c.in_ok-known.ensures).piece));
+          (marks_from-piece c.args.ops.now.ops c.args.next.items c.args.front.len c.in-Some.piece.len c.args.front.segments c.in-Some.piece.segments c.args.front.end c.in-Some.piece.end c.requires.may.reached (rw (c.in-Some.is, c.deref.ensures.value) at c.in_ok-known.ensures).piece));
       gone = c.in_ok-front.ensures.gone;
     }
 
@@ -52,10 +52,10 @@ returns-then-is_among-clause-goes_ahead c =
     let pos : 0 < c.args.front.len = named-behind c.args.ops.now.ops (contains nat_cmp c.args.front.gone) c.args.front.len c.inner_name.result c.inner_name.ensures (sym c.is_among.ensures ∙ c.if-is_among.true) in
     record {
       reached = rw (c.in_ok-front-2.ensures.segments, c.in_ok-front-2.ensures.end, c.in_ok-front-2.ensures.len)
-          (IsReached-bare c.args.ops.now.ops c.args.next.items c.args.front.len c.args.front.segments.items c.args.front.end c.requires.may.reached pos c.requires.may.within c.requires.some c.requires.next);
+          (IsReached-bare c.args.ops.now.ops c.args.next.items c.args.front.len c.args.front.segments c.args.front.end c.requires.may.reached pos c.requires.may.within c.requires.some c.requires.next);
       way = λ old. rw (c.in_ok-front-2.ensures.segments, c.in_ok-front-2.ensures.len)
-          (IsWay-bare c.args.ops.now.ops old c.args.front.len (length c.args.next.items) (marks_from 0 c.args.front.segments.items) _ (contains nat_cmp c.args.front.gone) c.inner_name.result c.requires.trace.distinct
-          (record { some = c.requires.some; small = inl c.requires.small }) c.inner_name.ensures (sym c.is_among.ensures ∙ c.if-is_among.true) (marks_from-bare 0 c.args.front.segments.items c.args.front.end c.args.next.items));
+          (IsWay-bare c.args.ops.now.ops old c.args.front.len (length c.args.next.items) (marks_from 0 c.args.front.segments) _ (contains nat_cmp c.args.front.gone) c.inner_name.result c.requires.trace.distinct
+          (record { some = c.requires.some; small = inl c.requires.small }) c.inner_name.ensures (sym c.is_among.ensures ∙ c.if-is_among.true) (marks_from-bare 0 c.args.front.segments c.args.front.end c.args.next.items));
       gone = c.in_ok-front-2.ensures.gone;
     }
 
@@ -64,11 +64,11 @@ returns-clause-goes_ahead c =
     let joined = c.in_ok-front-3.ensures in
     record {
       reached = rw (joined.segments, joined.end, joined.len)
-          (IsReached-next c.args.ops.now.ops c.args.front.len (c.args.front.len + length c.args.next.items) c.in_ok-piece.piece.len c.args.front.segments.items c.in_ok-piece.piece.segments.items c.args.front.end c.in_ok-piece.piece.end
-          c.requires.may.reached (omega arith) c.requires.may.within (subst (λ os. IsPiece c.args.front.end os c.in_ok-piece.piece.segments.items c.in_ok-piece.piece.end c.in_ok-piece.piece.len) c.requires.next c.in_ok-piece.ensures.piece));
+          (IsReached-next c.args.ops.now.ops c.args.front.len (c.args.front.len + length c.args.next.items) c.in_ok-piece.piece.len c.args.front.segments c.in_ok-piece.piece.segments c.args.front.end c.in_ok-piece.piece.end
+          c.requires.may.reached (omega arith) c.requires.may.within (subst (λ os. IsPiece c.args.front.end os c.in_ok-piece.piece.segments c.in_ok-piece.piece.end c.in_ok-piece.piece.len) c.requires.next c.in_ok-piece.ensures.piece));
       way = λ old. rw (joined.segments, joined.len, c.in_ok-piece.ensures.whole)
-          (IsWay-marked c.args.ops.now.ops old c.args.front.len (length c.args.next.items) (marks_from 0 c.args.front.segments.items) _ (contains nat_cmp c.args.front.gone) c.requires.trace.distinct
+          (IsWay-marked c.args.ops.now.ops old c.args.front.len (length c.args.next.items) (marks_from 0 c.args.front.segments) _ (contains nat_cmp c.args.front.gone) c.requires.trace.distinct
           (record { some = c.requires.some; small = inl c.requires.small })
-          (marks_from-piece c.args.ops.now.ops c.args.next.items c.args.front.len c.in_ok-piece.piece.len c.args.front.segments.items c.in_ok-piece.piece.segments.items c.args.front.end c.in_ok-piece.piece.end c.requires.may.reached c.in_ok-piece.ensures.piece));
+          (marks_from-piece c.args.ops.now.ops c.args.next.items c.args.front.len c.in_ok-piece.piece.len c.args.front.segments c.in_ok-piece.piece.segments c.args.front.end c.in_ok-piece.piece.end c.requires.may.reached c.in_ok-piece.ensures.piece));
       gone = c.in_ok-front-3.ensures.gone;
     }

@@ -15,8 +15,8 @@ pub loop-front-init : goal.loop-front-init
 loop-front-init c = record {
   ahead = record {
     reached = c.requires.may.reached;
-    way = λ old. subst (λ more. IsWay c.args.ops.now.ops old c.args.front.len c.args.front.len more (marks_from 0 c.args.front.segments.items) (marks_from 0 c.args.front.segments.items) (contains nat_cmp c.args.front.gone)) (sym (cuts-none c.args.front.len))
-        (IsWay-none c.args.ops.now.ops old c.args.front.len (marks_from 0 c.args.front.segments.items) (contains nat_cmp c.args.front.gone));
+    way = λ old. subst (λ more. IsWay c.args.ops.now.ops old c.args.front.len c.args.front.len more (marks_from 0 c.args.front.segments) (marks_from 0 c.args.front.segments) (contains nat_cmp c.args.front.gone)) (sym (cuts-none c.args.front.len))
+        (IsWay-none c.args.ops.now.ops old c.args.front.len (marks_from 0 c.args.front.segments) (contains nat_cmp c.args.front.gone));
     gone = refl;
   };
   behind = omega arith;
@@ -51,8 +51,8 @@ loop-front-preserved c =
       ahead = record {
         reached = on.goes_ahead.reached;
         way = λ old. rw there
-            (IsWay-cut c.args.ops.now.ops old c.args.front.len c.loop-front.front.len (length c.in_ok-next.next.items) _ (marks_from 0 c.loop-front.front.segments.items) _ (contains nat_cmp c.args.front.gone) h.behind z (omega (arith, long, more)) (omega (arith, long)) (h.ahead.way old)
-            (subst (λ g. IsWay c.args.ops.now.ops old c.loop-front.front.len (c.loop-front.front.len + length c.in_ok-next.next.items) (c.loop-front.front.len ∷ []) (marks_from 0 c.loop-front.front.segments.items) (marks_from 0 c.in_ok-front.front.segments.items) (contains nat_cmp g)) h.ahead.gone (rw there at on.goes_ahead.way old)));
+            (IsWay-cut c.args.ops.now.ops old c.args.front.len c.loop-front.front.len (length c.in_ok-next.next.items) _ (marks_from 0 c.loop-front.front.segments) _ (contains nat_cmp c.args.front.gone) h.behind z (omega (arith, long, more)) (omega (arith, long)) (h.ahead.way old)
+            (subst (λ g. IsWay c.args.ops.now.ops old c.loop-front.front.len (c.loop-front.front.len + length c.in_ok-next.next.items) (c.loop-front.front.len ∷ []) (marks_from 0 c.loop-front.front.segments) (marks_from 0 c.in_ok-front.front.segments) (contains nat_cmp g)) h.ahead.gone (rw there at on.goes_ahead.way old)));
         gone = on.goes_ahead.gone ∙ h.ahead.gone;
       };
       behind = omega (arith, h.behind, there);

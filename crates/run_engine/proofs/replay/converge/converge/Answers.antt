@@ -86,7 +86,7 @@ back old ops a b i at x shared place behind there = rest-shared old ops a b i at
 pub rejoined-requires-clause-unused : goal.rejoined-requires-clause-unused
 rejoined-requires-clause-unused c =
     rw (take-rest c.loop-i.i c.args.revision.now.segments.now)
-    (new-unused c.args.revision.now.ops.now.ops c.in_ok-front.front.len c.in_ok-front.front.segments.items (drop c.loop-i.i c.args.revision.now.segments.now) c.in_ok-front.front.end c.in_ok-front.ensures.beside.reached c.args.revision.now.holds.trace.distinct
+    (new-unused c.args.revision.now.ops.now.ops c.in_ok-front.front.len c.in_ok-front.front.segments (drop c.loop-i.i c.args.revision.now.segments.now) c.in_ok-front.front.end c.in_ok-front.ensures.beside.reached c.args.revision.now.holds.trace.distinct
     (back c.args.revision.now.segments.now c.args.revision.now.ops.now.ops c.args.seam.old c.args.seam.new c.loop-i.i c.loop-i.at c.in_ok-front.front.len c.requires.shared c.loop-i.invariant.place.place c.if-at-seam.true c.in_ok-front.ensures.there))
 
 -- where the old run goes on it has the operations that are left
@@ -95,10 +95,10 @@ rest-is c =
     let trace : trace_of c.in-Some-found.rest.items ≡ trace_of (take (length c.args.revision.now.segments.now - c.loop-i.i) (drop c.loop-i.i c.args.revision.now.segments.now)) = rw c.in-Some-found.is at c.in_ok-found.ensures.trace in
     trace ∙ ap trace_of (take-rest c.loop-i.i c.args.revision.now.segments.now)
 
-spliced : (c : goal.Joined-seen-9) → IsSpliced c.args.revision.now.ops.now.ops (c.in_ok-front.front.segments.items ++ c.in-Some-found.rest.items) c.in-Some-found.end
+spliced : (c : goal.Joined-seen-9) → IsSpliced c.args.revision.now.ops.now.ops (c.in_ok-front.front.segments ++ c.in-Some-found.rest.items) c.in-Some-found.end
 spliced c =
     let run : IsRunFrom c.in_ok-front.front.end c.in-Some-found.rest.items c.in-Some-found.end = rw c.in-Some-found.is at c.in_ok-found.ensures.run in
-    IsSpliced-rest c.args.revision.now.ops.now.ops c.in_ok-front.front.len c.in_ok-front.front.segments.items c.in-Some-found.rest.items c.in_ok-front.front.end c.in-Some-found.end c.in_ok-front.ensures.beside.reached
+    IsSpliced-rest c.args.revision.now.ops.now.ops c.in_ok-front.front.len c.in_ok-front.front.segments c.in-Some-found.rest.items c.in_ok-front.front.end c.in-Some-found.end c.in_ok-front.ensures.beside.reached
     (rest-is c ∙ back c.args.revision.now.segments.now c.args.revision.now.ops.now.ops c.args.seam.old c.args.seam.new c.loop-i.i c.loop-i.at c.in_ok-front.front.len c.requires.shared c.loop-i.invariant.place.place c.if-at-seam.true c.in_ok-front.ensures.there)
     run
 
@@ -120,7 +120,7 @@ returns-in-Some-found-clause-trace c = rw c.in_ok-spliced.ensures.segments (spli
 pub returns-in-Some-found-clause-marks : goal.returns-in-Some-found-clause-marks
 returns-in-Some-found-clause-marks c =
     let old : List SegmentView = c.args.revision.now.segments.now in
-    let front : List SegmentView = c.in_ok-front.front.segments.items in
+    let front : List SegmentView = c.in_ok-front.front.segments in
     let there : c.in_ok-front.front.len ≡ c.loop-i.at - c.args.seam.old + c.args.seam.new = c.in_ok-front.ensures.there in
     let marks : (at : ℕ) → marks_from at c.in-Some-found.rest.items ≡ marks_from at (take (length c.args.revision.now.segments.now - c.loop-i.i) (drop c.loop-i.i c.args.revision.now.segments.now)) = rw c.in-Some-found.is at c.in_ok-found.ensures.marks in
     let alike : all_marks (front ++ c.in-Some-found.rest.items) ≡ all_marks (front ++ drop c.loop-i.i old) =
@@ -128,10 +128,10 @@ returns-in-Some-found-clause-marks c =
     let trace : trace_of (front ++ drop c.loop-i.i old) ≡ c.args.revision.now.ops.now.ops =
     trace_of-append front (drop c.loop-i.i old) ∙ ap (λ t. trace_of front ++ t) (sym (rest-is c)) ∙ sym (trace_of-append front c.in-Some-found.rest.items) ∙ (spliced c).trace in
     rw (c.in_ok-spliced.ensures.segments, c.in_ok-spliced.ensures.gone)
-    (left-at-stop c.args.revision.now.segments.now c.args.revision.now.ops.now.ops (marks_from 0 c.args.front.segments.items) (marks_from 0 c.in_ok-front.front.segments.items) _ c.args.seam.old c.args.seam.new c.loop-i.i c.loop-i.at c.args.front.len c.in_ok-front.front.len c.index-old-i.result c.in-Some.mark.now _ _ _ _ _ _
+    (left-at-stop c.args.revision.now.segments.now c.args.revision.now.ops.now.ops (marks_from 0 c.args.front.segments) (marks_from 0 c.in_ok-front.front.segments) _ c.args.seam.old c.args.seam.new c.loop-i.i c.loop-i.at c.args.front.len c.in_ok-front.front.len c.index-old-i.result c.in-Some.mark.now _ _ _ _ _ _
     c.args.revision.now.holds.trace.distinct c.loop-i-test.true c.index-old-i.is (sym c.in-Some.ensures) c.loop-i.invariant.place.place c.if-at-seam.true (agreed c) (least-agreeing _ _ _ _ _ _ _ _ _ _ _ _ c.loop-i.invariant.place) there
     (GoesOn-next _ _ _ _ _ _ _ _ _ _ _ _ c.loop-i.invariant.beside c.in_ok-front.ensures.beside).onward c.in_ok-touch_at.ensures.answered
-    (alike ∙ all_marks-stop c.args.revision.now.segments.now c.in_ok-front.front.segments.items c.args.revision.now.ops.now.ops c.args.seam.old c.args.seam.new c.loop-i.i c.loop-i.at c.index-old-i.result c.args.revision.now.holds.kept.run.full c.requires.shared c.loop-i-test.true c.index-old-i.is c.in-Some.mark.now (sym c.in-Some.ensures)
+    (alike ∙ all_marks-stop c.args.revision.now.segments.now c.in_ok-front.front.segments c.args.revision.now.ops.now.ops c.args.seam.old c.args.seam.new c.loop-i.i c.loop-i.at c.index-old-i.result c.args.revision.now.holds.kept.run.full c.requires.shared c.loop-i-test.true c.index-old-i.is c.in-Some.mark.now (sym c.in-Some.ensures)
     c.loop-i.invariant.place.place c.if-at-seam.true (IsReached-length _ _ _ _ c.in_ok-front.ensures.beside.reached ∙ there) trace))
 
 pub returns-in-Some-found-clause-stepped : goal.returns-in-Some-found-clause-stepped
@@ -147,14 +147,14 @@ pub returns-clause-marks : goal.returns-clause-marks
 returns-clause-marks c =
     let there : c.in_ok-front-2.front.len ≡ length c.args.revision.now.ops.now.ops = c.in_ok-front-2.ensures.there ∙ c.len.ensures in
     let e = place-end c.args.revision.now.segments.now c.loop-i.i c.loop-i.at c.loop-i-test.false (c.loop-i.auto.i-end c.last_from-first.ensures.within) c.loop-i.invariant.place.place in
-    let trace : trace_of c.in_ok-front-2.front.segments.items ≡ c.args.revision.now.ops.now.ops = (IsSpliced-end c.args.revision.now.ops.now.ops c.in_ok-front-2.front.len c.in_ok-front-2.front.segments.items c.in_ok-front-2.front.end c.in_ok-front-2.ensures.beside.reached there).trace in
-    left-at-end c.args.revision.now.segments.now c.args.revision.now.ops.now.ops (marks_from 0 c.args.front.segments.items) (marks_from 0 c.in_ok-front-2.front.segments.items) _ c.args.seam.old c.args.seam.new c.args.front.len c.in_ok-front-2.front.len c.args.shelf.now c.advance-2.new.shelf _ _
+    let trace : trace_of c.in_ok-front-2.front.segments ≡ c.args.revision.now.ops.now.ops = (IsSpliced-end c.args.revision.now.ops.now.ops c.in_ok-front-2.front.len c.in_ok-front-2.front.segments c.in_ok-front-2.front.end c.in_ok-front-2.ensures.beside.reached there).trace in
+    left-at-end c.args.revision.now.segments.now c.args.revision.now.ops.now.ops (marks_from 0 c.args.front.segments) (marks_from 0 c.in_ok-front-2.front.segments) _ c.args.seam.old c.args.seam.new c.args.front.len c.in_ok-front-2.front.len c.args.shelf.now c.advance-2.new.shelf _ _
     c.args.revision.now.holds.trace.distinct c.requires.shared
     (λ p mark behind agrees.
     let least : c.loop-i.at ≤ p = least-agreeing _ _ _ _ _ _ _ _ _ _ _ _ c.loop-i.invariant.place p mark behind agrees in
     omega arith)
     there (GoesOn-next _ _ _ _ _ _ _ _ _ _ _ _ c.loop-i.invariant.beside c.in_ok-front-2.ensures.beside).onward
-    (ap (λ ops. marks_from 0 c.in_ok-front-2.front.segments.items ++ length ops ∷ []) trace)
+    (ap (λ ops. marks_from 0 c.in_ok-front-2.front.segments ++ length ops ∷ []) trace)
 
 pub returns-clause-stepped : goal.returns-clause-stepped
 returns-clause-stepped c =
@@ -163,7 +163,7 @@ returns-clause-stepped c =
 
 pub loop-i-init : goal.loop-i-init
 loop-i-init c = record {
-  place = IsBeside-first c.args.revision.now.segments.now c.args.revision.now.ops.now.ops c.args.seam.old c.args.seam.new c.args.front.len c.args.meter.now c.last_from-first.result.0 c.last_from-first.result.1 c.args.front.segments.items c.args.front.end
+  place = IsBeside-first c.args.revision.now.segments.now c.args.revision.now.ops.now.ops c.args.seam.old c.args.seam.new c.args.front.len c.args.meter.now c.last_from-first.result.0 c.last_from-first.result.1 c.args.front.segments c.args.front.end
       c.args.revision.now.holds.kept.run.full c.last_from-first.ensures.within c.last_from-first.ensures.place c.last_from-first.ensures.before c.requires.may.reached c.requires.may.order;
   beside = GoesOn-none (trace_of c.args.revision.now.segments.now) c.args.revision.now.ops.now.ops (all_marks c.args.revision.now.segments.now) c.args.front c.args.shelf.now c.args.meter.now c.requires.may.reached;
   never_less = omega arith;
@@ -194,8 +194,8 @@ loop-i-preserved c =
           let rise = w.advance.ensures.rise in
           rw (w.front-is, w.meter-is, w.shelf-is, c.ops.ensures)
           (record {
-            place = IsBeside-next c.args.revision.now.segments.now c.args.revision.now.ops.now.ops c.args.seam.old c.args.seam.new c.args.front.len c.args.meter.now c.loop-i.i c.loop-i.at c.loop-i.front.len c.loop-i.front.segments.items c.loop-i.front.end c.loop-i.meter
-                w.in_ok-front.front.len w.in_ok-front.front.segments.items w.in_ok-front.front.end w.advance.new.meter c.index-old-i.result c.loop-i.invariant.place c.loop-i-test.true c.index-old-i.is front (omega arith) (omega (arith, c.loop-i.invariant.place.rise, rise))
+            place = IsBeside-next c.args.revision.now.segments.now c.args.revision.now.ops.now.ops c.args.seam.old c.args.seam.new c.args.front.len c.args.meter.now c.loop-i.i c.loop-i.at c.loop-i.front.len c.loop-i.front.segments c.loop-i.front.end c.loop-i.meter
+                w.in_ok-front.front.len w.in_ok-front.front.segments w.in_ok-front.front.end w.advance.new.meter c.index-old-i.result c.loop-i.invariant.place c.loop-i-test.true c.index-old-i.is front (omega arith) (omega (arith, c.loop-i.invariant.place.rise, rise))
                 (λ marked behind agrees.
                 let agree : Agree w.in_ok-front.front.end w.in-Some.mark.now = AgreesAt-there (trace_of c.args.revision.now.segments.now) c.args.revision.now.ops.now.ops c.args.seam.old c.args.seam.new c.loop-i.at w.in_ok-front.front.end w.in-Some.mark.now (front.state ∙ ap (λ x. end_from nothing_held (take x c.args.revision.now.ops.now.ops)) there) (m ∙ ap (end_from nothing_held) (trace_of-front c.args.revision.now.segments.now c.loop-i.i c.loop-i.at c.loop-i.invariant.place.place)) agrees in
                 let t : is_some w.in_ok-found.found ≡ true = w.in_ok-found.ensures.answer.1 agree in
@@ -207,8 +207,8 @@ loop-i-preserved c =
       | then-at-seam+in_default w ↦
           rw (w.front-is, w.meter-is, w.shelf-is, c.ops.ensures)
           (record {
-            place = IsBeside-next c.args.revision.now.segments.now c.args.revision.now.ops.now.ops c.args.seam.old c.args.seam.new c.args.front.len c.args.meter.now c.loop-i.i c.loop-i.at c.loop-i.front.len c.loop-i.front.segments.items c.loop-i.front.end c.loop-i.meter
-                c.loop-i.front.len c.loop-i.front.segments.items c.loop-i.front.end c.loop-i.meter c.index-old-i.result c.loop-i.invariant.place c.loop-i-test.true c.index-old-i.is c.loop-i.invariant.place.front c.loop-i.invariant.place.order c.loop-i.invariant.place.rise
+            place = IsBeside-next c.args.revision.now.segments.now c.args.revision.now.ops.now.ops c.args.seam.old c.args.seam.new c.args.front.len c.args.meter.now c.loop-i.i c.loop-i.at c.loop-i.front.len c.loop-i.front.segments c.loop-i.front.end c.loop-i.meter
+                c.loop-i.front.len c.loop-i.front.segments c.loop-i.front.end c.loop-i.meter c.index-old-i.result c.loop-i.invariant.place c.loop-i-test.true c.index-old-i.is c.loop-i.invariant.place.front c.loop-i.invariant.place.order c.loop-i.invariant.place.rise
                 (λ marked behind agrees. let f : is_some c.index-old-i.result.mark ≡ false = ap is_some (sym w.in_default.ensures) in cc);
             beside = c.loop-i.invariant.beside;
             never_less = c.loop-i.invariant.never_less;
@@ -216,8 +216,8 @@ loop-i-preserved c =
       | else-at-seam w ↦
           rw (w.front-is, w.meter-is, w.shelf-is, c.ops.ensures)
           (record {
-            place = IsBeside-next c.args.revision.now.segments.now c.args.revision.now.ops.now.ops c.args.seam.old c.args.seam.new c.args.front.len c.args.meter.now c.loop-i.i c.loop-i.at c.loop-i.front.len c.loop-i.front.segments.items c.loop-i.front.end c.loop-i.meter
-                c.loop-i.front.len c.loop-i.front.segments.items c.loop-i.front.end c.loop-i.meter c.index-old-i.result c.loop-i.invariant.place c.loop-i-test.true c.index-old-i.is c.loop-i.invariant.place.front c.loop-i.invariant.place.order c.loop-i.invariant.place.rise
+            place = IsBeside-next c.args.revision.now.segments.now c.args.revision.now.ops.now.ops c.args.seam.old c.args.seam.new c.args.front.len c.args.meter.now c.loop-i.i c.loop-i.at c.loop-i.front.len c.loop-i.front.segments c.loop-i.front.end c.loop-i.meter
+                c.loop-i.front.len c.loop-i.front.segments c.loop-i.front.end c.loop-i.meter c.index-old-i.result c.loop-i.invariant.place c.loop-i-test.true c.index-old-i.is c.loop-i.invariant.place.front c.loop-i.invariant.place.order c.loop-i.invariant.place.rise
                 (λ marked behind agrees. let lt : c.loop-i.at < c.args.seam.old = w.if-at-seam.false in omega arith);
             beside = c.loop-i.invariant.beside;
             never_less = c.loop-i.invariant.never_less;

@@ -5,7 +5,7 @@ use Rattle.run_engine.proofs.replay.converge.converge.Given as goal
 
 abbrev pub invariant-loop-i : goal.invariant-loop-i
 invariant-loop-i l = record {
-  place : IsBeside l.revision.segments.now l.revision.ops.now.ops l.seam.old l.seam.new l.initial.front.len l.initial.meter l.i l.at l.front.len l.front.segments.items l.front.end l.meter;
+  place : IsBeside l.revision.segments.now l.revision.ops.now.ops l.seam.old l.seam.new l.initial.front.len l.initial.meter l.i l.at l.front.len l.front.segments l.front.end l.meter;
   beside : GoesOnBeside l.revision l.initial.front l.front l.initial.shelf l.shelf l.initial.meter l.meter;
   never_less : l.initial.meter ≤ l.meter;
 }

@@ -40,10 +40,10 @@ loop-front-preserved c =
     let on : GoesOnBeside c.args.revision.now c.loop-front.front c.in_ok-front-2.front c.loop-front.shelf c.next_piece.new.shelf c.loop-front.meter c.next_piece.new.meter =
     record {
       reached = rw (joined.segments, joined.end, joined.len)
-          (IsReached-next c.args.revision.now.ops.now.ops c.loop-front.front.len c.args.leg.to c.in_ok-piece.piece.len c.loop-front.front.segments.items c.in_ok-piece.piece.segments.items c.loop-front.front.end c.in_ok-piece.piece.end h.beside.reached order c.requires.may.within piece);
+          (IsReached-next c.args.revision.now.ops.now.ops c.loop-front.front.len c.args.leg.to c.in_ok-piece.piece.len c.loop-front.front.segments c.in_ok-piece.piece.segments c.loop-front.front.end c.in_ok-piece.piece.end h.beside.reached order c.requires.may.within piece);
       onward = rw (joined.segments, joined.len, joined.gone)
-          (IsOnward-piece c.args.revision.now.ops.now.ops (all_marks c.args.revision.now.segments.now) c.loop-front.front.len c.in_ok-piece.piece.len (marks_from 0 c.loop-front.front.segments.items) _ c.loop-front.shelf _ _ _ _ c.args.revision.now.holds.trace.distinct c.in_ok-piece.ensures.gap
-          (marks_from-piece c.args.revision.now.ops.now.ops _ c.loop-front.front.len c.in_ok-piece.piece.len c.loop-front.front.segments.items c.in_ok-piece.piece.segments.items c.loop-front.front.end c.in_ok-piece.piece.end h.beside.reached piece)
+          (IsOnward-piece c.args.revision.now.ops.now.ops (all_marks c.args.revision.now.segments.now) c.loop-front.front.len c.in_ok-piece.piece.len (marks_from 0 c.loop-front.front.segments) _ c.loop-front.shelf _ _ _ _ c.args.revision.now.holds.trace.distinct c.in_ok-piece.ensures.gap
+          (marks_from-piece c.args.revision.now.ops.now.ops _ c.loop-front.front.len c.in_ok-piece.piece.len c.loop-front.front.segments c.in_ok-piece.piece.segments c.loop-front.front.end c.in_ok-piece.piece.end h.beside.reached piece)
           touched c.in_ok-piece.ensures.searched);
       stepped = λ r start chunks k all. rw joined.len
           (HaveStepped-next (trace_of c.args.revision.now.segments.now) c.args.revision.now.ops.now.ops (all_marks c.args.revision.now.segments.now) c.touch_at.new.shelf.chunks chunks c.loop-front.front.end r c.loop-front.front.len c.args.leg.to c.in_ok-piece.piece.len start c.loop-front.meter _

@@ -23,7 +23,7 @@ loop-front-preserved-then-is_gone c =
     let on = c.in_ok-front.ensures in
     let goes : is_gone c.args.gone.now c.loop-front.front.len ≡ true = sym c.is_gone.ensures ∙ c.if-is_gone.true in
     rw (on.segments, on.end, on.len, on.count)
-    (IsLoaded-gone c.args.ops.now c.in_ok-copies.copies.items c.args.gone.now c.args.meter.now c.loop-front.front.len _ c.loop-front.meter c.loop-front.front.segments.items c.loop-front.front.end
+    (IsLoaded-gone c.args.ops.now c.in_ok-copies.copies.items c.args.gone.now c.args.meter.now c.loop-front.front.len _ c.loop-front.meter c.loop-front.front.segments c.loop-front.front.end
     c.loop-front.invariant c.loop-front-test.true (omega arith) c.in_ok-copies.ensures goes)
 
 pub loop-front-preserved : goal.loop-front-preserved
@@ -32,5 +32,5 @@ loop-front-preserved c =
     let joined = c.in_ok-front-2.ensures in
     let stays : is_gone c.args.gone.now c.loop-front.front.len ≡ false = sym c.is_gone.ensures ∙ c.if-is_gone.false in
     rw (joined.segments, joined.end, joined.len, c.in_ok-piece.ensures.count)
-    (IsLoaded-kept c.args.ops.now c.args.gone.now c.args.meter.now c.loop-front.front.len _ c.in_ok-piece.piece.len c.loop-front.meter c.loop-front.front.segments.items c.in_ok-piece.piece.segments.items c.loop-front.front.end c.in_ok-piece.piece.end
+    (IsLoaded-kept c.args.ops.now c.args.gone.now c.args.meter.now c.loop-front.front.len _ c.in_ok-piece.piece.len c.loop-front.meter c.loop-front.front.segments c.in_ok-piece.piece.segments c.loop-front.front.end c.in_ok-piece.piece.end
     c.loop-front.invariant c.loop-front-test.true (omega arith) piece (c.in_ok-piece.ensures.whole ∙ ap length c.in_ok-copies.ensures) stays)

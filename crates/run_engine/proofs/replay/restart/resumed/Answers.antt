@@ -13,7 +13,7 @@ converge-requires-clause-may c =
     let kept = rw c.in_ok-revision.ensures.segments at c.in_ok-front.ensures.kept in
     rw c.in_ok-revision.ensures.ops
     (record {
-      reached = IsReached-restart c.args.segments.now c.in_ok-front.front.segments.items c.args.end.now c.in_ok-front.front.end c.args.ops.now.ops c.head-first.result _ c.in_ok-front.front.len
+      reached = IsReached-restart c.args.segments.now c.in_ok-front.front.segments c.args.end.now c.in_ok-front.front.end c.args.ops.now.ops c.head-first.result _ c.in_ok-front.front.len
           c.requires.kept.run kept (rw c.in_ok-revision.ensures.segments at c.in_ok-front.ensures.segments) (subst (λ t. take c.head-first.result t ≡ take c.head-first.result c.args.ops.now.ops) c.requires.base c.head-first.ensures.same) c.head-first.ensures.within;
       order = omega (arith, kept.greatest.early, c.tail-last.ensures.within, c.len.ensures);
       within = omega (arith, c.len.ensures);
@@ -56,7 +56,7 @@ returns-clause-stepped c =
 pub returns-clause-marks : goal.returns-clause-marks
 returns-clause-marks c =
     rw c.requires.base
-    (AreMarksDue-restart c.args.segments.now c.in_ok-front.front.segments.items c.args.end.now c.in_ok-front.front.end c.args.ops.now.ops (all_marks c.in_ok-replay.replay.segments.items) c.head-first.result c.tail-last.result _ c.in_ok-front.front.len _ _ _ _
+    (AreMarksDue-restart c.args.segments.now c.in_ok-front.front.segments c.args.end.now c.in_ok-front.front.end c.args.ops.now.ops (all_marks c.in_ok-replay.replay.segments) c.head-first.result c.tail-last.result _ c.in_ok-front.front.len _ _ _ _
     c.requires.kept.run (rw c.in_ok-revision.ensures.segments at c.in_ok-front.ensures.kept) (rw c.in_ok-revision.ensures.segments at c.in_ok-front.ensures.segments)
     (subst (λ t. AreShared t c.args.ops.now.ops c.head-first.result c.tail-last.result) c.requires.base (record { head_is = c.head-first.ensures; tail_is = c.tail-last.ensures })) c.in_ok-front.ensures.gone
     (rw (c.in_ok-revision.ensures.segments, c.in_ok-revision.ensures.ops, c.base_len.ensures, c.len.ensures, c.requires.base) at c.in_ok-replay.ensures.marks))

@@ -32,8 +32,8 @@ pub returns-clause-marks : goal.returns-clause-marks
 returns-clause-marks c =
     let base : c.in_ok-ops.ops.base ≡ c.args.self.now.trace = c.in_ok-ops.ensures.base ∙ c.in_ok-listed.ensures.base ∙ c.in_ok-original.ensures ∙ ap trace_of c.deref.ensures.value ∙ ap (λ (s : RunView). s.trace) c.self.view_is in
     let marks : all_marks c.deref-2.result.now ≡ c.args.self.now.marks = ap all_marks c.deref-2.ensures.value ∙ ap (λ (s : RunView). s.marks) c.self.view_is in
-    let due : AreMarksDue c.args.self.now (record { trace = trace_of c.in_ok-replay.replay.segments.items; marks = all_marks c.in_ok-replay.replay.segments.items }) c.args.shelf.now c.resumed.new.shelf (contains nat_cmp c.in_ok-replay.replay.gone) =
-    subst (λ (s : RunView). AreMarksDue s (record { trace = trace_of c.in_ok-replay.replay.segments.items; marks = all_marks c.in_ok-replay.replay.segments.items }) c.args.shelf.now c.resumed.new.shelf (contains nat_cmp c.in_ok-replay.replay.gone)) (λ i. record { trace = base i; marks = marks i })
-    (subst (λ ops. AreMarksDue (record { trace = c.in_ok-ops.ops.base; marks = all_marks c.deref-2.result.now }) (record { trace = ops; marks = all_marks c.in_ok-replay.replay.segments.items }) c.args.shelf.now c.resumed.new.shelf (contains nat_cmp c.in_ok-replay.replay.gone))
+    let due : AreMarksDue c.args.self.now (record { trace = trace_of c.in_ok-replay.replay.segments; marks = all_marks c.in_ok-replay.replay.segments }) c.args.shelf.now c.resumed.new.shelf (contains nat_cmp c.in_ok-replay.replay.gone) =
+    subst (λ (s : RunView). AreMarksDue s (record { trace = trace_of c.in_ok-replay.replay.segments; marks = all_marks c.in_ok-replay.replay.segments }) c.args.shelf.now c.resumed.new.shelf (contains nat_cmp c.in_ok-replay.replay.gone)) (λ i. record { trace = base i; marks = marks i })
+    (subst (λ ops. AreMarksDue (record { trace = c.in_ok-ops.ops.base; marks = all_marks c.deref-2.result.now }) (record { trace = ops; marks = all_marks c.in_ok-replay.replay.segments }) c.args.shelf.now c.resumed.new.shelf (contains nat_cmp c.in_ok-replay.replay.gone))
     (sym c.in_ok-replay.ensures.trace) c.in_ok-replay.ensures.marks) in
-    AreMarksKept-due c.args.self.now (record { trace = trace_of c.in_ok-replay.replay.segments.items; marks = all_marks c.in_ok-replay.replay.segments.items }) c.give_up_named.new.self c.args.shelf.now c.resumed.new.shelf c.remember_all.new.shelf (contains nat_cmp c.in_ok-replay.replay.gone) due c.remember_all.ensures c.give_up_named.ensures.trace c.give_up_named.ensures.marks
+    AreMarksKept-due c.args.self.now (record { trace = trace_of c.in_ok-replay.replay.segments; marks = all_marks c.in_ok-replay.replay.segments }) c.give_up_named.new.self c.args.shelf.now c.resumed.new.shelf c.remember_all.new.shelf (contains nat_cmp c.in_ok-replay.replay.gone) due c.remember_all.ensures c.give_up_named.ensures.trace c.give_up_named.ensures.marks

@@ -7,17 +7,17 @@ use Rattle.run_engine.proofs.GiveUpLemmas.{IsKept-without_mark, given-up, IsInne
 use Rattle.run_engine.proofs.run.Run.give_up.Goals as goal
 
 pub invariant_of-self : goal.invariant_of-self
-invariant_of-self c = let pos : 0 < c.in-Some.i = omega (arith, c.if-i-eq0.false) in rw c.clear_mark.ensures.kept (IsKept-without_mark c.self.inside.segments.items c.self.inside.end c.in-Some.i pos c.self.invariant)
+invariant_of-self c = let pos : 0 < c.in-Some.i = omega (arith, c.if-i-eq0.false) in rw c.clear_mark.ensures.kept (IsKept-without_mark c.self.inside.segments c.self.inside.end c.in-Some.i pos c.self.invariant)
 
 pub returns-else-i-eq0-clause-trace : goal.returns-else-i-eq0-clause-trace
-returns-else-i-eq0-clause-trace c = ap trace_of c.clear_mark.ensures.kept ∙ trace_of-without_mark c.self.inside.segments.items c.in-Some.i ∙ ap (λ (s : RunView). s.trace) c.self.view_is
+returns-else-i-eq0-clause-trace c = ap trace_of c.clear_mark.ensures.kept ∙ trace_of-without_mark c.self.inside.segments c.in-Some.i ∙ ap (λ (s : RunView). s.trace) c.self.view_is
 
 pub returns-else-i-eq0-clause-answer : goal.returns-else-i-eq0-clause-answer
 returns-else-i-eq0-clause-answer c =
     let pos : 0 < c.in-Some.i = omega (arith, c.if-i-eq0.false) in
     let lt = rw c.deref.ensures.value at c.in-Some.ensures.within in
     let place = rw c.deref.ensures.value at c.in-Some.ensures.place in
-    let both = IsInner-answer c.self.inside.segments.items c.in-Some.i c.args.position c.self.invariant.run.full lt pos place in
+    let both = IsInner-answer c.self.inside.segments c.in-Some.i c.args.position c.self.invariant.run.full lt pos place in
     subst (λ (s : RunView). (IsTrue c.clear_mark.result → IsInner s.marks (length s.trace) c.args.position) × (IsInner s.marks (length s.trace) c.args.position → IsTrue c.clear_mark.result)) c.self.view_is
     (rw c.clear_mark.ensures.answer both)
 
@@ -26,5 +26,5 @@ returns-else-i-eq0-clause-marks c =
     let lt = rw c.deref.ensures.value at c.in-Some.ensures.within in
     let place = rw c.deref.ensures.value at c.in-Some.ensures.place in
     rw c.clear_mark.ensures.kept
-    (given-up c.self.inside.segments.items c.in-Some.i c.args.position c.clear_mark.result c.self.invariant.run.full lt place c.clear_mark.ensures.answer
+    (given-up c.self.inside.segments c.in-Some.i c.args.position c.clear_mark.result c.self.invariant.run.full lt place c.clear_mark.ensures.answer
     ∙ ap (λ (s : RunView). if c.clear_mark.result then without c.args.position s.marks else s.marks) c.self.view_is)

@@ -10,5 +10,5 @@ pub returns-clause-outcomes : goal.returns-clause-outcomes
 returns-clause-outcomes c =
     c.in_ok-stretches.ensures.outcomes
     ∙ ap outcomes_in c.deref.ensures.value
-    ∙ outcomes_in-replay nothing_held c.self.inside.segments.items c.self.invariant.run.replay
+    ∙ outcomes_in-replay nothing_held c.self.inside.segments c.self.invariant.run.replay
     ∙ ap (λ (s : RunView). outcomes_from nothing_held s.trace) c.self.view_is

@@ -16,3 +16,16 @@ returns-clause-part c parts is =
     let point = IsPartitionPoint-from_clause (λ x. leb x c.args.place) _ _ c.partition_point-begun.ensures.partitioned parted (λ a r q k. search rules) in
     last-begun parts c.args.starts.now c.args.place c.partition_point-begun.result is (omega arith) c.partition_point-begun.ensures.bound
     (λ k d below. leb-true _ _ (point.0 k d (omega arith) below)) (λ k d from below. leb-false _ _ (point.1 k d from below))
+
+pub returns-then-begun-eq0-clause-no_block : goal.returns-then-begun-eq0-clause-no_block
+returns-then-begun-eq0-clause-no_block c blocks is =
+    let parted = IsPartitionedBy-leb (λ x. x) c.args.starts.now c.args.place (rw is (starts-rise 0 blocks)) in
+    let point = IsPartitionPoint-from_clause (λ x. leb x c.args.place) _ _ c.partition_point-begun.ensures.partitioned parted (λ a r q k. search rules) in
+    none-begun blocks c.args.starts.now c.args.place c.partition_point-begun.result is (omega arith) (λ k d from below. leb-false _ _ (point.1 k d from below))
+
+pub returns-clause-block : goal.returns-clause-block
+returns-clause-block c blocks is =
+    let parted = IsPartitionedBy-leb (λ x. x) c.args.starts.now c.args.place (rw is (starts-rise 0 blocks)) in
+    let point = IsPartitionPoint-from_clause (λ x. leb x c.args.place) _ _ c.partition_point-begun.ensures.partitioned parted (λ a r q k. search rules) in
+    last-begun blocks c.args.starts.now c.args.place c.partition_point-begun.result is (omega arith) c.partition_point-begun.ensures.bound
+    (λ k d below. leb-true _ _ (point.0 k d (omega arith) below)) (λ k d from below. leb-false _ _ (point.1 k d from below))

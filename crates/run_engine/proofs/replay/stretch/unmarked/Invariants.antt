@@ -1,6 +1,0 @@
-use Rattle.std.proofs.Common.{◌≡◌, ℕ, [], take}
-use Rattle.run_engine.specs.Segments.{marks_from}
-use Rattle.run_engine.proofs.replay.stretch.unmarked.Given as goal
-
-abbrev pub invariant-loop-i : goal.invariant-loop-i
-invariant-loop-i l = (at : ℕ) → marks_from at (take l.i l.segments) ≡ []

@@ -1,0 +1,23 @@
+use Rattle.std.proofs.Common.{◌≡◌, ◌∙◌, sym, subst, ap, map, List}
+use Rattle.std.specs.Prelude.{Some}
+use Rattle.std.specs.Arc.{arc_value}
+use Rattle.std.specs.Option.{option_map}
+use Rattle.run_engine.specs.SegmentView.{SegmentView}
+use Rattle.run_engine.specs.Exchanged.{exchanged, AreExchangeable}
+use Rattle.run_engine.specs.Blocks.{laid_over, standing}
+use Rattle.run_engine.proofs.BlockLemmas.{laid-both, sound-both}
+use Rattle.run_engine.proofs.segments.block.Block.exchanged.Goals as goal
+
+pub invariant_of-result : goal.invariant_of-result
+invariant_of-result c =
+    let x = option_map arc_value c.self.inside.laid in
+    let ss : List SegmentView = standing c.self.inside.gone c.self.inside.from c.self.inside.len (arc_value c.self.inside.segments).items in
+    let can : AreExchangeable c.args.remains.now (map (laid_over x) ss) = subst (AreExchangeable c.args.remains.now) (sym c.self.view_is) c.requires in
+    rw (c.in_ok-segments.ensures, c.share-gone.ensures) (c.self.invariant.0, c.self.invariant.1, sound-both x c.args.remains.now (arc_value c.in_ok-laid.laid) ss c.in_ok-laid.ensures can)
+
+pub returns : goal.returns
+returns c =
+    let x = option_map arc_value c.self.inside.laid in
+    let ss : List SegmentView = standing c.self.inside.gone c.self.inside.from c.self.inside.len (arc_value c.self.inside.segments).items in
+    let can : AreExchangeable c.args.remains.now (map (laid_over x) ss) = subst (AreExchangeable c.args.remains.now) (sym c.self.view_is) c.requires in
+    rw (c.in_ok-segments.ensures, c.share-gone.ensures) (laid-both x c.args.remains.now (arc_value c.in_ok-laid.laid) ss c.in_ok-laid.ensures can ∙ ap (map (exchanged c.args.remains.now)) c.self.view_is)

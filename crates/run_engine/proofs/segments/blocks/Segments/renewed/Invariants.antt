@@ -1,0 +1,6 @@
+use Rattle.std.proofs.Common.{◌≡◌, ◌++◌}
+use Rattle.run_engine.specs.Parts.{joined}
+use Rattle.run_engine.proofs.segments.blocks.Segments.renewed.Given as goal
+
+abbrev pub invariant-loop-block : goal.invariant-loop-block
+invariant-loop-block l = l.all ≡ joined l.yielded

@@ -1,0 +1,115 @@
+//! A segment as it stands in a run.
+ghost use Rattle.std.specs.Prelude.{◌≡◌, length, is_some, [], ◌∷◌};
+ghost use Rattle.std.specs.Option.{option_copied};
+ghost use Rattle.run_engine.specs.Cleared.{cleared_if, last_name};
+ghost use Rattle.run_engine.specs.Blocks.{laid_over, AreSoundBelow};
+
+use crate::segments::part::Part;
+use crate::segments::segment::Segment;
+use agreement::{Checkpoint, Exchange};
+use std::marker::Model;
+use trace_types::ops::Op;
+use trace_types::outcomes::Outcome;
+use trace_types::stretches::Stretch;
+
+/// A segment as it stands in a run: its checkpoint may be given up there, and something may be laid over it. Contracts see the segment
+/// that is meant.
+#[derive(Drop)]
+pub struct Standing<'a> {
+    segment: &'a Segment,
+    is_gone: bool,
+    laid: Option<&'a Exchange>,
+}
+
+impl<'a> Model for Standing<'a> {
+    ghost use Rattle.std.specs.Prelude.{[], ◌∷◌};
+    ghost use Rattle.std.specs.Option.{option_copied};
+    ghost use Rattle.run_engine.specs.SegmentView.{SegmentView, segment_code};
+    ghost use Rattle.run_engine.specs.Cleared.{cleared_if};
+    ghost use Rattle.run_engine.specs.Blocks.{laid_over, AreSoundBelow};
+
+    ghost Value = { SegmentView };
+
+    ghost coded = { segment_code };
+
+    ghost view = { λ s. laid_over (option_copied s.laid) (cleared_if s.is_gone s.segment.now) };
+
+    ghost invariant = { λ s.
+        AreSoundBelow (option_copied s.laid) (cleared_if s.is_gone s.segment.now ∷ []) };
+}
+
+impl<'a> Standing<'a> {
+    /// A segment, without its checkpoint if that is given up, under what is laid over it.
+    pub fn new(segment: &'a Segment, is_gone: bool, laid: Option<&'a Exchange>) -> Self
+        requires { AreSoundBelow (option_copied laid) (cleared_if is_gone segment.now ∷ []) }
+        ensures { result
+            ≡ laid_over (option_copied laid.entry) (cleared_if is_gone segment.entry.now) }
+    {
+        Standing {
+            segment,
+            is_gone,
+            laid,
+        }
+    }
+
+    /// The operations, where they stand.
+    pub fn ops(&self) -> &'a [Op]
+        ensures { result.now ≡ self.now.ops }
+    {
+        self.segment.ops()
+    }
+
+    /// The operations, with the bounds of their numbers.
+    pub fn part(&self) -> Part<'a>
+        ensures { result ≡ self.now.ops }
+    {
+        self.segment.part()
+    }
+
+    /// The number of the last operation, which is kept beside them: they aren't looked at.
+    pub fn last_id(&self) -> Option<u32>
+        ensures { result ≡ last_name self.now.ops }
+    {
+        self.segment.last_id()
+    }
+
+    /// The outcomes, where they stand.
+    pub fn outcomes(&self) -> &'a [Outcome]
+        ensures { result.now ≡ self.now.outcomes }
+    {
+        self.segment.outcomes()
+    }
+
+    /// The operations and their outcomes, where they stand.
+    pub fn stretch(&self) -> Stretch<'a>
+        requires { length self.now.outcomes ≡ length self.now.ops }
+        ensures ops { result.ops.now ≡ self.now.ops }
+        ensures outcomes { result.outcomes.now ≡ self.now.outcomes }
+    {
+        Stretch {
+            ops: self.ops(),
+            outcomes: self.outcomes(),
+        }
+    }
+
+    /// Whether there is a checkpoint where it begins.
+    pub fn is_marked(&self) -> bool
+        ensures { result ≡ is_some self.now.mark }
+    {
+        !self.is_gone && self.segment.mark().is_some()
+    }
+
+    /// The checkpoint where it begins, if there is one.
+    pub fn mark(&self) -> Option<Checkpoint<'a>>
+        ensures { result ≡ self.now.mark }
+    {
+        if self.is_gone {
+            return None;
+        }
+        let heap = self.segment.mark()?;
+        match self.laid {
+            None => Some(Checkpoint::of(heap)),
+            Some(exchange) => Some(Checkpoint::under(heap, exchange)),
+        }
+    }
+}
