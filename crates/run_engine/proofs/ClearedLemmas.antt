@@ -1,15 +1,16 @@
 -- Segments whose checkpoints are given up by name.
-use Rattle.std.proofs.Common.{◌≡◌, ℕ, ◌+◌, ◌<◌, Bool, true, false, cond, nat_lt, List, [], ◌∷◌, ◌++◌, length, refl, ap, sym, subst, ◌∙◌, arith, append_assoc, length-append, lt-ltb, le-ltb}
-use Rattle.std.specs.Prelude.{◌&&◌, not, filter, Option, Some, None}
+use Rattle.std.proofs.Common.{◌≡◌, ℕ, ◌+◌, ◌<◌, Bool, true, false, cond, nat_lt, zero, suc, take, drop, get_or, add-one, List, [], ◌∷◌, ◌++◌, length, refl, ap, sym, subst, ◌∙◌, arith, append_assoc, length-append, lt-ltb, le-ltb}
+use Rattle.std.specs.Prelude.{◌&&◌, not, filter, Option, Some, None, if◌then◌else◌}
 use Rattle.std.proofs.lemmas.List.Elements.{filter-append}
 use Rattle.ownership_model.specs.State.{State, nothing_held}
 use Rattle.ownership_model.specs.Step.{end_from}
 use Rattle.trace_types.specs.Operation.{Operation}
 use Rattle.run_engine.specs.SegmentView.{SegmentView}
-use Rattle.run_engine.specs.Segments.{ops_of, trace_of, mark_here, marks_from, all_marks, IsSegmentFrom, AreReplayFrom, AreFull, BeginsMarked, IsKept}
+use Rattle.run_engine.specs.Segments.{ops_of, trace_of, mark_here, marks_from, all_marks, without_mark, IsSegmentFrom, AreReplayFrom, AreFull, BeginsMarked, IsKept}
 use Rattle.run_engine.specs.GivenUp.{name_at}
 use Rattle.run_engine.specs.Cleared.{is_named, cleared_if, last_name, cleared}
 use Rattle.run_engine.proofs.NameLemmas.{last-name}
+use Rattle.run_engine.proofs.BlocksLemmas.{length-without}
 
 ops_of-cleared_if : (goes : Bool) (s : SegmentView) → ops_of (cleared_if goes s) ≡ ops_of s
 ops_of-cleared_if true s = refl
@@ -106,3 +107,22 @@ all_marks-cleared named segments full =
     ∙ ap (λ ps. ps ++ n ∷ []) (marks_from-cleared named trace [] None 0 segments full refl refl refl)
     ∙ ap (λ ps. filter keep (marks_from 0 segments) ++ ps) (sym (ap (λ b. cond (not (b && is_named named (name_at trace n))) (n ∷ []) []) (le-ltb n n (omega arith))))
     ∙ sym (filter-append keep (marks_from 0 segments) (n ∷ []))
+
+pub long-as-before : (b : Bool) (ss : List SegmentView) (i : ℕ) → length (if b then without_mark ss i else ss) ≡ length ss
+long-as-before true ss i = length-without ss i
+long-as-before false ss i = refl
+
+-- one segment more was looked at
+next-cleared : (named : ℕ → Bool) (before : Option ℕ) (b : Bool) (ss : List SegmentView) (i : ℕ) (s : SegmentView) → b ≡ is_named named before → i < length ss → s ≡ get_or (if b then without_mark ss i else ss) i s
+    → take (suc i) (if b then without_mark ss i else ss) ++ cleared named (last_name (ops_of s)) (drop (suc i) (if b then without_mark ss i else ss)) ≡ take i ss ++ cleared named before (drop i ss)
+next-cleared named before b [] i s is lt at = absurd (omega arith)
+next-cleared named before true (t ∷ ss) zero s is lt at = λ j. cleared_if (is j) t ∷ cleared named (last_name (ops_of (at j))) ss
+next-cleared named before false (t ∷ ss) zero s is lt at = λ j. cleared_if (is j) t ∷ cleared named (last_name (ops_of (at j))) ss
+next-cleared named before true (t ∷ ss) (suc i) s is lt at = ap (λ all. t ∷ all) (next-cleared named before true ss i s is (omega arith) at)
+next-cleared named before false (t ∷ ss) (suc i) s is lt at = ap (λ all. t ∷ all) (next-cleared named before false ss i s is (omega arith) at)
+
+pub cleared-next : (named : ℕ → Bool) (before after : Option ℕ) (b : Bool) (ss new : List SegmentView) (i : ℕ) (s : SegmentView) → b ≡ is_named named before → i < length ss → new ≡ (if b then without_mark ss i else ss) → s ≡ get_or new i s
+    → after ≡ last_name (ops_of s) → take (i + 1) new ++ cleared named after (drop (i + 1) new) ≡ take i ss ++ cleared named before (drop i ss)
+cleared-next named before after b ss new i s is lt new-is at after-is =
+    (λ j. take (add-one i j) (new-is j) ++ cleared named (after-is j) (drop (add-one i j) (new-is j)))
+    ∙ next-cleared named before b ss i s is lt (at ∙ ap (λ all. get_or all i s) new-is)

@@ -43,9 +43,9 @@ pub fn rejoined(
         }
         Meeting::Alike(remains) => {
             let end = patch(alloc, end, &remains)?;
-            let rest = old.stretch(alloc, i, old.len())?;
-            let rest = rest.exchanged(alloc, &remains)?;
-            Ok(Some((rest, end)))
+            let behind = old.stretch(alloc, i, old.len())?;
+            let exchanged = behind.exchanged(alloc, &remains)?;
+            Ok(Some((exchanged, end)))
         }
     }
 }

@@ -41,7 +41,7 @@ overflow_add-leg c =
 
 pub overflow_add-at : goal.overflow_add-at
 overflow_add-at c =
-    let next = length-trace_of-next c.args.revision.now.segments.now c.loop-i.i c.index-old-i.result c.loop-i-test.true c.index-old-i.is in
+    let next = length-trace_of-next c.args.revision.now.segments.now c.loop-i.i c.at-segment.result (omega (arith, c.loop-i-test.true, c.len-i-end.ensures)) c.at-segment.ensures in
     let n = ap length c.ops.ensures in
     let le : length (trace_of (take (c.loop-i.i + 1) c.args.revision.now.segments.now)) ≤ length (trace_of c.args.revision.now.segments.now) = place-within c.args.revision.now.segments.now (c.loop-i.i + 1) _ refl in
     omega (arith, c.args.revision.now.holds.kept.trace.few, c.loop-i.invariant.place.place)
@@ -68,16 +68,14 @@ returns-in-Some-found-clause-bound c =
 
 pub rejoined-requires-clause-run : goal.rejoined-requires-clause-run
 rejoined-requires-clause-run c =
-    rw (take-rest c.loop-i.i c.args.revision.now.segments.now)
-    (IsRunFrom-back c.args.revision.now.segments.now c.args.revision.now.end.now c.in-Some.mark.now c.loop-i.i c.index-old-i.result c.args.revision.now.holds.kept.run c.loop-i-test.true c.index-old-i.is c.in-Some.ensures)
+    (IsRunFrom-back c.args.revision.now.segments.now c.args.revision.now.end.now c.in-Some.mark c.loop-i.i c.at-segment.result c.args.revision.now.holds.kept.run (omega (arith, c.loop-i-test.true, c.len-i-end.ensures)) c.at-segment.ensures c.in-Some.ensures)
 
 pub rejoined-requires-clause-distinct : goal.rejoined-requires-clause-distinct
-rejoined-requires-clause-distinct c = rw (take-rest c.loop-i.i c.args.revision.now.segments.now) (distinct-back c.args.revision.now.segments.now c.loop-i.i c.args.revision.now.holds.kept.trace.distinct)
+rejoined-requires-clause-distinct c = (distinct-back c.args.revision.now.segments.now c.loop-i.i c.args.revision.now.holds.kept.trace.distinct)
 
 pub rejoined-requires-clause-old_unused : goal.rejoined-requires-clause-old_unused
 rejoined-requires-clause-old_unused c =
-    rw (take-rest c.loop-i.i c.args.revision.now.segments.now)
-    (old-unused c.args.revision.now.segments.now c.args.revision.now.end.now c.in-Some.mark.now c.loop-i.i c.index-old-i.result c.args.revision.now.holds.kept.run c.args.revision.now.holds.kept.trace.distinct c.loop-i-test.true c.index-old-i.is c.in-Some.ensures)
+    (old-unused c.args.revision.now.segments.now c.args.revision.now.end.now c.in-Some.mark c.loop-i.i c.at-segment.result c.args.revision.now.holds.kept.run c.args.revision.now.holds.kept.trace.distinct (omega (arith, c.loop-i-test.true, c.len-i-end.ensures)) c.at-segment.ensures c.in-Some.ensures)
 
 -- the edited trace ends with the operations of the rest of the old run
 back : (old : List SegmentView) (ops : List Operation) (a b i at x : ℕ) → ShareEnd (trace_of old) ops a b → length (trace_of (take i old)) ≡ at → a ≤ at → x ≡ at - a + b → trace_of (drop i old) ≡ drop x ops
@@ -85,30 +83,27 @@ back old ops a b i at x shared place behind there = rest-shared old ops a b i at
 
 pub rejoined-requires-clause-unused : goal.rejoined-requires-clause-unused
 rejoined-requires-clause-unused c =
-    rw (take-rest c.loop-i.i c.args.revision.now.segments.now)
     (new-unused c.args.revision.now.ops.now.ops c.in_ok-front.front.len c.in_ok-front.front.segments (drop c.loop-i.i c.args.revision.now.segments.now) c.in_ok-front.front.end c.in_ok-front.ensures.beside.reached c.args.revision.now.holds.trace.distinct
     (back c.args.revision.now.segments.now c.args.revision.now.ops.now.ops c.args.seam.old c.args.seam.new c.loop-i.i c.loop-i.at c.in_ok-front.front.len c.requires.shared c.loop-i.invariant.place.place c.if-at-seam.true c.in_ok-front.ensures.there))
 
 -- where the old run goes on it has the operations that are left
-rest-is : (c : goal.Joined-seen-9) → trace_of c.in-Some-found.rest.items ≡ trace_of (drop c.loop-i.i c.args.revision.now.segments.now)
-rest-is c =
-    let trace : trace_of c.in-Some-found.rest.items ≡ trace_of (take (length c.args.revision.now.segments.now - c.loop-i.i) (drop c.loop-i.i c.args.revision.now.segments.now)) = rw c.in-Some-found.is at c.in_ok-found.ensures.trace in
-    trace ∙ ap trace_of (take-rest c.loop-i.i c.args.revision.now.segments.now)
+rest-is : (c : goal.Joined-seen-9) → trace_of c.in-Some-found.rest ≡ trace_of (drop c.loop-i.i c.args.revision.now.segments.now)
+rest-is c = rw c.in-Some-found.is at c.in_ok-found.ensures.trace
 
-spliced : (c : goal.Joined-seen-9) → IsSpliced c.args.revision.now.ops.now.ops (c.in_ok-front.front.segments ++ c.in-Some-found.rest.items) c.in-Some-found.end
+spliced : (c : goal.Joined-seen-9) → IsSpliced c.args.revision.now.ops.now.ops (c.in_ok-front.front.segments ++ c.in-Some-found.rest) c.in-Some-found.end
 spliced c =
-    let run : IsRunFrom c.in_ok-front.front.end c.in-Some-found.rest.items c.in-Some-found.end = rw c.in-Some-found.is at c.in_ok-found.ensures.run in
-    IsSpliced-rest c.args.revision.now.ops.now.ops c.in_ok-front.front.len c.in_ok-front.front.segments c.in-Some-found.rest.items c.in_ok-front.front.end c.in-Some-found.end c.in_ok-front.ensures.beside.reached
+    let run : IsRunFrom c.in_ok-front.front.end c.in-Some-found.rest c.in-Some-found.end = rw c.in-Some-found.is at c.in_ok-found.ensures.run in
+    IsSpliced-rest c.args.revision.now.ops.now.ops c.in_ok-front.front.len c.in_ok-front.front.segments c.in-Some-found.rest c.in_ok-front.front.end c.in-Some-found.end c.in_ok-front.ensures.beside.reached
     (rest-is c ∙ back c.args.revision.now.segments.now c.args.revision.now.ops.now.ops c.args.seam.old c.args.seam.new c.loop-i.i c.loop-i.at c.in_ok-front.front.len c.requires.shared c.loop-i.invariant.place.place c.if-at-seam.true c.in_ok-front.ensures.there)
     run
 
 -- the heaps agree where the replay stops
 agreed : (c : goal.Joined-seen-9) → AgreesAt (trace_of c.args.revision.now.segments.now) c.args.revision.now.ops.now.ops c.args.seam.old c.args.seam.new c.loop-i.at
 agreed c =
-    let m : c.in-Some.mark.now ≡ end_from nothing_held (trace_of (take c.loop-i.i c.args.revision.now.segments.now)) = mark-is c.args.revision.now.segments.now c.loop-i.i c.index-old-i.result c.in-Some.mark.now c.args.revision.now.holds.kept.run.replay c.loop-i-test.true c.index-old-i.is c.in-Some.ensures in
+    let m : c.in-Some.mark ≡ end_from nothing_held (trace_of (take c.loop-i.i c.args.revision.now.segments.now)) = mark-is c.args.revision.now.segments.now c.loop-i.i c.at-segment.result c.in-Some.mark c.args.revision.now.holds.kept.run.replay (omega (arith, c.loop-i-test.true, c.len-i-end.ensures)) c.at-segment.ensures c.in-Some.ensures in
     let there : c.in_ok-front.front.len ≡ c.loop-i.at - c.args.seam.old + c.args.seam.new = c.in_ok-front.ensures.there in
-    let agree : Agree c.in_ok-front.front.end c.in-Some.mark.now = c.in_ok-found.ensures.answer.0 (ap is_some c.in-Some-found.is) in
-    AgreesAt-here (trace_of c.args.revision.now.segments.now) c.args.revision.now.ops.now.ops c.args.seam.old c.args.seam.new c.loop-i.at c.in_ok-front.front.end c.in-Some.mark.now
+    let agree : Agree c.in_ok-front.front.end c.in-Some.mark = c.in_ok-found.ensures.answer.0 (ap is_some c.in-Some-found.is) in
+    AgreesAt-here (trace_of c.args.revision.now.segments.now) c.args.revision.now.ops.now.ops c.args.seam.old c.args.seam.new c.loop-i.at c.in_ok-front.front.end c.in-Some.mark
     (c.in_ok-front.ensures.beside.reached.state ∙ ap (λ x. end_from nothing_held (take x c.args.revision.now.ops.now.ops)) there) (m ∙ ap (end_from nothing_held) (trace_of-front c.args.revision.now.segments.now c.loop-i.i c.loop-i.at c.loop-i.invariant.place.place)) agree
 
 pub returns-in-Some-found-clause-run : goal.returns-in-Some-found-clause-run
@@ -122,22 +117,22 @@ returns-in-Some-found-clause-marks c =
     let old : List SegmentView = c.args.revision.now.segments.now in
     let front : List SegmentView = c.in_ok-front.front.segments in
     let there : c.in_ok-front.front.len ≡ c.loop-i.at - c.args.seam.old + c.args.seam.new = c.in_ok-front.ensures.there in
-    let marks : (at : ℕ) → marks_from at c.in-Some-found.rest.items ≡ marks_from at (take (length c.args.revision.now.segments.now - c.loop-i.i) (drop c.loop-i.i c.args.revision.now.segments.now)) = rw c.in-Some-found.is at c.in_ok-found.ensures.marks in
-    let alike : all_marks (front ++ c.in-Some-found.rest.items) ≡ all_marks (front ++ drop c.loop-i.i old) =
-    all_marks-rest front c.in-Some-found.rest.items (drop c.loop-i.i old) (rest-is c) (λ at. marks at ∙ ap (marks_from at) (take-rest c.loop-i.i c.args.revision.now.segments.now)) in
+    let marks : (at : ℕ) → marks_from at c.in-Some-found.rest ≡ marks_from at (drop c.loop-i.i c.args.revision.now.segments.now) = rw c.in-Some-found.is at c.in_ok-found.ensures.marks in
+    let alike : all_marks (front ++ c.in-Some-found.rest) ≡ all_marks (front ++ drop c.loop-i.i old) =
+    all_marks-rest front c.in-Some-found.rest (drop c.loop-i.i old) (rest-is c) marks in
     let trace : trace_of (front ++ drop c.loop-i.i old) ≡ c.args.revision.now.ops.now.ops =
-    trace_of-append front (drop c.loop-i.i old) ∙ ap (λ t. trace_of front ++ t) (sym (rest-is c)) ∙ sym (trace_of-append front c.in-Some-found.rest.items) ∙ (spliced c).trace in
+    trace_of-append front (drop c.loop-i.i old) ∙ ap (λ t. trace_of front ++ t) (sym (rest-is c)) ∙ sym (trace_of-append front c.in-Some-found.rest) ∙ (spliced c).trace in
     rw (c.in_ok-spliced.ensures.segments, c.in_ok-spliced.ensures.gone)
-    (left-at-stop c.args.revision.now.segments.now c.args.revision.now.ops.now.ops (marks_from 0 c.args.front.segments) (marks_from 0 c.in_ok-front.front.segments) _ c.args.seam.old c.args.seam.new c.loop-i.i c.loop-i.at c.args.front.len c.in_ok-front.front.len c.index-old-i.result c.in-Some.mark.now _ _ _ _ _ _
-    c.args.revision.now.holds.trace.distinct c.loop-i-test.true c.index-old-i.is (sym c.in-Some.ensures) c.loop-i.invariant.place.place c.if-at-seam.true (agreed c) (least-agreeing _ _ _ _ _ _ _ _ _ _ _ _ c.loop-i.invariant.place) there
+    (left-at-stop c.args.revision.now.segments.now c.args.revision.now.ops.now.ops (marks_from 0 c.args.front.segments) (marks_from 0 c.in_ok-front.front.segments) _ c.args.seam.old c.args.seam.new c.loop-i.i c.loop-i.at c.args.front.len c.in_ok-front.front.len c.at-segment.result c.in-Some.mark _ _ _ _ _ _
+    c.args.revision.now.holds.trace.distinct (omega (arith, c.loop-i-test.true, c.len-i-end.ensures)) c.at-segment.ensures (sym c.in-Some.ensures) c.loop-i.invariant.place.place c.if-at-seam.true (agreed c) (least-agreeing _ _ _ _ _ _ _ _ _ _ _ _ c.loop-i.invariant.place) there
     (GoesOn-next _ _ _ _ _ _ _ _ _ _ _ _ c.loop-i.invariant.beside c.in_ok-front.ensures.beside).onward c.in_ok-touch_at.ensures.answered
-    (alike ∙ all_marks-stop c.args.revision.now.segments.now c.in_ok-front.front.segments c.args.revision.now.ops.now.ops c.args.seam.old c.args.seam.new c.loop-i.i c.loop-i.at c.index-old-i.result c.args.revision.now.holds.kept.run.full c.requires.shared c.loop-i-test.true c.index-old-i.is c.in-Some.mark.now (sym c.in-Some.ensures)
+    (alike ∙ all_marks-stop c.args.revision.now.segments.now c.in_ok-front.front.segments c.args.revision.now.ops.now.ops c.args.seam.old c.args.seam.new c.loop-i.i c.loop-i.at c.at-segment.result c.args.revision.now.holds.kept.run.full c.requires.shared (omega (arith, c.loop-i-test.true, c.len-i-end.ensures)) c.at-segment.ensures c.in-Some.mark (sym c.in-Some.ensures)
     c.loop-i.invariant.place.place c.if-at-seam.true (IsReached-length _ _ _ _ c.in_ok-front.ensures.beside.reached ∙ there) trace))
 
 pub returns-in-Some-found-clause-stepped : goal.returns-in-Some-found-clause-stepped
 returns-in-Some-found-clause-stepped c =
     AreStepped-stop (trace_of c.args.revision.now.segments.now) c.args.revision.now.ops.now.ops (all_marks c.args.revision.now.segments.now) c.args.shelf.now.chunks c.args.seam.old c.args.seam.new c.args.front.len c.in_ok-front.front.len c.loop-i.at c.args.meter.now _ c.in_ok-front.ensures.there
-    (mark-there c.args.revision.now.segments.now c.loop-i.i c.loop-i.at c.index-old-i.result c.in-Some.mark.now c.loop-i-test.true c.index-old-i.is (sym c.in-Some.ensures) c.loop-i.invariant.place.place)
+    (mark-there c.args.revision.now.segments.now c.loop-i.i c.loop-i.at c.at-segment.result c.in-Some.mark (omega (arith, c.loop-i-test.true, c.len-i-end.ensures)) c.at-segment.ensures (sym c.in-Some.ensures) c.loop-i.invariant.place.place)
     c.if-at-seam.true (agreed c) (GoesOn-steps _ _ _ _ _ _ _ _ _ (GoesOn-next _ _ _ _ _ _ _ _ _ _ _ _ c.loop-i.invariant.beside c.in_ok-front.ensures.beside))
 
 place-end : (old : List SegmentView) (i at : ℕ) → length old ≤ i → i ≤ length old → length (trace_of (take i old)) ≡ at → at ≡ length (trace_of old)
@@ -146,7 +141,7 @@ place-end old i at ge le e = let n : i ≡ length old = omega arith in sym e ∙
 pub returns-clause-marks : goal.returns-clause-marks
 returns-clause-marks c =
     let there : c.in_ok-front-2.front.len ≡ length c.args.revision.now.ops.now.ops = c.in_ok-front-2.ensures.there ∙ c.len.ensures in
-    let e = place-end c.args.revision.now.segments.now c.loop-i.i c.loop-i.at c.loop-i-test.false (c.loop-i.auto.i-end c.last_from-first.ensures.within) c.loop-i.invariant.place.place in
+    let e = place-end c.args.revision.now.segments.now c.loop-i.i c.loop-i.at (omega (arith, c.loop-i-test.false, c.len-i-end.ensures)) (omega (arith, c.loop-i.auto.i-end (omega (arith, c.last_from-first.ensures.within, c.len-i-end.ensures)), c.len-i-end.ensures)) c.loop-i.invariant.place.place in
     let trace : trace_of c.in_ok-front-2.front.segments ≡ c.args.revision.now.ops.now.ops = (IsSpliced-end c.args.revision.now.ops.now.ops c.in_ok-front-2.front.len c.in_ok-front-2.front.segments c.in_ok-front-2.front.end c.in_ok-front-2.ensures.beside.reached there).trace in
     left-at-end c.args.revision.now.segments.now c.args.revision.now.ops.now.ops (marks_from 0 c.args.front.segments) (marks_from 0 c.in_ok-front-2.front.segments) _ c.args.seam.old c.args.seam.new c.args.front.len c.in_ok-front-2.front.len c.args.shelf.now c.advance-2.new.shelf _ _
     c.args.revision.now.holds.trace.distinct c.requires.shared
@@ -171,14 +166,14 @@ loop-i-init c = record {
 
 pub returns-in_err-front-2-clause-bound : goal.returns-in_err-front-2-clause-bound
 returns-in_err-front-2-clause-bound c =
-    let e = place-end c.args.revision.now.segments.now c.loop-i.i c.loop-i.at c.loop-i-test.false (c.loop-i.auto.i-end c.last_from-first.ensures.within) c.loop-i.invariant.place.place in
+    let e = place-end c.args.revision.now.segments.now c.loop-i.i c.loop-i.at (omega (arith, c.loop-i-test.false, c.len-i-end.ensures)) (omega (arith, c.loop-i.auto.i-end (omega (arith, c.last_from-first.ensures.within, c.len-i-end.ensures)), c.len-i-end.ensures)) c.loop-i.invariant.place.place in
     let shared = c.requires.shared in
     let long = ShareEnd-length (trace_of c.args.revision.now.segments.now) c.args.revision.now.ops.now.ops c.args.seam.old c.args.seam.new shared in
     bounded _ _ _ _ _ _ _ _ _ _ _ _ _ c.loop-i.invariant.place shared (omega (arith, shared.old_within)) (omega (arith, long, shared.old_within, shared.within, c.loop-i.invariant.place.rise, c.advance-2.ensures.rise))
 
 pub returns-clause-bound : goal.returns-clause-bound
 returns-clause-bound c =
-    let e = place-end c.args.revision.now.segments.now c.loop-i.i c.loop-i.at c.loop-i-test.false (c.loop-i.auto.i-end c.last_from-first.ensures.within) c.loop-i.invariant.place.place in
+    let e = place-end c.args.revision.now.segments.now c.loop-i.i c.loop-i.at (omega (arith, c.loop-i-test.false, c.len-i-end.ensures)) (omega (arith, c.loop-i.auto.i-end (omega (arith, c.last_from-first.ensures.within, c.len-i-end.ensures)), c.len-i-end.ensures)) c.loop-i.invariant.place.place in
     let shared = c.requires.shared in
     let long = ShareEnd-length (trace_of c.args.revision.now.segments.now) c.args.revision.now.ops.now.ops c.args.seam.old c.args.seam.new shared in
     bounded _ _ _ _ _ _ _ _ _ _ _ _ _ c.loop-i.invariant.place shared (omega (arith, shared.old_within)) (omega (arith, long, shared.old_within, shared.within, c.loop-i.invariant.place.rise, c.advance-2.ensures.rise))
@@ -188,14 +183,14 @@ loop-i-preserved c =
     let old = c.args.revision.now.segments.now in
     elim c.if-at-seam.branch [
       | then-at-seam+in-Some+in_ok-front+in_ok-found+in_default-found w ↦
-          let m : w.in-Some.mark.now ≡ end_from nothing_held (trace_of (take c.loop-i.i c.args.revision.now.segments.now)) = mark-is c.args.revision.now.segments.now c.loop-i.i c.index-old-i.result w.in-Some.mark.now c.args.revision.now.holds.kept.run.replay c.loop-i-test.true c.index-old-i.is w.in-Some.ensures in
+          let m : w.in-Some.mark.now ≡ end_from nothing_held (trace_of (take c.loop-i.i c.args.revision.now.segments.now)) = mark-is c.args.revision.now.segments.now c.loop-i.i c.at-segment.result w.in-Some.mark.now c.args.revision.now.holds.kept.run.replay (omega (arith, c.loop-i-test.true, c.len-i-end.ensures)) c.at-segment.ensures w.in-Some.ensures in
           let there : w.in_ok-front.front.len ≡ c.loop-i.at - c.args.seam.old + c.args.seam.new = w.in_ok-front.ensures.there in
           let front = w.in_ok-front.ensures.beside.reached in
           let rise = w.advance.ensures.rise in
           rw (w.front-is, w.meter-is, w.shelf-is, c.ops.ensures)
           (record {
             place = IsBeside-next c.args.revision.now.segments.now c.args.revision.now.ops.now.ops c.args.seam.old c.args.seam.new c.args.front.len c.args.meter.now c.loop-i.i c.loop-i.at c.loop-i.front.len c.loop-i.front.segments c.loop-i.front.end c.loop-i.meter
-                w.in_ok-front.front.len w.in_ok-front.front.segments w.in_ok-front.front.end w.advance.new.meter c.index-old-i.result c.loop-i.invariant.place c.loop-i-test.true c.index-old-i.is front (omega arith) (omega (arith, c.loop-i.invariant.place.rise, rise))
+                w.in_ok-front.front.len w.in_ok-front.front.segments w.in_ok-front.front.end w.advance.new.meter c.at-segment.result c.loop-i.invariant.place (omega (arith, c.loop-i-test.true, c.len-i-end.ensures)) c.at-segment.ensures front (omega arith) (omega (arith, c.loop-i.invariant.place.rise, rise))
                 (λ marked behind agrees.
                 let agree : Agree w.in_ok-front.front.end w.in-Some.mark.now = AgreesAt-there (trace_of c.args.revision.now.segments.now) c.args.revision.now.ops.now.ops c.args.seam.old c.args.seam.new c.loop-i.at w.in_ok-front.front.end w.in-Some.mark.now (front.state ∙ ap (λ x. end_from nothing_held (take x c.args.revision.now.ops.now.ops)) there) (m ∙ ap (end_from nothing_held) (trace_of-front c.args.revision.now.segments.now c.loop-i.i c.loop-i.at c.loop-i.invariant.place.place)) agrees in
                 let t : is_some w.in_ok-found.found ≡ true = w.in_ok-found.ensures.answer.1 agree in
@@ -208,8 +203,8 @@ loop-i-preserved c =
           rw (w.front-is, w.meter-is, w.shelf-is, c.ops.ensures)
           (record {
             place = IsBeside-next c.args.revision.now.segments.now c.args.revision.now.ops.now.ops c.args.seam.old c.args.seam.new c.args.front.len c.args.meter.now c.loop-i.i c.loop-i.at c.loop-i.front.len c.loop-i.front.segments c.loop-i.front.end c.loop-i.meter
-                c.loop-i.front.len c.loop-i.front.segments c.loop-i.front.end c.loop-i.meter c.index-old-i.result c.loop-i.invariant.place c.loop-i-test.true c.index-old-i.is c.loop-i.invariant.place.front c.loop-i.invariant.place.order c.loop-i.invariant.place.rise
-                (λ marked behind agrees. let f : is_some c.index-old-i.result.mark ≡ false = ap is_some (sym w.in_default.ensures) in cc);
+                c.loop-i.front.len c.loop-i.front.segments c.loop-i.front.end c.loop-i.meter c.at-segment.result c.loop-i.invariant.place (omega (arith, c.loop-i-test.true, c.len-i-end.ensures)) c.at-segment.ensures c.loop-i.invariant.place.front c.loop-i.invariant.place.order c.loop-i.invariant.place.rise
+                (λ marked behind agrees. let f : is_some c.at-segment.result.mark ≡ false = ap is_some (sym w.in_default.ensures) in cc);
             beside = c.loop-i.invariant.beside;
             never_less = c.loop-i.invariant.never_less;
           })
@@ -217,7 +212,7 @@ loop-i-preserved c =
           rw (w.front-is, w.meter-is, w.shelf-is, c.ops.ensures)
           (record {
             place = IsBeside-next c.args.revision.now.segments.now c.args.revision.now.ops.now.ops c.args.seam.old c.args.seam.new c.args.front.len c.args.meter.now c.loop-i.i c.loop-i.at c.loop-i.front.len c.loop-i.front.segments c.loop-i.front.end c.loop-i.meter
-                c.loop-i.front.len c.loop-i.front.segments c.loop-i.front.end c.loop-i.meter c.index-old-i.result c.loop-i.invariant.place c.loop-i-test.true c.index-old-i.is c.loop-i.invariant.place.front c.loop-i.invariant.place.order c.loop-i.invariant.place.rise
+                c.loop-i.front.len c.loop-i.front.segments c.loop-i.front.end c.loop-i.meter c.at-segment.result c.loop-i.invariant.place (omega (arith, c.loop-i-test.true, c.len-i-end.ensures)) c.at-segment.ensures c.loop-i.invariant.place.front c.loop-i.invariant.place.order c.loop-i.invariant.place.rise
                 (λ marked behind agrees. let lt : c.loop-i.at < c.args.seam.old = w.if-at-seam.false in omega arith);
             beside = c.loop-i.invariant.beside;
             never_less = c.loop-i.invariant.never_less;

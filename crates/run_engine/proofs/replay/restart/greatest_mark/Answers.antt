@@ -18,6 +18,12 @@ loop-i-init c = record {
   within = omega arith;
 }
 
+pub at-requires : goal.at-requires
+at-requires c =
+    let before : c.args.head < length (trace_of c.args.revision.now.segments.now) = omega (arith, c.base_len-len.ensures, ap length c.args.revision.now.holds.base, c.if-len-head.false) in
+    let top = (c.last_from-last.ensures.inside before).0 in
+    omega (arith, top, c.loop-i.invariant.within, c.loop-i-test.true)
+
 pub index-requires : goal.index-requires
 index-requires c =
     let before : c.args.head < length (trace_of c.args.revision.now.segments.now) = omega (arith, c.base_len-len.ensures, ap length c.args.revision.now.holds.base, c.if-len-head.false) in
@@ -33,10 +39,10 @@ returns-in-Some c =
     let more = c.loop-i-test.true in
     let within = c.loop-i.invariant.within in
     rw c.in_ok-heap.ensures
-    (IsRestart-there c.args.revision.now.segments.now c.args.head c.loop-i.i (c.loop-i.i - 1) c.index.result.now c.last_from-last.result.0 c.last_from-last.result.1 c.in-Some.mark.now c.in-Some.mark.now c.index-old-i.result
-    c.args.revision.now.holds.kept.run.replay c.loop-i.invariant.first (omega arith) lt c.index-old-i.is (sym c.in-Some.ensures)
+    (IsRestart-there c.args.revision.now.segments.now c.args.head c.loop-i.i (c.loop-i.i - 1) c.index.result.now c.last_from-last.result.0 c.last_from-last.result.1 c.in-Some.mark c.in-Some.mark c.at.result
+    c.args.revision.now.holds.kept.run.replay c.loop-i.invariant.first (omega arith) lt c.at.ensures (sym c.in-Some.ensures)
     (segment-start c.args.revision.now.segments.now c.args.revision.now.starts.items (c.loop-i.i - 1) c.index.result.now c.args.revision.now.holds.starts_are lt ∙ sym c.index.ensures) c.last_from-last.ensures (omega arith)
-    (mark-is c.args.revision.now.segments.now (c.loop-i.i - 1) c.index-old-i.result c.in-Some.mark.now c.args.revision.now.holds.kept.run.replay lt c.index-old-i.is c.in-Some.ensures))
+    (mark-is c.args.revision.now.segments.now (c.loop-i.i - 1) c.at.result c.in-Some.mark c.args.revision.now.holds.kept.run.replay lt c.at.ensures c.in-Some.ensures))
 
 pub loop-i-preserved : goal.loop-i-preserved
 loop-i-preserved c =
@@ -46,7 +52,7 @@ loop-i-preserved c =
     let more = c.loop-i-test.true in
     let within = c.loop-i.invariant.within in
     record {
-      first = AreFirst-bare c.args.revision.now.segments.now c.args.head c.loop-i.i (c.loop-i.i - 1) c.index-old-i.result c.loop-i.invariant.first (omega arith) lt c.index-old-i.is (ap is_some (sym c.in_default.ensures));
+      first = AreFirst-bare c.args.revision.now.segments.now c.args.head c.loop-i.i (c.loop-i.i - 1) c.at.result c.loop-i.invariant.first (omega arith) lt c.at.ensures (ap is_some (sym c.in_default.ensures));
       within = omega arith;
     }
 

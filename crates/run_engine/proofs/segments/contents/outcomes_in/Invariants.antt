@@ -2,5 +2,5 @@ use Rattle.std.proofs.Common.{◌≡◌, take}
 use Rattle.run_engine.specs.Segments.{outcomes_in}
 use Rattle.run_engine.proofs.segments.contents.outcomes_in.Given as goal
 
-abbrev pub invariant-loop-segment : goal.invariant-loop-segment
-invariant-loop-segment l = l.all ≡ outcomes_in (take l.segment-index l.segments)
+abbrev pub invariant-loop-i : goal.invariant-loop-i
+invariant-loop-i l = l.all ≡ outcomes_in (take l.i l.segments)

@@ -7,16 +7,16 @@ use Rattle.run_engine.proofs.replay.revision.Revision.of.Goals as goal
 
 pub overflow_add-at : goal.overflow_add-at
 overflow_add-at c =
-    let next = length-trace_of-next c.args.segments.now c.loop-segment.segment-index c.segment-item.result c.loop-segment-test.true c.segment-item.is in
-    let le : length (trace_of (take (c.loop-segment.segment-index + 1) c.args.segments.now)) ≤ length (trace_of c.args.segments.now) = place-within c.args.segments.now (c.loop-segment.segment-index + 1) _ refl in
-    omega (arith, c.loop-segment.invariant.at, c.requires.kept.trace.few, ap length c.ops.ensures)
+    let next = length-trace_of-next c.args.segments.now c.loop-i.i c.at.result (omega (arith, c.loop-i-test.true, c.len-i-end.ensures)) c.at.ensures in
+    let le : length (trace_of (take (c.loop-i.i + 1) c.args.segments.now)) ≤ length (trace_of c.args.segments.now) = place-within c.args.segments.now (c.loop-i.i + 1) _ refl in
+    omega (arith, c.loop-i.invariant.at, c.requires.kept.trace.few, ap length c.ops.ensures)
 
-pub loop-segment-preserved : goal.loop-segment-preserved
-loop-segment-preserved c =
-    let next = length-trace_of-next c.args.segments.now c.loop-segment.segment-index c.segment-item.result c.loop-segment-test.true c.segment-item.is in
+pub loop-i-preserved : goal.loop-i-preserved
+loop-i-preserved c =
+    let next = length-trace_of-next c.args.segments.now c.loop-i.i c.at.result (omega (arith, c.loop-i-test.true, c.len-i-end.ensures)) c.at.ensures in
     record {
-      at = omega (arith, c.loop-segment.invariant.at, ap length c.ops.ensures);
+      at = omega (arith, c.loop-i.invariant.at, ap length c.ops.ensures);
       starts =
-          c.in_ok-push.ensures.items ∙ ap (λ ss. ss ++ c.loop-segment.at ∷ []) c.loop-segment.invariant.starts
-          ∙ sym (segment-starts-next c.args.segments.now c.loop-segment.segment-index c.loop-segment.at c.segment-item.result c.loop-segment-test.true c.segment-item.is c.loop-segment.invariant.at);
+          c.in_ok-push.ensures.items ∙ ap (λ ss. ss ++ c.loop-i.at ∷ []) c.loop-i.invariant.starts
+          ∙ sym (segment-starts-next c.args.segments.now c.loop-i.i c.loop-i.at c.at.result (omega (arith, c.loop-i-test.true, c.len-i-end.ensures)) c.at.ensures c.loop-i.invariant.at);
     }

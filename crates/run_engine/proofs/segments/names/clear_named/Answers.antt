@@ -1,0 +1,22 @@
+use Rattle.std.proofs.Common.{◌≡◌, ◌<◌, ◌∙◌, None, ap, sym, arith, length}
+use Rattle.std.specs.Ordering.{nat_cmp}
+use Rattle.std.specs.BTreeSet.{contains}
+use Rattle.std.proofs.Math.Seq.{take-length, drop-length}
+use Rattle.std.proofs.lemmas.List.{append-nil}
+use Rattle.run_engine.specs.Cleared.{cleared}
+use Rattle.run_engine.proofs.ClearedLemmas.{long-as-before, cleared-next}
+use Rattle.run_engine.proofs.segments.names.clear_named.Goals as goal
+
+pub at-requires : goal.at-requires
+at-requires c =
+    let long = ap length c.clear_if.ensures ∙ long-as-before c.is_among.result c.loop-i.segments c.loop-i.i in
+    omega (arith, c.loop-i.invariant.long, c.loop-i-test.true, c.len-i-end.ensures)
+
+pub loop-i-preserved : goal.loop-i-preserved
+loop-i-preserved c =
+    let lt : c.loop-i.i < length c.loop-i.segments = omega (arith, c.loop-i.invariant.long, c.loop-i-test.true, c.len-i-end.ensures) in
+    record {
+      long = ap length c.clear_if.ensures ∙ long-as-before c.is_among.result c.loop-i.segments c.loop-i.i ∙ c.loop-i.invariant.long;
+      cleared = cleared-next (contains nat_cmp c.args.names.now) c.loop-i.before c.last_id-before.result c.is_among.result c.loop-i.segments c.clear_if.new.segments c.loop-i.i c.at.result c.is_among.ensures lt c.clear_if.ensures c.at.ensures c.last_id-before.ensures
+          ∙ c.loop-i.invariant.cleared;
+    }
