@@ -22,7 +22,7 @@ use Rattle.ownership_model.proofs.Searching.{has-append}
 use Rattle.ownership_model.proofs.LawsHold as laws
 use Rattle.ownership_model.specs.Totals.{total}
 use Rattle.ownership_model.proofs.NamedLemmas.{each_zero}
-use Rattle.object_heap.specs.declared.counters.Counters.{Counters}
+use Rattle.object_heap.specs.declared.object.Counters.{Counters}
 use Rattle.object_heap.specs.declared.ranks.TheConstants.{MAX_RANK}
 use Rattle.object_heap.specs.Counted.{IsCounted}
 use Rattle.object_heap.specs.Descent.{rank_in, AreLow, NameLower, AreRanked, DescendTo, IsUnnamed}
@@ -131,8 +131,8 @@ pub raised : {T E : Type 0} (r : Result T E) (ranks new : FinMap nat_cmp ℕ) (o
 raised (Ok x) ranks new object rank ok err from objects higher few unnamed d = descend_raise ranks new object rank ok from objects higher few unnamed d
 raised (Err e) ranks new object rank ok err from objects higher few unnamed d = subst (λ (m : FinMap nat_cmp ℕ). AreRanked m from objects) (sym err) d
 
--- after a call that changed the map, or failed and left it
-pub after : {T E : Type 0} (r : Result T E) (P : FinMap nat_cmp Entry → Type 0) (old made new : FinMap nat_cmp Entry) → OnOk r (new ≡ made) → OnErr r (new ≡ old) → P made → P old → P new
+-- after a call that changed something, or failed and left it
+pub after : {T E A : Type 0} (r : Result T E) (P : A → Type 0) (old made new : A) → OnOk r (new ≡ made) → OnErr r (new ≡ old) → P made → P old → P new
 after (Ok x) P old made new ok err p q = subst P (sym ok) p
 after (Err e) P old made new ok err p q = subst P (sym err) q
 

@@ -17,9 +17,10 @@ use Rattle.ownership_model.proofs.LawsHold.{in_turn, cascade}
 use Rattle.ownership_model.proofs.Counting.{weight_at, total-set, total-cut, items_weight-drops, ends-drops, self_strong, self_weak, other_strong, other_weak, same_number}
 use Rattle.ownership_model.specs.State.{State, strong, weak, ends, weight, names_alike, entry_weight, IsSound, IsSoundAt}
 use Rattle.ownership_model.specs.Release.{Fate, Stays, Goes, fate, fall, is_husk, left_by, drop_first, Becomes, Released, after, release, work}
-use Rattle.object_heap.specs.declared.counters.Counters.{Counters}
+use Rattle.object_heap.specs.declared.object.Counters.{Counters}
 use Rattle.object_heap.specs.declared.draft.Draft.{Draft}
-use Rattle.object_heap.specs.Counted.{counters_at, drafted, IsCounted}
+use Rattle.object_heap.specs.Counted.{drafted, IsCounted}
+use Rattle.object_heap.specs.TableView.{counters_at}
 use Rattle.object_heap.specs.Gains.{IsSetAt}
 use Rattle.object_heap.specs.Drops.{DropsFirst}
 use Rattle.object_heap.proofs.GainLemmas.{chosen}
@@ -174,21 +175,21 @@ is_some n h = grind (arith, nat_tests)
 
 -- an item of any kind: the counters of the object that it names, and the step
 module _ (old new : Draft) (x : Item) (o : ℕ) (xs left : List Item) (before told : List Event) (c : Counters)
-    (sound : IsSound (drafted old) (x ∷ xs)) (counted : IsCounted old.counts (drafted old) (x ∷ xs)) (only : NamesOnly (drafted old) x xs o) (set : IsSetAt old.counts new.counts o c) where
+    (sound : IsSound (drafted old) (x ∷ xs)) (counted : IsCounted old.objects.counts (drafted old) (x ∷ xs)) (only : NamesOnly (drafted old) x xs o) (set : IsSetAt old.objects.counts new.objects.counts o c) where
   drops_by : (f : Fate) → fate (drafted old) x xs ≡ f → c.strong ≡ strong (drafted old) xs o → c.weak ≡ weak (drafted old) xs o → c.ends ≡ ends o (left_by (drafted old) xs f).pending
       → Becomes (drafted new) left before told (left_by (drafted old) xs f) → DropsFirst old new x xs left before told
   drops_by f is s w e step =
-      let next : IsCounted new.counts (drop_first (drafted old) x xs).state (drop_first (drafted old) x xs).pending =
-      counted_next (drafted old) x xs old.counts new.counts o c sound counted only set s w (e ∙ ap (λ (g : Fate). ends o (left_by (drafted old) xs g).pending) (sym is)) in
+      let next : IsCounted new.objects.counts (drop_first (drafted old) x xs).state (drop_first (drafted old) x xs).pending =
+      counted_next (drafted old) x xs old.objects.counts new.objects.counts o c sound counted only set s w (e ∙ ap (λ (g : Fate). ends o (left_by (drafted old) xs g).pending) (sym is)) in
       let here : Becomes (drafted new) left before told (drop_first (drafted old) x xs) = subst (λ (g : Fate). Becomes (drafted new) left before told (left_by (drafted old) xs g)) (sym is) step in
       record {
         step = here;
-        counted = subst (λ (p : List Item). IsCounted new.counts (drafted new) p) (sym here.pending) (subst (λ (m : State). IsCounted new.counts m (drop_first (drafted old) x xs).pending) (sym here.state) next);
+        counted = subst (λ (p : List Item). IsCounted new.objects.counts (drafted new) p) (sym here.pending) (subst (λ (m : State). IsCounted new.objects.counts m (drop_first (drafted old) x xs).pending) (sym here.state) next);
       }
 
 module _ (old new : Draft) (o : ℕ) (xs left : List Item) (before told : List Event) (c : Counters)
-    (sound : IsSound (drafted old) (item.Slot (Strong o) ∷ xs)) (counted : IsCounted old.counts (drafted old) (item.Slot (Strong o) ∷ xs))
-    (set : IsSetAt old.counts new.counts o c) (less : c.strong ≡ (counters_at (get old.counts o)).strong - 1) (same : c.weak ≡ (counters_at (get old.counts o)).weak) where
+    (sound : IsSound (drafted old) (item.Slot (Strong o) ∷ xs)) (counted : IsCounted old.objects.counts (drafted old) (item.Slot (Strong o) ∷ xs))
+    (set : IsSetAt old.objects.counts new.objects.counts o c) (less : c.strong ≡ (counters_at (get old.objects.counts o)).strong - 1) (same : c.weak ≡ (counters_at (get old.objects.counts o)).weak) where
   strong_rest : c.strong ≡ strong (drafted old) xs o
   strong_rest = omega (arith, less, counted.strong_is o, self_strong o)
 
@@ -196,32 +197,32 @@ module _ (old new : Draft) (o : ℕ) (xs left : List Item) (before told : List E
   weak_rest = omega (arith, same, counted.weak_is o)
 
   -- the last strong slot
-  pub drops_last : c.strong ≡ 0 → c.ends ≡ 1 + (counters_at (get old.counts o)).ends → Becomes (drafted new) left before told (left_by (drafted old) xs (fall o (get old.objects o))) → DropsFirst old new (item.Slot (Strong o)) xs left before told
+  pub drops_last : c.strong ≡ 0 → c.ends ≡ 1 + (counters_at (get old.objects.counts o)).ends → Becomes (drafted new) left before told (left_by (drafted old) xs (fall o (get old.objects.entries o))) → DropsFirst old new (item.Slot (Strong o)) xs left before told
   unfolding EndsAt
   drops_last none more step =
-      let is : fate (drafted old) (item.Slot (Strong o)) xs ≡ fall o (get old.objects o) = fate_by true (strong (drafted old) xs o == 0) (fall o (get old.objects o)) Stays (sym (is_none (strong (drafted old) xs o) (sym strong_rest ∙ none))) in
-      drops_by old new (item.Slot (Strong o)) o xs left before told c sound counted (strong_names_only (drafted old) xs o) set (fall o (get old.objects o)) is strong_rest weak_rest
-      (more ∙ ap (λ n. 1 + n) (counted.ends_is o) ∙ sym (fall_ends_self (drafted old) xs o _ _ (get old.objects o) (first_strong (drafted old) xs o sound))) step
+      let is : fate (drafted old) (item.Slot (Strong o)) xs ≡ fall o (get old.objects.entries o) = fate_by true (strong (drafted old) xs o == 0) (fall o (get old.objects.entries o)) Stays (sym (is_none (strong (drafted old) xs o) (sym strong_rest ∙ none))) in
+      drops_by old new (item.Slot (Strong o)) o xs left before told c sound counted (strong_names_only (drafted old) xs o) set (fall o (get old.objects.entries o)) is strong_rest weak_rest
+      (more ∙ ap (λ n. 1 + n) (counted.ends_is o) ∙ sym (fall_ends_self (drafted old) xs o _ _ (get old.objects.entries o) (first_strong (drafted old) xs o sound))) step
 
   -- one of several
-  pub drops_more : (c.strong ≡ 0 → ⊥) → c.ends ≡ (counters_at (get old.counts o)).ends → Becomes (drafted new) left before told (left_by (drafted old) xs Stays) → DropsFirst old new (item.Slot (Strong o)) xs left before told
+  pub drops_more : (c.strong ≡ 0 → ⊥) → c.ends ≡ (counters_at (get old.objects.counts o)).ends → Becomes (drafted new) left before told (left_by (drafted old) xs Stays) → DropsFirst old new (item.Slot (Strong o)) xs left before told
   drops_more some kept step =
-      let is : fate (drafted old) (item.Slot (Strong o)) xs ≡ Stays = fate_by false (strong (drafted old) xs o == 0) (fall o (get old.objects o)) Stays (sym (is_some (strong (drafted old) xs o) (λ z. some (strong_rest ∙ z)))) in
+      let is : fate (drafted old) (item.Slot (Strong o)) xs ≡ Stays = fate_by false (strong (drafted old) xs o == 0) (fall o (get old.objects.entries o)) Stays (sym (is_some (strong (drafted old) xs o) (λ z. some (strong_rest ∙ z)))) in
       drops_by old new (item.Slot (Strong o)) o xs left before told c sound counted (strong_names_only (drafted old) xs o) set Stays is strong_rest weak_rest (kept ∙ counted.ends_is o) step
 
 module _ (old new : Draft) (o : ℕ) (xs : List Item) (before told : List Event) (c : Counters)
-    (set : IsSetAt old.counts new.counts o c) (same : c.strong ≡ (counters_at (get old.counts o)).strong) where
-  pub drops_weak : (b : Bool) → IsSound (drafted old) (item.Slot (Weak o) ∷ xs) → IsCounted old.counts (drafted old) (item.Slot (Weak o) ∷ xs) → c.weak ≡ (counters_at (get old.counts o)).weak - 1 → c.ends ≡ (counters_at (get old.counts o)).ends
-      → b ≡ ((c.weak == 0) && (is_husk (get old.objects o) && (c.ends == 0))) → Becomes (drafted new) xs before told (left_by (drafted old) xs (if b then Goes o else Stays)) → DropsFirst old new (item.Slot (Weak o)) xs xs before told
+    (set : IsSetAt old.objects.counts new.objects.counts o c) (same : c.strong ≡ (counters_at (get old.objects.counts o)).strong) where
+  pub drops_weak : (b : Bool) → IsSound (drafted old) (item.Slot (Weak o) ∷ xs) → IsCounted old.objects.counts (drafted old) (item.Slot (Weak o) ∷ xs) → c.weak ≡ (counters_at (get old.objects.counts o)).weak - 1 → c.ends ≡ (counters_at (get old.objects.counts o)).ends
+      → b ≡ ((c.weak == 0) && (is_husk (get old.objects.entries o) && (c.ends == 0))) → Becomes (drafted new) xs before told (left_by (drafted old) xs (if b then Goes o else Stays)) → DropsFirst old new (item.Slot (Weak o)) xs xs before told
   drops_weak b sound counted less kept test step =
       let s : c.strong ≡ strong (drafted old) xs o = omega (arith, same, counted.strong_is o) in
       let w : c.weak ≡ weak (drafted old) xs o = omega (arith, less, counted.weak_is o, self_weak o) in
       let e : c.ends ≡ ends o xs = kept ∙ counted.ends_is o in
-      let tested : b ≡ ((weak (drafted old) xs o == 0) && (is_husk (get old.objects o) && (ends o xs == 0))) = test ∙ ap (λ n. (n == 0) && (is_husk (get old.objects o) && (c.ends == 0))) w ∙ ap (λ n. (weak (drafted old) xs o == 0) && (is_husk (get old.objects o) && (n == 0))) e in
-      let is : fate (drafted old) (item.Slot (Weak o)) xs ≡ (if b then Goes o else Stays) = fate_by b ((weak (drafted old) xs o == 0) && (is_husk (get old.objects o) && (ends o xs == 0))) (Goes o) Stays tested in
+      let tested : b ≡ ((weak (drafted old) xs o == 0) && (is_husk (get old.objects.entries o) && (ends o xs == 0))) = test ∙ ap (λ n. (n == 0) && (is_husk (get old.objects.entries o) && (c.ends == 0))) w ∙ ap (λ n. (weak (drafted old) xs o == 0) && (is_husk (get old.objects.entries o) && (n == 0))) e in
+      let is : fate (drafted old) (item.Slot (Weak o)) xs ≡ (if b then Goes o else Stays) = fate_by b ((weak (drafted old) xs o == 0) && (is_husk (get old.objects.entries o) && (ends o xs == 0))) (Goes o) Stays tested in
       drops_by old new (item.Slot (Weak o)) o xs xs before told c sound counted (weak_names_only (drafted old) xs o) set (if b then Goes o else Stays) is s w (e ∙ ap (ends o) (sym (weak_pending (drafted old) xs o)) ∙ ap (λ (g : Fate). ends o (left_by (drafted old) xs g).pending) is) step
 
-  pub drops_end : (b : Bool) → IsSound (drafted old) (item.End o ∷ xs) → IsCounted old.counts (drafted old) (item.End o ∷ xs) → c.weak ≡ (counters_at (get old.counts o)).weak → c.ends ≡ (counters_at (get old.counts o)).ends - 1
+  pub drops_end : (b : Bool) → IsSound (drafted old) (item.End o ∷ xs) → IsCounted old.objects.counts (drafted old) (item.End o ∷ xs) → c.weak ≡ (counters_at (get old.objects.counts o)).weak → c.ends ≡ (counters_at (get old.objects.counts o)).ends - 1
       → b ≡ (c.weak == 0) → Becomes (drafted new) xs before told (left_by (drafted old) xs (if b then Goes o else Stays)) → DropsFirst old new (item.End o) xs xs before told
   drops_end b sound counted kept less test step =
       let s : c.strong ≡ strong (drafted old) xs o = same ∙ counted.strong_is o in
@@ -231,7 +232,7 @@ module _ (old new : Draft) (o : ℕ) (xs : List Item) (before told : List Event)
       let is : fate (drafted old) (item.End o) xs ≡ (if b then Goes o else Stays) = fate_by b (weak (drafted old) xs o == 0) (Goes o) Stays tested in
       drops_by old new (item.End o) o xs xs before told c sound counted (end_names_only (drafted old) xs o) set (if b then Goes o else Stays) is s w (e ∙ ap (ends o) (sym (end_pending (drafted old) xs o)) ∙ ap (λ (g : Fate). ends o (left_by (drafted old) xs g).pending) is) step
 
-pub drops_nothing : (old : Draft) (s : Slot) (xs : List Item) (before : List Event) → fate (drafted old) (item.Slot s) xs ≡ Stays → ((w : ℕ) → names_alike (Strong w) s ≡ 0) → ((w : ℕ) → names_alike (Weak w) s ≡ 0) → IsCounted old.counts (drafted old) (item.Slot s ∷ xs) → DropsFirst old old (item.Slot s) xs xs before before
+pub drops_nothing : (old : Draft) (s : Slot) (xs : List Item) (before : List Event) → fate (drafted old) (item.Slot s) xs ≡ Stays → ((w : ℕ) → names_alike (Strong w) s ≡ 0) → ((w : ℕ) → names_alike (Weak w) s ≡ 0) → IsCounted old.objects.counts (drafted old) (item.Slot s ∷ xs) → DropsFirst old old (item.Slot s) xs xs before before
 drops_nothing old s xs before is a b counted = record {
   step = subst (λ (g : Fate). Becomes (drafted old) xs before before (left_by (drafted old) xs g)) (sym is) (record { state = refl; pending = refl; events = sym (append-nil before) });
   counted = record {

@@ -2,7 +2,7 @@
 use Rattle.std.proofs.Common.{◌≡◌, ℕ, ◌+◌, ◌≤◌, List, [], ◌∷◌, refl, ap, ◌∙◌, sym, subst, arith, Bool, true, false}
 use Rattle.std.specs.Prelude.{Option, Some, None, ◌==◌, ◌||◌, if◌then◌else◌, is_some}
 use Rattle.std.specs.Ordering.{nat_cmp}
-use Rattle.std.specs.FinMap.{FinMap, get, keys, contains_key-keys}
+use Rattle.std.specs.FinMap.{FinMap, get, remove, keys, contains_key-keys}
 use Rattle.trace_types.specs.declared.limits.TheConstants.{MAX_ID}
 use Rattle.trace_types.specs.declared.slots.Slot.{Slot}
 use Rattle.trace_types.specs.declared.slots.Slot.TheVariants.{Strong, Weak}
@@ -15,9 +15,10 @@ use Rattle.ownership_model.specs.Reach.{has}
 use Rattle.ownership_model.proofs.LawsHold.{patches}
 use Rattle.ownership_model.proofs.Counting.{weight_at, total-insert, total-remove, same_number, get_inserted, get_removed}
 use Rattle.ownership_model.proofs.Searching.{has_as_any}
-use Rattle.object_heap.specs.declared.counters.Counters.{Counters}
+use Rattle.object_heap.specs.declared.object.Counters.{Counters}
 use Rattle.object_heap.specs.declared.draft.Draft.{Draft}
 use Rattle.object_heap.specs.Counted.{drafted, IsCounted}
+use Rattle.object_heap.specs.TableView.{TableView}
 use Rattle.object_heap.specs.Gains.{CountsMore, HasSlots}
 use Rattle.object_heap.specs.Exchange.{without_object, with_object, without_keys, with_one, with_keys, TakesOut, PutsIn}
 
@@ -73,17 +74,27 @@ bounded_in m q e b within few = record {
   labels = b.labels;
 }
 
-pub took_out : (old new : Draft) (q : ℕ) → IsBounded (drafted old) → drafted new ≡ without_object (drafted old) q → IsCounted new.counts (without_object (drafted old) q) [] → TakesOut old new q
+pub took_out : (old new : Draft) (q : ℕ) → IsBounded (drafted old) → drafted new ≡ without_object (drafted old) q → IsCounted new.objects.counts (without_object (drafted old) q) [] → TakesOut old new q
 took_out old new q bounded is counted = record {
   state = is;
-  counted = subst (λ (n : State). IsCounted new.counts n []) (sym is) counted;
+  counted = subst (λ (n : State). IsCounted new.objects.counts n []) (sym is) counted;
   bounded = subst (λ (n : State). IsBounded n) (sym is) (bounded_out (drafted old) q bounded);
 }
 
-pub put_in : (old new : Draft) (q : ℕ) (e : Entry) → IsBounded (drafted old) → q ≤ MAX_ID → EntryFits e → drafted new ≡ with_object (drafted old) q e → IsCounted new.counts (with_object (drafted old) q e) [] → PutsIn old new q e
+-- what stands for an object goes, and the counters stay
+pub cut_entry : (d : Draft) (mid new : TableView) (o : ℕ) → new ≡ record { entries = remove mid.entries o; counts = mid.counts } → mid.entries ≡ d.objects.entries
+    → drafted (record { handles = d.handles; cells = d.cells; objects = new; scopes = d.scopes }) ≡ without_object (drafted d) o
+cut_entry d mid new o cut stay =
+    let is : new.entries ≡ remove d.objects.entries o = ap (λ (t : TableView). t.entries) cut ∙ ap (λ es. remove es o) stay in
+    λ i. record { handles = d.handles; cells = d.cells; objects = is i; scopes = d.scopes }
+
+pub still_counted : (mid new : TableView) (es : FinMap nat_cmp Entry) (m : State) → new ≡ record { entries = es; counts = mid.counts } → IsCounted mid.counts m [] → IsCounted new.counts m []
+still_counted mid new es m is counted = subst (λ (t : TableView). IsCounted t.counts m []) (sym is) counted
+
+pub put_in : (old new : Draft) (q : ℕ) (e : Entry) → IsBounded (drafted old) → q ≤ MAX_ID → EntryFits e → drafted new ≡ with_object (drafted old) q e → IsCounted new.objects.counts (with_object (drafted old) q e) [] → PutsIn old new q e
 put_in old new q e bounded within few is counted = record {
   state = is;
-  counted = subst (λ (n : State). IsCounted new.counts n []) (sym is) counted;
+  counted = subst (λ (n : State). IsCounted new.objects.counts n []) (sym is) counted;
   bounded = subst (λ (n : State). IsBounded n) (sym is) (bounded_in (drafted old) q e bounded within few);
 }
 

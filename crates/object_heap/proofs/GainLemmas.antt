@@ -1,7 +1,7 @@
 -- Slots that are counted more, or no more, and what a change brings and takes.
 use Rattle.std.proofs.Common.{◌≡◌, ℕ, zero, suc, ◌+◌, ◌^◌, ◌<◌, ◌≤◌, List, [], ◌∷◌, ◌++◌, length, drop, take, get_or, add-one, refl, ap, ◌∙◌, sym, subst, arith, Bool, true, false}
 use Rattle.std.specs.Prelude.{Option, Some, None, ◌==◌, if◌then◌else◌, slice_get, slice_set}
-use Rattle.std.specs.Prelude.{Result, Ok, Err, OnOk}
+use Rattle.std.specs.Prelude.{Result, Ok, Err, OnOk, OnErr}
 use Rattle.std.proofs.Math.Seq.{take-suc, drop-cons}
 use Rattle.std.specs.Ordering.{nat_cmp}
 use Rattle.std.specs.FinMap.{FinMap, get, insert, remove}
@@ -20,9 +20,10 @@ use Rattle.ownership_model.specs.Changes.{changed, changed_by, with_field, HasFi
 use Rattle.ownership_model.specs.Bounds.{IsBounded, ChangeFits, ChangesFit}
 use Rattle.ownership_model.proofs.LawsHold.{bounds, scopes}
 use Rattle.ownership_model.proofs.Counting.{weight_at, total-insert, total-remove, total-set, self_strong, self_weak, other_strong, other_weak, same_number, get_inserted, get_removed, names_alike-le}
-use Rattle.object_heap.specs.declared.counters.Counters.{Counters}
+use Rattle.object_heap.specs.declared.object.Counters.{Counters}
 use Rattle.object_heap.specs.declared.draft.Draft.{Draft}
-use Rattle.object_heap.specs.Counted.{counters_at, drafted, IsCounted}
+use Rattle.object_heap.specs.Counted.{drafted, IsCounted}
+use Rattle.object_heap.specs.TableView.{TableView, counters_at}
 use Rattle.object_heap.specs.Gains.{IsSetAt, CountsMore, HasSlots, HasRoom, Changes}
 use Rattle.object_heap.proofs.ChangeWeights.{field_weight, gained, lost}
 
@@ -35,31 +36,24 @@ pub on_both : {T E : Type 0} (r : Result T E) {P Q R : Type 0} → OnOk r P → 
 on_both (Ok x) p q f = f p q
 on_both (Err e) p q f = tt
 
-abbrev zeros : Counters
-zeros = record { strong = 0; weak = 0; ends = 0 }
+-- what a call gives, whether it succeeded or not
+pub either_way : {T E : Type 0} (r : Result T E) {P Q R : Type 0} → OnOk r P → OnErr r Q → (P → R) → (Q → R) → R
+either_way (Ok x) p q f g = f p
+either_way (Err e) p q f g = g q
 
-set_if : (b : Bool) (c : Counters) (old : Option Counters) → counters_at (if b then Some c else old) ≡ (if b then c else counters_at old)
-set_if true c old = refl
-set_if false c old = refl
+-- the counters of a draft are no part of its state
+pub same_state : (d : Draft) (t : TableView) → t.entries ≡ d.objects.entries → drafted (record { handles = d.handles; cells = d.cells; objects = t; scopes = d.scopes }) ≡ drafted d
+same_state d t same = λ i. record { handles = d.handles; cells = d.cells; objects = same i; scopes = d.scopes }
 
-cut_if : (b : Bool) (old : Option Counters) → counters_at (if b then None else old) ≡ (if b then zeros else counters_at old)
-cut_if true old = refl
-cut_if false old = refl
+-- something else stands for an object, and the counters stay
+pub put_entry : (d : Draft) (mid new : TableView) (o : ℕ) (e f : Entry) → new ≡ record { entries = insert mid.entries o e; counts = mid.counts } → mid.entries ≡ d.objects.entries → e ≡ f
+    → drafted (record { handles = d.handles; cells = d.cells; objects = new; scopes = d.scopes }) ≡ record { handles = d.handles; cells = d.cells; objects = insert d.objects.entries o f; scopes = d.scopes }
+put_entry d mid new o e f put stay same =
+    let is : new.entries ≡ insert d.objects.entries o f = ap (λ (t : TableView). t.entries) put ∙ (λ i. insert (stay i) o (same i)) in
+    λ i. record { handles = d.handles; cells = d.cells; objects = is i; scopes = d.scopes }
 
--- both ways of giving an object other counters
-set_by_insert : (counts : FinMap nat_cmp Counters) (o : ℕ) (c : Counters) → IsSetAt counts (insert counts o c) o c
-set_by_insert counts o c p = ap counters_at (get_inserted counts o c p) ∙ set_if (o == p) c (get counts p)
-
-set_by_remove : (counts : FinMap nat_cmp Counters) (o : ℕ) → IsSetAt counts (remove counts o) o zeros
-set_by_remove counts o p = ap counters_at (get_removed counts o p) ∙ cut_if (o == p) (get counts p)
-
-pub set_by : (counts new : FinMap nat_cmp Counters) (o : ℕ) (c : Counters) → new ≡ insert counts o c → IsSetAt counts new o c
-set_by counts new o c is = subst (λ (n : FinMap nat_cmp Counters). IsSetAt counts n o c) (sym is) (set_by_insert counts o c)
-
-pub cleared_by : (counts new : FinMap nat_cmp Counters) (o : ℕ) (c : Counters) → c.strong ≡ 0 → c.weak ≡ 0 → c.ends ≡ 0 → new ≡ remove counts o → IsSetAt counts new o c
-cleared_by counts new o c s w e is =
-    let same : zeros ≡ c = λ i. record { strong = sym s i; weak = sym w i; ends = sym e i } in
-    subst (λ (n : FinMap nat_cmp Counters). IsSetAt counts n o c) (sym is) (λ p. set_by_remove counts o p ∙ ap (λ (z : Counters). if o == p then z else counters_at (get counts p)) same)
+pub still_more : (mid new : TableView) (more : FinMap nat_cmp Counters) (es : FinMap nat_cmp Entry) (g : (Slot → ℕ) → ℕ) → new ≡ record { entries = es; counts = mid.counts } → CountsMore mid.counts more g → CountsMore new.counts more g
+still_more mid new more es g is it = subst (λ (t : TableView). CountsMore t.counts more g) (sym is) it
 
 -- whichever way a test goes
 pub chosen : (f : Counters → ℕ) (b : Bool) (c d : Counters) (n : ℕ) → (b ≡ true → f c ≡ n) → (b ≡ false → f d ≡ n) → f (if b then c else d) ≡ n
@@ -213,10 +207,10 @@ module _ (counts mid : FinMap nat_cmp Counters) (m : State) (c : Change) (can : 
     ends_is = λ o. sym (fewer.ends_is o) ∙ more.ends_is o ∙ counted.ends_is o;
   }
 
-  pub changes : (old new : Draft) → ◌≡◌ {A = State} (drafted old) m → CountsMore new.counts mid (lost m c) → drafted new ≡ changed_by m c → Changes old new c
+  pub changes : (old new : Draft) → ◌≡◌ {A = State} (drafted old) m → CountsMore new.objects.counts mid (lost m c) → drafted new ≡ changed_by m c → Changes old new c
   changes old new was fewer is = record {
     state = is ∙ ap (λ (n : State). changed_by n c) (sym was);
-    counted = subst (λ (n : State). IsCounted new.counts n []) (sym is) (counted_after new.counts fewer);
+    counted = subst (λ (n : State). IsCounted new.objects.counts n []) (sym is) (counted_after new.objects.counts fewer);
   }
 
 slots_weight-append : (w : Slot → ℕ) (xs : List Slot) (s : Slot) → slots_weight w (xs ++ s ∷ []) ≡ slots_weight w xs + w s

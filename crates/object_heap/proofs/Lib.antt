@@ -6,6 +6,7 @@ pub mod PendingLemmas
 pub mod DropLemmas
 pub mod LinkLemmas
 pub mod ViewLemmas
+pub mod TableLemmas
 pub mod EarlierLemmas
 pub mod EnterLemmas
 pub mod NeighbourLemmas

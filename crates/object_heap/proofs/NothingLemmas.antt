@@ -8,9 +8,10 @@ use Rattle.ownership_model.specs.Totals.{total, total_in}
 use Rattle.ownership_model.specs.State.{State, nothing_held, weight, holding_weight, entry_weight, names_alike, IsSound}
 use Rattle.ownership_model.specs.Bounds.{IsBounded}
 use Rattle.ownership_model.proofs.LawsHold.{soundness, bounds}
-use Rattle.object_heap.specs.declared.counters.Counters.{Counters}
+use Rattle.object_heap.specs.declared.object.Counters.{Counters}
 use Rattle.object_heap.specs.declared.draft.Draft.{Draft}
-use Rattle.object_heap.specs.Counted.{counters_at, drafted, IsCounted, IsKept}
+use Rattle.object_heap.specs.Counted.{drafted, IsCounted, IsKept}
+use Rattle.object_heap.specs.TableView.{counters_at}
 
 no_items : {A : Type 0} (xs : List A) → length xs ≡ 0 → xs ≡ []
 no_items [] h = refl
@@ -36,7 +37,7 @@ counted_nothing = record {
 }
 
 -- a draft of nothing is that of a heap
-pub kept_nothing : (d : Draft) → drafted d ≡ nothing_held → d.counts ≡ empty → IsKept d
+pub kept_nothing : (d : Draft) → drafted d ≡ nothing_held → d.objects.counts ≡ empty → IsKept d
 kept_nothing d held none = record {
   sound = subst (λ (m : State). IsSound m []) (sym held) soundness.start;
   bounded = subst (λ (m : State). IsBounded m) (sym held) bounds.start;

@@ -37,11 +37,11 @@ few (h ∷ hs) m once held =
     omega (arith, less, rest, not_none m h (len m) refl here)
 
 -- ---- entries in the order of their keys
-first : (a b : Bool) → T (a && b) → T a
+pub first : (a b : Bool) → T (a && b) → T a
 first true b p = tt
 first false b p = p
 
-second : (a b : Bool) → T (a && b) → T b
+pub second : (a b : Bool) → T (a && b) → T b
 second true b p = p
 second false b p = absurd p
 
@@ -53,10 +53,10 @@ less Greater p = absurd p
 below : (t u : ℕ) → nat_cmp t u ≡ Less → t ≤ u
 below t u h = grind (arith, nat_tests)
 
-same_key : (t u : ℕ) → eq_by_cmp nat_cmp t u ≡ (u == t)
+pub same_key : (t u : ℕ) → eq_by_cmp nat_cmp t u ≡ (u == t)
 same_key t u = grind (arith, nat_tests)
 
-find_below : {X : Type 0} (t : ℕ) (es : List (ℕ × X)) → T (below_all nat_cmp t es) → find nat_cmp t es ≡ None
+pub find_below : {X : Type 0} (t : ℕ) (es : List (ℕ × X)) → T (below_all nat_cmp t es) → find nat_cmp t es ≡ None
 find_below t [] h = refl
 find_below t (e ∷ es) h = ap (λ r. cond (is_eq r) (Some e.1) (find nat_cmp t es)) (less _ (first _ _ h)) ∙ find_below t es (second _ _ h)
 

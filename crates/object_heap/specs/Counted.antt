@@ -1,20 +1,17 @@
 -- What a heap keeps beside its state: how often each object is named.
-use Rattle.std.specs.Prelude.{ℕ, ◌≡◌, List, [], Option, unwrap_or}
+use Rattle.std.specs.Prelude.{ℕ, ◌≡◌, List, []}
 use Rattle.std.specs.Ordering.{nat_cmp}
 use Rattle.std.specs.FinMap.{FinMap, get}
 use Rattle.trace_types.specs.declared.slots.Item.{Item}
 use Rattle.ownership_model.specs.State.{State, strong, weak, ends, IsSound}
 use Rattle.ownership_model.specs.Bounds.{IsBounded}
-use Rattle.object_heap.specs.declared.counters.Counters.{Counters}
+use Rattle.object_heap.specs.declared.object.Counters.{Counters}
 use Rattle.object_heap.specs.declared.draft.Draft.{Draft}
-
--- the counters of an object; zeros, where none are kept
-abbrev pub counters_at : Option Counters → Counters
-counters_at kept = unwrap_or kept (record { strong = 0; weak = 0; ends = 0 })
+use Rattle.object_heap.specs.TableView.{counters_at}
 
 -- the state that a draft holds: all of it but the counters
 abbrev pub drafted : Draft → State
-drafted d = record { handles = d.handles; cells = d.cells; objects = d.objects; scopes = d.scopes }
+drafted d = record { handles = d.handles; cells = d.cells; objects = d.objects.entries; scopes = d.scopes }
 
 -- the counters count the slots that stand and what is pending
 pub record IsCounted (counts : FinMap nat_cmp Counters) (m : State) (pending : List Item) : Type 0 where
@@ -26,4 +23,4 @@ pub record IsCounted (counts : FinMap nat_cmp Counters) (m : State) (pending : L
 pub record IsKept (d : Draft) : Type 0 where
   pub sound : IsSound (drafted d) []
   pub bounded : IsBounded (drafted d)
-  pub counted : IsCounted d.counts (drafted d) []
+  pub counted : IsCounted d.objects.counts (drafted d) []

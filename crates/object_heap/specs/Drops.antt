@@ -9,4 +9,4 @@ use Rattle.object_heap.specs.Counted.{drafted, IsCounted}
 -- the first item was dropped, and what is left is counted
 pub record DropsFirst (old new : Draft) (x : Item) (rest left : List Item) (before told : List Event) : Type 0 where
   pub step : Becomes (drafted new) left before told (drop_first (drafted old) x rest)
-  pub counted : IsCounted new.counts (drafted new) left
+  pub counted : IsCounted new.objects.counts (drafted new) left

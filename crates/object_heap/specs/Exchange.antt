@@ -40,11 +40,11 @@ with_keys xs (q ∷ qs) m = with_keys xs qs (with_one m q (get xs q))
 -- an object went
 pub record TakesOut (old new : Draft) (q : ℕ) : Type 0 where
   pub state : drafted new ≡ without_object (drafted old) q
-  pub counted : IsCounted new.counts (drafted new) []
+  pub counted : IsCounted new.objects.counts (drafted new) []
   pub bounded : IsBounded (drafted new)
 
 -- an object came, whatever was there
 pub record PutsIn (old new : Draft) (q : ℕ) (e : Entry) : Type 0 where
   pub state : drafted new ≡ with_object (drafted old) q e
-  pub counted : IsCounted new.counts (drafted new) []
+  pub counted : IsCounted new.objects.counts (drafted new) []
   pub bounded : IsBounded (drafted new)

@@ -9,9 +9,10 @@ use Rattle.trace_types.specs.declared.slots.Item.{Item}
 use Rattle.trace_types.specs.declared.slots.Change.{Change}
 use Rattle.ownership_model.specs.State.{names_alike, items_weight, ends}
 use Rattle.ownership_model.specs.Changes.{changed_by}
-use Rattle.object_heap.specs.declared.counters.Counters.{Counters}
+use Rattle.object_heap.specs.declared.object.Counters.{Counters}
 use Rattle.object_heap.specs.declared.draft.Draft.{Draft}
-use Rattle.object_heap.specs.Counted.{counters_at, drafted, IsCounted}
+use Rattle.object_heap.specs.Counted.{drafted, IsCounted}
+use Rattle.object_heap.specs.TableView.{counters_at}
 
 -- one object has other counters, and the others have theirs
 abbrev pub IsSetAt : FinMap nat_cmp Counters → FinMap nat_cmp Counters → ℕ → Counters → Type 0
@@ -43,4 +44,4 @@ pub record HasRoom (counts : FinMap nat_cmp Counters) (n : ℕ) : Type 0 where
 -- one change was made
 pub record Changes (old new : Draft) (c : Change) : Type 0 where
   pub state : drafted new ≡ changed_by (drafted old) c
-  pub counted : IsCounted new.counts (drafted new) []
+  pub counted : IsCounted new.objects.counts (drafted new) []

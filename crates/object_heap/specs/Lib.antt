@@ -1,3 +1,4 @@
+pub mod TableView
 pub mod StateCode
 pub mod Counted
 pub mod Gains

@@ -6,11 +6,13 @@ ghost use Rattle.trace_types.specs.declared.slots.Slot.TheVariants as slot;
 ghost use Rattle.ownership_model.specs.State.{IsSound};
 ghost use Rattle.ownership_model.specs.Release.{release, drops, fall, is_husk, left_by, Becomes, Goes};
 ghost use Rattle.ownership_model.specs.Bounds.{IsBounded};
-ghost use Rattle.object_heap.specs.Counted.{counters_at, drafted, IsCounted};
+ghost use Rattle.object_heap.specs.Counted.{drafted, IsCounted};
+ghost use Rattle.object_heap.specs.TableView.{counters_at};
 ghost use Rattle.object_heap.specs.Drops.{DropsFirst};
 
-use crate::counters::{Counters, counters_of, hold_item, set_counters};
+use crate::counters::hold_item;
 use crate::draft::Draft;
+use crate::object::Counters;
 use std::alloc::{AllocError, Global};
 use std::collections::VecDeque;
 use trace_types::outcomes::Event;
@@ -24,12 +26,12 @@ impl Draft {
         items: &[Item],
         pending: &mut VecDeque<Item>,
     ) -> Result<(), AllocError>
-        requires counted { IsCounted self.old.counts (drafted self.old) [] }
+        requires counted { IsCounted self.old.objects.counts (drafted self.old) [] }
         requires bounded { IsBounded (drafted self.old) }
         requires none { pending.old.items ≡ [] }
         ensures state { OnOk result (drafted self.new ≡ drafted self.old) }
         ensures pending { OnOk result (pending.new.items ≡ items.now) }
-        ensures counted { OnOk result (IsCounted self.new.counts (drafted self.new) items.now) }
+        ensures counted { OnOk result (IsCounted self.new.objects.counts (drafted self.new) items.now) }
     {
         for item in items {
             self.add(alloc, *item, pending)?;
@@ -44,14 +46,14 @@ impl Draft {
         item: Item,
         pending: &mut VecDeque<Item>,
     ) -> Result<(), AllocError>
-        requires counted { IsCounted self.old.counts (drafted self.old) pending.old.items }
+        requires counted { IsCounted self.old.objects.counts (drafted self.old) pending.old.items }
         requires bounded { IsBounded (drafted self.old) }
         requires short { length pending.old.items < 2 ^ 63 }
         ensures state { OnOk result (drafted self.new ≡ drafted self.old) }
         ensures pending { OnOk result (pending.new.items ≡ pending.old.items ++ item ∷ []) }
-        ensures counted { OnOk result (IsCounted self.new.counts (drafted self.new) pending.new.items) }
+        ensures counted { OnOk result (IsCounted self.new.objects.counts (drafted self.new) pending.new.items) }
     {
-        hold_item(alloc, &mut self.counts, item)?;
+        hold_item(alloc, &mut self.objects, item)?;
         Ok(pending.push_back(item)?)
     }
 
@@ -63,11 +65,11 @@ impl Draft {
         events: &mut Vec<Event>,
     ) -> Result<(), AllocError>
         requires sound { IsSound (drafted self.old) pending.old.items }
-        requires counted { IsCounted self.old.counts (drafted self.old) pending.old.items }
+        requires counted { IsCounted self.old.objects.counts (drafted self.old) pending.old.items }
         ensures state { OnOk result (drafted self.new ≡ (release (drafted self.old) pending.old.items).state) }
         ensures events { OnOk result (events.new.items ≡ events.old.items ++ (release (drafted self.old) pending.old.items).events) }
         ensures sound { OnOk result (IsSound (drafted self.new) []) }
-        ensures counted { OnOk result (IsCounted self.new.counts (drafted self.new) []) }
+        ensures counted { OnOk result (IsCounted self.new.objects.counts (drafted self.new) []) }
     {
         while let Some(item) = pending.pop_front() {
             self.drop_item(alloc, item, pending, events)?;
@@ -83,7 +85,7 @@ impl Draft {
         events: &mut Vec<Event>,
     ) -> Result<(), AllocError>
         requires sound { IsSound (drafted self.old) (item ∷ pending.old.items) }
-        requires counted { IsCounted self.old.counts (drafted self.old) (item ∷ pending.old.items) }
+        requires counted { IsCounted self.old.objects.counts (drafted self.old) (item ∷ pending.old.items) }
         ensures { OnOk result (DropsFirst self.old self.new item pending.old.items pending.new.items events.old.items events.new.items) }
     {
         match item {
@@ -102,10 +104,10 @@ impl Draft {
         events: &mut Vec<Event>,
     ) -> Result<(), AllocError>
         requires sound { IsSound (drafted self.old) (item.Slot (slot.Strong object) ∷ pending.old.items) }
-        requires counted { IsCounted self.old.counts (drafted self.old) (item.Slot (slot.Strong object) ∷ pending.old.items) }
+        requires counted { IsCounted self.old.objects.counts (drafted self.old) (item.Slot (slot.Strong object) ∷ pending.old.items) }
         ensures { OnOk result (DropsFirst self.old self.new (item.Slot (slot.Strong object)) pending.old.items pending.new.items events.old.items events.new.items) }
     {
-        let was = counters_of(&self.counts, object);
+        let was = self.objects.counters(object);
         let strong = was.strong - 1;
         if strong == 0 {
             self.destroy(alloc, object, pending, events)?;
@@ -114,10 +116,10 @@ impl Draft {
                 ends: was.ends + 1,
                 ..was
             };
-            return set_counters(alloc, &mut self.counts, object, last);
+            return self.objects.set_counters(alloc, object, last);
         }
         let less = Counters { strong, ..was };
-        set_counters(alloc, &mut self.counts, object, less)
+        self.objects.set_counters(alloc, object, less)
     }
 
     fn drop_weak(
@@ -128,15 +130,15 @@ impl Draft {
         events: &mut Vec<Event>,
     ) -> Result<(), AllocError>
         requires sound { IsSound (drafted self.old) (item.Slot (slot.Weak object) ∷ rest.now.items) }
-        requires counted { IsCounted self.old.counts (drafted self.old) (item.Slot (slot.Weak object) ∷ rest.now.items) }
+        requires counted { IsCounted self.old.objects.counts (drafted self.old) (item.Slot (slot.Weak object) ∷ rest.now.items) }
         ensures { OnOk result (DropsFirst self.old self.new (item.Slot (slot.Weak object)) rest.now.items rest.now.items events.old.items events.new.items) }
     {
-        let was = counters_of(&self.counts, object);
+        let was = self.objects.counters(object);
         let less = Counters {
             weak: was.weak - 1,
             ..was
         };
-        set_counters(alloc, &mut self.counts, object, less)?;
+        self.objects.set_counters(alloc, object, less)?;
         if self.is_last(object, less) {
             return self.free(alloc, object, events);
         }
@@ -151,15 +153,15 @@ impl Draft {
         events: &mut Vec<Event>,
     ) -> Result<(), AllocError>
         requires sound { IsSound (drafted self.old) (item.End object ∷ rest.now.items) }
-        requires counted { IsCounted self.old.counts (drafted self.old) (item.End object ∷ rest.now.items) }
+        requires counted { IsCounted self.old.objects.counts (drafted self.old) (item.End object ∷ rest.now.items) }
         ensures { OnOk result (DropsFirst self.old self.new (item.End object) rest.now.items rest.now.items events.old.items events.new.items) }
     {
-        let was = counters_of(&self.counts, object);
+        let was = self.objects.counters(object);
         let less = Counters {
             ends: was.ends - 1,
             ..was
         };
-        set_counters(alloc, &mut self.counts, object, less)?;
+        self.objects.set_counters(alloc, object, less)?;
         if less.weak == 0 {
             return self.free(alloc, object, events);
         }
@@ -174,8 +176,8 @@ impl Draft {
         pending: &mut VecDeque<Item>,
         events: &mut Vec<Event>,
     ) -> Result<(), AllocError>
-        ensures step { OnOk result (Becomes (drafted self.new) pending.new.items events.old.items events.new.items (left_by (drafted self.old) pending.old.items (fall object (map.get self.old.objects object)))) }
-        ensures counts { OnOk result (self.new.counts ≡ self.old.counts) }
+        ensures step { OnOk result (Becomes (drafted self.new) pending.new.items events.old.items events.new.items (left_by (drafted self.old) pending.old.items (fall object (map.get self.old.objects.entries object)))) }
+        ensures counts { OnOk result (self.new.objects.counts ≡ self.old.objects.counts) }
     {
         match self.objects.get(object) {
             Some(Entry::Alive(fields)) => {
@@ -195,7 +197,7 @@ impl Draft {
         events: &mut Vec<Event>,
     ) -> Result<(), AllocError>
         ensures step { OnOk result (Becomes (drafted self.new) [] events.old.items events.new.items (left_by (drafted self.old) [] (Goes object))) }
-        ensures counts { OnOk result (self.new.counts ≡ self.old.counts) }
+        ensures counts { OnOk result (self.new.objects.counts ≡ self.old.objects.counts) }
     {
         events.push(Event::Freed(object))?;
         self.objects.remove(alloc, object)
@@ -203,7 +205,7 @@ impl Draft {
 
     // Whether nothing names a husk any more.
     fn is_last(&self, object: u32, counters: Counters) -> bool
-        ensures { result ≡ ((counters.weak == 0) && (is_husk (map.get self.now.objects object) && (counters.ends == 0))) }
+        ensures { result ≡ ((counters.weak == 0) && (is_husk (map.get self.now.objects.entries object) && (counters.ends == 0))) }
     {
         counters.weak == 0
             && matches!(self.objects.get(object), Some(Entry::Husk))

@@ -11,13 +11,10 @@ ghost use Rattle.object_heap.specs.Counted.{drafted, IsCounted};
 ghost use Rattle.object_heap.specs.NamesCounted.{AreNamesCounted};
 ghost use Rattle.object_heap.specs.Gains.{Changes, CountsMore, HasRoom, HasSlots};
 
-use crate::counters::{
-    Counters, counters_of, hold, hold_all, hold_holding, let_go, let_go_all, let_go_holding,
-};
+use crate::counters::{hold, hold_all, hold_holding, let_go, let_go_holding, let_go_object};
 use crate::draft::Draft;
 use crate::objects::Objects;
 use crate::summed::Summed;
-use share_tree::ShareTree;
 use std::alloc::{AllocError, Global};
 use trace_types::sequence::Sequence;
 use trace_types::slots::{Change, Entry, Holding, Slot};
@@ -26,13 +23,13 @@ impl Draft {
     /// Makes the changes in order. Where memory runs out some are made, and the draft is unspecified: let it go.
     pub fn apply(&mut self, alloc: Global, changes: &[Change]) -> Result<(), AllocError>
         requires scoped { IsScoped self.old.handles self.old.scopes }
-        requires counted { IsCounted self.old.counts (drafted self.old) [] }
+        requires counted { IsCounted self.old.objects.counts (drafted self.old) [] }
         requires bounded { IsBounded (drafted self.old) }
         requires can { CanChange (drafted self.old) changes.now }
         requires fits { ChangesFit changes.now }
         ensures state { OnOk result (drafted self.new ≡ changed (drafted self.old) changes.now) }
         ensures scoped { OnOk result (IsScoped self.new.handles self.new.scopes) }
-        ensures counted { OnOk result (IsCounted self.new.counts (drafted self.new) []) }
+        ensures counted { OnOk result (IsCounted self.new.objects.counts (drafted self.new) []) }
         ensures bounded { OnOk result (IsBounded (drafted self.new)) }
     {
         for change in changes {
@@ -43,7 +40,7 @@ impl Draft {
 
     fn change(&mut self, alloc: Global, change: &Change) -> Result<(), AllocError>
         requires scoped { IsScoped self.old.handles self.old.scopes }
-        requires counted { IsCounted self.old.counts (drafted self.old) [] }
+        requires counted { IsCounted self.old.objects.counts (drafted self.old) [] }
         requires bounded { IsBounded (drafted self.old) }
         requires can { CanBeDone (drafted self.old) change.now }
         requires fits { ChangeFits change.now }
@@ -73,13 +70,13 @@ impl Draft {
         holding: &Holding,
     ) -> Result<(), AllocError>
         requires scoped { IsScoped self.old.handles self.old.scopes }
-        requires counted { IsCounted self.old.counts (drafted self.old) [] }
+        requires counted { IsCounted self.old.objects.counts (drafted self.old) [] }
         requires bounded { IsBounded (drafted self.old) }
         requires fits { HoldingFits holding.now }
         ensures { OnOk result (Changes self.old self.new (change.SetHandle label handle holding.now)) }
     {
-        hold_holding(alloc, &mut self.counts, holding)?;
-        let_go_handle(alloc, &mut self.counts, &self.handles, handle)?;
+        hold_holding(alloc, &mut self.objects, holding)?;
+        let_go_handle(alloc, &mut self.objects, &self.handles, handle)?;
         self.enter_scope(alloc, label, handle)?;
         let copy = holding.clone()?;
         self.handles.insert(alloc, handle, copy)
@@ -97,32 +94,32 @@ impl Draft {
     }
 
     fn end_handle(&mut self, alloc: Global, handle: u32) -> Result<(), AllocError>
-        requires counted { IsCounted self.old.counts (drafted self.old) [] }
+        requires counted { IsCounted self.old.objects.counts (drafted self.old) [] }
         requires can { CanBeDone (drafted self.old) (change.EndHandle handle) }
         ensures { OnOk result (Changes self.old self.new (change.EndHandle handle)) }
     {
-        let_go_handle(alloc, &mut self.counts, &self.handles, handle)?;
+        let_go_handle(alloc, &mut self.objects, &self.handles, handle)?;
         self.scopes.leave(alloc, handle)?;
         self.handles.remove(alloc, handle)
     }
 
     fn set_cell(&mut self, alloc: Global, cell: u32, slot: Slot) -> Result<(), AllocError>
-        requires counted { IsCounted self.old.counts (drafted self.old) [] }
+        requires counted { IsCounted self.old.objects.counts (drafted self.old) [] }
         requires bounded { IsBounded (drafted self.old) }
         requires can { CanBeDone (drafted self.old) (change.SetCell cell slot) }
         ensures { OnOk result (Changes self.old self.new (change.SetCell cell slot)) }
     {
-        hold(alloc, &mut self.counts, slot)?;
-        let_go_cell(alloc, &mut self.counts, &self.cells, cell)?;
+        hold(alloc, &mut self.objects, slot)?;
+        let_go_cell(alloc, &mut self.objects, &self.cells, cell)?;
         self.cells.insert(alloc, cell, slot)
     }
 
     fn end_cell(&mut self, alloc: Global, cell: u32) -> Result<(), AllocError>
-        requires counted { IsCounted self.old.counts (drafted self.old) [] }
+        requires counted { IsCounted self.old.objects.counts (drafted self.old) [] }
         requires can { CanBeDone (drafted self.old) (change.EndCell cell) }
         ensures { OnOk result (Changes self.old self.new (change.EndCell cell)) }
     {
-        let_go_cell(alloc, &mut self.counts, &self.cells, cell)?;
+        let_go_cell(alloc, &mut self.objects, &self.cells, cell)?;
         self.cells.remove(alloc, cell)
     }
 
@@ -133,9 +130,9 @@ impl Draft {
         index: u32,
         slot: Slot,
     ) -> Result<(), AllocError>
-        requires counted { IsCounted self.old.counts (drafted self.old) [] }
+        requires counted { IsCounted self.old.objects.counts (drafted self.old) [] }
         requires bounded { IsBounded (drafted self.old) }
-        requires can { HasField (map.get self.old.objects object) index }
+        requires can { HasField (map.get self.old.objects.entries object) index }
         ensures { OnOk result (Changes self.old self.new (change.SetField object index slot)) }
     {
         let Some(Entry::Alive(fields)) = self.objects.get(object) else {
@@ -143,8 +140,8 @@ impl Draft {
         };
         let old = fields.as_slice()[index as usize];
         let fields = with_slot(fields, index, slot)?;
-        hold(alloc, &mut self.counts, slot)?;
-        let_go(alloc, &mut self.counts, old)?;
+        hold(alloc, &mut self.objects, slot)?;
+        let_go(alloc, &mut self.objects, old)?;
         self.objects.insert(alloc, object, Entry::Alive(fields))
     }
 
@@ -154,27 +151,24 @@ impl Draft {
         object: u32,
         fields: &Sequence<Slot>,
     ) -> Result<(), AllocError>
-        requires counted { IsCounted self.old.counts (drafted self.old) [] }
+        requires counted { IsCounted self.old.objects.counts (drafted self.old) [] }
         requires bounded { IsBounded (drafted self.old) }
         requires can { CanBeDone (drafted self.old) (change.Make object fields.now) }
         requires fits { AreFew fields.now }
         ensures { OnOk result (Changes self.old self.new (change.Make object fields.now)) }
     {
-        rank_new(alloc, &self.counts, &mut self.objects, object, fields)?;
-        hold_all(alloc, &mut self.counts, fields.as_slice())?;
+        rank_new(alloc, &mut self.objects, object, fields)?;
+        hold_all(alloc, &mut self.objects, fields.as_slice())?;
         let copy = fields.clone()?;
         self.objects.insert(alloc, object, Entry::Alive(copy))
     }
 
     fn turn_husk(&mut self, alloc: Global, object: u32) -> Result<(), AllocError>
-        requires counted { IsCounted self.old.counts (drafted self.old) [] }
+        requires counted { IsCounted self.old.objects.counts (drafted self.old) [] }
         requires can { CanBeDone (drafted self.old) (change.TurnHusk object) }
         ensures { OnOk result (Changes self.old self.new (change.TurnHusk object)) }
     {
-        let Some(Entry::Alive(fields)) = self.objects.get(object) else {
-            unreachable!()
-        };
-        let_go_all(alloc, &mut self.counts, fields.as_slice())?;
+        let_go_object(alloc, &mut self.objects, object)?;
         self.objects.insert(alloc, object, Entry::Husk)
     }
 }
@@ -182,19 +176,18 @@ impl Draft {
 // Ranks an object that is to be made over what its fields name, where no field names it yet. Else its rank is left.
 fn rank_new(
     alloc: Global,
-    counts: &ShareTree<Counters>,
     objects: &mut Objects,
     object: u32,
     fields: &Sequence<Slot>,
 ) -> Result<(), AllocError>
-    requires { AreNamesCounted counts.now objects.old }
+    requires { AreNamesCounted objects.old.counts objects.old.entries }
     ensures { objects.new ≡ objects.old }
 {
     let rank = objects.rank_over(fields.as_slice());
     if rank <= object as u64 {
         return Ok(());
     }
-    let counters = counters_of(counts, object);
+    let counters = objects.counters(object);
     if counters.strong == 0 && counters.weak == 0 {
         objects.raise(alloc, object, rank)?;
     }
@@ -204,15 +197,16 @@ fn rank_new(
 // What the handle holds, if it holds anything, is counted no more.
 fn let_go_handle(
     alloc: Global,
-    counts: &mut ShareTree<Counters>,
+    objects: &mut Objects,
     handles: &Summed<Holding>,
     handle: u32,
 ) -> Result<(), AllocError>
-    requires { HasSlots counts.old (λ w. option_map_or (holding_weight w) (map.get handles.now handle) 0) }
-    ensures { OnOk result (CountsMore counts.new counts.old (λ w. option_map_or (holding_weight w) (map.get handles.now handle) 0)) }
+    requires { HasSlots objects.old.counts (λ w. option_map_or (holding_weight w) (map.get handles.now handle) 0) }
+    ensures counts { OnOk result (CountsMore objects.new.counts objects.old.counts (λ w. option_map_or (holding_weight w) (map.get handles.now handle) 0)) }
+    ensures entries { OnOk result (objects.new.entries ≡ objects.old.entries) }
 {
     match handles.get(handle) {
-        Some(holding) => let_go_holding(alloc, counts, holding),
+        Some(holding) => let_go_holding(alloc, objects, holding),
         None => Ok(()),
     }
 }
@@ -220,15 +214,16 @@ fn let_go_handle(
 // What the cell holds, if there is one, is counted no more.
 fn let_go_cell(
     alloc: Global,
-    counts: &mut ShareTree<Counters>,
+    objects: &mut Objects,
     cells: &Summed<Slot>,
     cell: u32,
 ) -> Result<(), AllocError>
-    requires { HasSlots counts.old (λ w. option_map_or w (map.get cells.now cell) 0) }
-    ensures { OnOk result (CountsMore counts.new counts.old (λ w. option_map_or w (map.get cells.now cell) 0)) }
+    requires { HasSlots objects.old.counts (λ w. option_map_or w (map.get cells.now cell) 0) }
+    ensures counts { OnOk result (CountsMore objects.new.counts objects.old.counts (λ w. option_map_or w (map.get cells.now cell) 0)) }
+    ensures entries { OnOk result (objects.new.entries ≡ objects.old.entries) }
 {
     match cells.get(cell) {
-        Some(slot) => let_go(alloc, counts, *slot),
+        Some(slot) => let_go(alloc, objects, *slot),
         None => Ok(()),
     }
 }

@@ -7,11 +7,9 @@ ghost use Rattle.ownership_model.specs.Changes.{changed, CanChange};
 ghost use Rattle.ownership_model.specs.Release.{release};
 ghost use Rattle.object_heap.specs.Counted.{drafted, IsKept};
 
-use crate::counters::Counters;
 use crate::objects::Objects;
 use crate::scopes::Scopes;
 use crate::summed::Summed;
-use share_tree::ShareTree;
 use std::alloc::{AllocError, Global};
 use std::collections::VecDeque;
 use trace_types::outcomes::Event;
@@ -23,7 +21,6 @@ pub struct Draft {
     pub handles: Summed<Holding>,
     pub cells: Summed<Slot>,
     pub objects: Objects,
-    pub counts: ShareTree<Counters>,
     pub scopes: Scopes,
 }
 
@@ -31,13 +28,12 @@ impl Draft {
     /// Nothing is held.
     pub fn empty() -> Draft
         ensures state { drafted result ≡ nothing_held }
-        ensures counts { result.counts ≡ map.empty }
+        ensures counts { result.objects.counts ≡ map.empty }
     {
         Draft {
             handles: Summed::empty(),
             cells: Summed::empty(),
             objects: Objects::empty(),
-            counts: ShareTree::empty(),
             scopes: Scopes::empty(),
         }
     }
@@ -46,7 +42,7 @@ impl Draft {
     #[inline(never)]
     pub fn let_go(&mut self)
         ensures state { drafted self.new ≡ nothing_held }
-        ensures counts { self.new.counts ≡ map.empty }
+        ensures counts { self.new.objects.counts ≡ map.empty }
     {
         *self = Draft::empty();
     }
@@ -79,19 +75,19 @@ impl Draft {
     /// The same again, whose nodes both have.
     pub fn share(&self) -> Result<Draft, AllocError>
         ensures state { IfOk result (λ d. drafted d ≡ drafted self.now) }
-        ensures counts { IfOk result (λ d. d.counts ≡ self.now.counts) }
+        ensures counts { IfOk result (λ d. d.objects.counts ≡ self.now.objects.counts) }
     {
         Ok(Draft {
             handles: self.handles.share()?,
             cells: self.cells.share()?,
             objects: self.objects.share()?,
-            counts: self.counts.share()?,
             scopes: self.scopes.share()?,
         })
     }
 
-    /// Whether both hold the same.
+    /// Whether both hold the same. What is counted tells nothing more.
     pub fn same(&self, other: &Draft) -> bool
+        requires kept { IsKept self.now × IsKept other.now }
         ensures { IsTrue result ↔ (drafted self.now ≡ drafted other.now) }
     {
         self.handles.same(&other.handles)

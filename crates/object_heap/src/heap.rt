@@ -15,7 +15,6 @@ ghost use Rattle.ownership_model.specs.Patch.{patched};
 ghost use Rattle.object_heap.specs.Exchange.{AreWithinLimits};
 ghost use Rattle.object_heap.specs.Links.{first_of, earlier_in};
 
-use crate::counters::counters_of;
 use crate::draft::Draft;
 use ownership_model::remaining::Remaining;
 use share_tree::ShareTree;
@@ -135,14 +134,14 @@ impl Heap {
     pub fn strong(&self, object: u32) -> u64
         ensures { result ≡ strong self.now [] object }
     {
-        counters_of(&self.draft.counts, object).strong
+        self.draft.objects.counters(object).strong
     }
 
     /// How many slots name the object weakly.
     pub fn weak(&self, object: u32) -> u64
         ensures { result ≡ weak self.now [] object }
     {
-        counters_of(&self.draft.counts, object).weak
+        self.draft.objects.counters(object).weak
     }
 
     /// A number that equal heaps have in common. Others have different ones, but for a rare chance, so that they are told apart without a

@@ -7,12 +7,14 @@ mod counters;
 mod draft;
 mod exchange;
 pub mod heap;
+mod object;
 mod objects;
 pub mod place;
 mod ranks;
 pub mod reach;
 mod scopes;
 mod summed;
+mod table;
 mod weight;
 
 pub use heap::Heap;

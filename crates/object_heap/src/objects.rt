@@ -1,47 +1,48 @@
-//! The objects of a heap, and from which rank on they are named by those of higher ranks alone.
+//! The objects of a heap with their counters, and from which rank on they are named by those of higher ranks alone.
 ghost use Rattle.std.specs.Prelude.{◌≡◌, ◌↔◌, true, IfOk, OnOk, OnErr, IsTrue};
-ghost use Rattle.std.specs.Option.{option_copied};
+ghost use Rattle.std.specs.Option.{option_copied, option_map};
+ghost use Rattle.std.specs.Arc.{arc_value};
 ghost use Rattle.std.specs.FinMap as map;
+ghost use Rattle.object_heap.specs.TableView.{counters_at, AreAlike, AllStand};
+ghost use Rattle.object_heap.specs.Gains.{IsSetAt};
 ghost use Rattle.object_heap.specs.Descent.{DescendTo, IsUnnamed};
 
+use crate::object::Counters;
 use crate::ranks::{MAX_RANK, lower_from, rank_of, rank_over};
-use crate::summed::Summed;
+use crate::table::Table;
 use share_tree::ShareTree;
 use std::alloc::{AllocError, Global};
 use std::marker::Model;
+use std::sync::Arc;
 use trace_types::slots::{Entry, Slot};
 
-/// The objects that stand. Contracts see them as a finite map.
+/// The objects that stand, and how often each is named. Contracts see two finite maps.
 ///
 /// It also keeps a rank from which on no field names an object of its own object's rank or a higher one. An object ranks by its
 /// number, or higher, where it was made with a name of a later one: that rank is kept. The bound never falls.
 pub struct Objects {
-    entries: Summed<Entry>,
+    table: Table,
     ranks: ShareTree<u64>,
     from: u64,
 }
 
 impl Model for Objects {
-    ghost use Rattle.std.specs.Ordering.{nat_cmp};
-    ghost use Rattle.std.specs.FinMap as map;
-    ghost use Rattle.trace_types.specs.declared.slots.Entry.{Entry};
-    ghost use Rattle.trace_types.specs.contracts.slots.Entry as entry;
-    ghost use Rattle.std.specs.Coded.{coded_ℕ};
+    ghost use Rattle.object_heap.specs.TableView.{TableView, table_code};
     ghost use Rattle.object_heap.specs.Descent.{AreRanked};
 
-    ghost Value = { map.FinMap nat_cmp Entry };
+    ghost Value = { TableView };
 
-    ghost coded = { map.code coded_ℕ entry.the_row.coded };
+    ghost coded = { table_code };
 
-    ghost view = { λ o. o.entries };
+    ghost view = { λ o. o.table };
 
-    ghost invariant = { λ o. AreRanked o.ranks o.from o.entries };
+    ghost invariant = { λ o. AreRanked o.ranks o.from o.table.entries };
 }
 
 impl Drop for Objects {
     fn drop(self) {
         let Objects {
-            entries: _,
+            table: _,
             ranks: _,
             from: _,
         } = self;
@@ -49,12 +50,12 @@ impl Drop for Objects {
 }
 
 impl Objects {
-    /// No object stands.
+    /// No object stands, and none is named.
     pub fn empty() -> Objects
-        ensures { result ≡ map.empty }
+        ensures { result ≡ record { entries = map.empty; counts = map.empty } }
     {
         Objects {
-            entries: Summed::empty(),
+            table: Table::empty(),
             ranks: ShareTree::empty(),
             from: 0,
         }
@@ -65,7 +66,7 @@ impl Objects {
         ensures { IfOk result (λ o. o ≡ self.now) }
     {
         Ok(Objects {
-            entries: self.entries.share()?,
+            table: self.table.share()?,
             ranks: self.ranks.share()?,
             from: self.from,
         })
@@ -73,53 +74,81 @@ impl Objects {
 
     /// Whether the object is among those that are named by objects of higher ranks alone.
     pub fn descend_to(&self, object: u32) -> bool
-        ensures { result ≡ true → DescendTo self.now object }
+        ensures { result ≡ true → DescendTo self.now.entries object }
     {
         self.from <= rank_of(&self.ranks, object)
     }
 
     /// What stands for an object.
     pub fn get(&self, object: u32) -> Option<&Entry>
-        ensures { option_copied result ≡ map.get self.now object }
+        ensures { option_copied result ≡ map.get self.now.entries object }
     {
-        self.entries.get(object)
+        self.table.get(object)
     }
 
-    /// The numbers, rising.
+    /// What stands for an object, for one who holds it while others change.
+    pub fn share_entry(&self, object: u32) -> Result<Option<Arc<Entry>>, AllocError>
+        ensures { IfOk result (λ e. option_map arc_value e ≡ map.get self.now.entries object) }
+    {
+        self.table.share_entry(object)
+    }
+
+    /// The counters of an object; zeros where none are kept.
+    pub fn counters(&self, object: u32) -> Counters
+        ensures { result ≡ counters_at (map.get self.now.counts object) }
+    {
+        self.table.counters(object)
+    }
+
+    /// The numbers of those that stand, rising. All that are named do.
     pub fn keys(&self, alloc: Global) -> Result<Vec<u32>, AllocError>
-        ensures { IfOk result (λ v. v.items ≡ map.keys self.now) }
+        requires { AllStand self.now }
+        ensures { IfOk result (λ v. v.items ≡ map.keys self.now.entries) }
     {
-        self.entries.keys(alloc)
+        self.table.keys(alloc)
     }
 
-    /// Whether both are the same.
+    /// Whether the same stands in both, and is named as often.
     pub fn same(&self, other: &Objects) -> bool
-        ensures { IsTrue result ↔ (self.now ≡ other.now) }
+        ensures { IsTrue result ↔ AreAlike self.now other.now }
     {
-        self.entries.same(&other.entries)
+        self.table.same(&other.table)
     }
 
-    /// A number that equal maps of objects have in common.
+    /// A number that is the same where the same stands.
     pub fn sum(&self) -> u64 {
-        self.entries.sum()
+        self.table.sum()
     }
 
-    /// Something else stands for an object, or it comes to be.
+    /// Something else stands for an object, or it comes to be. Its counters stay.
     pub fn insert(&mut self, alloc: Global, object: u32, entry: Entry) -> Result<(), AllocError>
-        ensures ok { OnOk result (self.new ≡ map.insert self.old object entry) }
+        ensures ok { OnOk result (self.new ≡ record self.old { entries = map.insert self.old.entries object entry }) }
         ensures err { OnErr result (self.new ≡ self.old) }
     {
         let rank = rank_of(&self.ranks, object);
         self.from = lower_from(&self.ranks, self.from, rank, &entry);
-        self.entries.insert(alloc, object, entry)
+        self.table.insert(alloc, object, entry)
     }
 
-    /// Nothing stands for an object any more. Its rank is left: no other object gets its number.
+    /// Nothing stands for an object any more. Its counters stay, and its rank is left: no other object gets its number.
     pub fn remove(&mut self, alloc: Global, object: u32) -> Result<(), AllocError>
-        ensures ok { OnOk result (self.new ≡ map.remove self.old object) }
+        ensures ok { OnOk result (self.new ≡ record self.old { entries = map.remove self.old.entries object }) }
         ensures err { OnErr result (self.new ≡ self.old) }
     {
-        self.entries.remove(alloc, object)
+        self.table.remove(alloc, object)
+    }
+
+    /// Gives an object these counters. What stands for it stays.
+    pub fn set_counters(
+        &mut self,
+        alloc: Global,
+        object: u32,
+        counters: Counters,
+    ) -> Result<(), AllocError>
+        ensures set { OnOk result (IsSetAt self.old.counts self.new.counts object counters) }
+        ensures entries { self.new.entries ≡ self.old.entries }
+    {
+        self.table.set_counters(alloc, object, counters)
     }
 
     /// A rank over those of what the slots name.
@@ -129,7 +158,7 @@ impl Objects {
 
     /// Where no field names the object its rank may rise. It does to this one, if that is within the limit.
     pub fn raise(&mut self, alloc: Global, object: u32, rank: u64) -> Result<(), AllocError>
-        requires { IsUnnamed self.old object }
+        requires { IsUnnamed self.old.entries object }
         ensures { self.new ≡ self.old }
     {
         if rank > rank_of(&self.ranks, object) && rank <= MAX_RANK {

@@ -8,7 +8,7 @@ use Rattle.object_heap.proofs.draft.Draft.apply.Given as goal
 abbrev pub invariant-loop-change : goal.invariant-loop-change
 invariant-loop-change l = record {
   scoped : IsScoped l.self.handles l.self.scopes;
-  counted : IsCounted l.self.counts (drafted l.self) [];
+  counted : IsCounted l.self.objects.counts (drafted l.self) [];
   bounded : IsBounded (drafted l.self);
   can : CanChange (drafted l.self) (drop l.change-index l.changes);
   fits : ChangesFit (drop l.change-index l.changes);

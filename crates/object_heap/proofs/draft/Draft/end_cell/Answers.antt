@@ -12,12 +12,12 @@ use Rattle.object_heap.proofs.draft.Draft.end_cell.Goals as goal
 pub let_go_cell-requires : goal.let_go_cell-requires
 let_go_cell-requires c =
     let old = c.args.self.now in
-    lost_in old.counts old.counts (drafted old) (EndCell c.args.cell) c.requires.can c.requires.counted (no_more old.counts (gained (EndCell c.args.cell)) (λ w. refl))
+    lost_in old.objects.counts old.objects.counts (drafted old) (EndCell c.args.cell) c.requires.can c.requires.counted (no_more old.objects.counts (gained (EndCell c.args.cell)) (λ w. refl))
 
 pub returns : goal.returns
 returns c =
     let old = c.args.self.now in
-    let new : Draft = record { handles = old.handles; cells = c.remove.new.self; objects = old.objects; counts = c.let_go_cell.new.counts; scopes = old.scopes } in
+    let new : Draft = record { handles = old.handles; cells = c.remove.new.self; objects = c.let_go_cell.new.objects; scopes = old.scopes } in
     on_ok c.remove.result c.remove.ensures.ok (λ is.
-    changes old.counts old.counts (drafted old) (EndCell c.args.cell) c.requires.can c.requires.counted (no_more old.counts (gained (EndCell c.args.cell)) (λ w. refl)) old new refl c.in_ok-let_go_cell.ensures
-    (ap (λ (x : FinMap nat_cmp Slot). record { handles = old.handles; cells = x; objects = old.objects; scopes = old.scopes }) is))
+    changes old.objects.counts old.objects.counts (drafted old) (EndCell c.args.cell) c.requires.can c.requires.counted (no_more old.objects.counts (gained (EndCell c.args.cell)) (λ w. refl)) old new refl c.in_ok-let_go_cell.ensures.counts
+    (λ i. record { handles = old.handles; cells = is i; objects = c.in_ok-let_go_cell.ensures.entries i; scopes = old.scopes }))

@@ -9,12 +9,12 @@ use Rattle.object_heap.proofs.draft.Draft.end_handle.Goals as goal
 pub let_go_handle-requires : goal.let_go_handle-requires
 let_go_handle-requires c =
     let old = c.args.self.now in
-    lost_in old.counts old.counts (drafted old) (EndHandle c.args.handle) c.requires.can c.requires.counted (no_more old.counts (gained (EndHandle c.args.handle)) (λ w. refl))
+    lost_in old.objects.counts old.objects.counts (drafted old) (EndHandle c.args.handle) c.requires.can c.requires.counted (no_more old.objects.counts (gained (EndHandle c.args.handle)) (λ w. refl))
 
 pub returns : goal.returns
 returns c =
     let old = c.args.self.now in
-    let new : Draft = record { handles = c.remove.new.self; cells = old.cells; objects = old.objects; counts = c.let_go_handle.new.counts; scopes = c.leave.new.self } in
+    let new : Draft = record { handles = c.remove.new.self; cells = old.cells; objects = c.let_go_handle.new.objects; scopes = c.leave.new.self } in
     on_ok c.remove.result c.remove.ensures.ok (λ is.
-    changes old.counts old.counts (drafted old) (EndHandle c.args.handle) c.requires.can c.requires.counted (no_more old.counts (gained (EndHandle c.args.handle)) (λ w. refl)) old new refl c.in_ok-let_go_handle.ensures
-    (λ i. record { handles = is i; cells = old.cells; objects = old.objects; scopes = c.in_ok-leave.ensures i }))
+    changes old.objects.counts old.objects.counts (drafted old) (EndHandle c.args.handle) c.requires.can c.requires.counted (no_more old.objects.counts (gained (EndHandle c.args.handle)) (λ w. refl)) old new refl c.in_ok-let_go_handle.ensures.counts
+    (λ i. record { handles = is i; cells = old.cells; objects = c.in_ok-let_go_handle.ensures.entries i; scopes = c.in_ok-leave.ensures i }))

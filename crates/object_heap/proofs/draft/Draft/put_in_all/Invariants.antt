@@ -6,7 +6,7 @@ use Rattle.object_heap.proofs.draft.Draft.put_in_all.Given as goal
 
 abbrev pub invariant-loop-key : goal.invariant-loop-key
 invariant-loop-key l = record {
-  counted : IsCounted l.self.counts (drafted l.self) [];
+  counted : IsCounted l.self.objects.counts (drafted l.self) [];
   bounded : IsBounded (drafted l.self);
   rest : with_keys l.added (drop l.key-index l.key-items) (drafted l.self) ≡ with_keys l.added l.key-items (drafted l.fn.self);
 }

@@ -8,7 +8,7 @@ use Rattle.object_heap.proofs.draft.Draft.release.Given as goal
 abbrev pub invariant-loop-item : goal.invariant-loop-item
 invariant-loop-item l = record {
   sound : IsSound (drafted l.self) l.pending.items;
-  counted : IsCounted l.self.counts (drafted l.self) l.pending.items;
+  counted : IsCounted l.self.objects.counts (drafted l.self) l.pending.items;
   rest : after l.events.items (release (drafted l.self) l.pending.items) ≡ after l.fn.events.items (release (drafted l.fn.self) l.fn.pending.items);
 }
 

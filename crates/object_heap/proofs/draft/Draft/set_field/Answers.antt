@@ -13,31 +13,32 @@ use Rattle.object_heap.specs.declared.draft.Draft.{Draft}
 use Rattle.object_heap.specs.Counted.{drafted}
 use Rattle.object_heap.specs.Gains.{CountsMore}
 use Rattle.object_heap.proofs.ChangeWeights.{lost}
-use Rattle.object_heap.proofs.GainLemmas.{on_ok, lost_in, changes, room, less_room, field_in, field_gone}
+use Rattle.object_heap.proofs.GainLemmas.{on_ok, still_more, put_entry, lost_in, changes, room, less_room, field_in, field_gone}
 use Rattle.object_heap.proofs.draft.Draft.set_field.Goals as goal
 
 pub hold-requires : goal.hold-requires
 hold-requires c =
     let old = c.args.self.now in
-    less_room old.counts 1 MAX_FIELDS (omega arith) (room old.counts (drafted old) [] c.requires.bounded c.requires.counted (omega arith))
+    less_room old.objects.counts 1 MAX_FIELDS (omega arith) (room old.objects.counts (drafted old) [] c.requires.bounded c.requires.counted (omega arith))
 
 pub let_go-requires : goal.let_go-requires
 let_go-requires c =
     let old = c.args.self.now in
     let change : Change = SetField c.args.object c.args.index c.args.slot in
-    let is : get old.objects c.args.object ≡ Some (Alive c.in-Some-Alive.fields) = cc (c.in-Some-Alive.ensures, c.in-Some-Alive.field-0-is) in
-    field_in (drafted old) c.args.object c.args.index c.args.slot c.in-Some-Alive.fields c.as_slice.result.now _ is c.requires.can c.as_slice.ensures c.hold.new.counts
-    (lost_in old.counts c.hold.new.counts (drafted old) change c.requires.can c.requires.counted c.in_ok-hold.ensures)
+    let is : get old.objects.entries c.args.object ≡ Some (Alive c.in-Some-Alive.fields) = cc (c.in-Some-Alive.ensures, c.in-Some-Alive.field-0-is) in
+    field_in (drafted old) c.args.object c.args.index c.args.slot c.in-Some-Alive.fields c.as_slice.result.now _ is c.requires.can c.as_slice.ensures c.hold.new.objects.counts
+    (lost_in old.objects.counts c.hold.new.objects.counts (drafted old) change c.requires.can c.requires.counted c.in_ok-hold.ensures.counts)
 
 pub returns : goal.returns
 returns c =
     let old = c.args.self.now in
-    let new : Draft = record { handles = old.handles; cells = old.cells; objects = c.insert.new.self; counts = c.let_go.new.counts; scopes = old.scopes } in
+    let new : Draft = record { handles = old.handles; cells = old.cells; objects = c.insert.new.self; scopes = old.scopes } in
     let change : Change = SetField c.args.object c.args.index c.args.slot in
-    let is : get old.objects c.args.object ≡ Some (Alive c.in-Some-Alive.fields) = cc (c.in-Some-Alive.ensures, c.in-Some-Alive.field-0-is) in
-    let fewer : CountsMore new.counts c.hold.new.counts (lost (drafted old) change) = field_gone (drafted old) c.args.object c.args.index c.args.slot c.in-Some-Alive.fields c.as_slice.result.now _ is c.requires.can c.as_slice.ensures new.counts c.hold.new.counts c.in_ok-let_go.ensures in
-    let set : Alive c.in_ok-fields.fields ≡ with_field (get old.objects c.args.object) c.args.index c.args.slot =
+    let is : get old.objects.entries c.args.object ≡ Some (Alive c.in-Some-Alive.fields) = cc (c.in-Some-Alive.ensures, c.in-Some-Alive.field-0-is) in
+    let fewer : CountsMore c.let_go.new.objects.counts c.hold.new.objects.counts (lost (drafted old) change) = field_gone (drafted old) c.args.object c.args.index c.args.slot c.in-Some-Alive.fields c.as_slice.result.now _ is c.requires.can c.as_slice.ensures c.let_go.new.objects.counts c.hold.new.objects.counts c.in_ok-let_go.ensures.counts in
+    let set : Alive c.in_ok-fields.fields ≡ with_field (get old.objects.entries c.args.object) c.args.index c.args.slot =
     ap (λ (l : List Slot). Alive l) c.in_ok-fields.ensures ∙ sym (ap (λ (e : Option Entry). with_field e c.args.index c.args.slot) is) in
+    let stay : c.let_go.new.objects.entries ≡ old.objects.entries = c.in_ok-let_go.ensures.entries ∙ c.in_ok-hold.ensures.entries in
     on_ok c.insert.result c.insert.ensures.ok (λ put.
-    changes old.counts c.hold.new.counts (drafted old) change c.requires.can c.requires.counted c.in_ok-hold.ensures old new refl fewer
-    (ap (λ (x : FinMap nat_cmp Entry). record { handles = old.handles; cells = old.cells; objects = x; scopes = old.scopes }) (put ∙ ap (λ (e : Entry). insert old.objects c.args.object e) set)))
+    changes old.objects.counts c.hold.new.objects.counts (drafted old) change c.requires.can c.requires.counted c.in_ok-hold.ensures.counts old new refl (still_more c.let_go.new.objects c.insert.new.self c.hold.new.objects.counts _ _ put fewer)
+    (put_entry old c.let_go.new.objects c.insert.new.self c.args.object _ _ put stay set))

@@ -6,7 +6,7 @@ use Rattle.object_heap.proofs.draft.Draft.take_out_all.Given as goal
 
 abbrev pub invariant-loop-key : goal.invariant-loop-key
 invariant-loop-key l = record {
-  counted : IsCounted l.self.counts (drafted l.self) [];
+  counted : IsCounted l.self.objects.counts (drafted l.self) [];
   bounded : IsBounded (drafted l.self);
   rest : without_keys (drop l.key-index l.key-items) (drafted l.self) ≡ without_keys l.key-items (drafted l.fn.self);
 }

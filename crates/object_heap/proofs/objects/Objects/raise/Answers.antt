@@ -1,8 +1,6 @@
 use Rattle.std.proofs.Common.{◌<◌, sym, subst, arith}
-use Rattle.std.specs.Ordering.{nat_cmp}
-use Rattle.std.specs.FinMap.{FinMap}
-use Rattle.trace_types.specs.declared.slots.Entry.{Entry}
 use Rattle.object_heap.specs.Descent.{rank_in, IsUnnamed}
+use Rattle.object_heap.specs.TableView.{TableView}
 use Rattle.object_heap.proofs.DescentLemmas.{raised}
 use Rattle.object_heap.proofs.objects.Objects.raise.Goals as goal
 
@@ -10,5 +8,5 @@ pub invariant_of-self-then-rank-le-MAX_RANK :
     goal.invariant_of-self-then-rank-le-MAX_RANK
 invariant_of-self-then-rank-le-MAX_RANK c =
     let higher : rank_in c.self.inside.ranks c.args.object < c.args.rank = omega (arith, c.rank_of.ensures.rank, c.if-rank-rank_of.true) in
-    raised c.insert.result c.self.inside.ranks c.insert.new.self c.args.object c.args.rank c.insert.ensures.ok c.insert.ensures.err c.self.inside.from c.self.inside.entries higher (omega (arith, c.if-rank-le-MAX_RANK.true))
-    (subst (λ (m : FinMap nat_cmp Entry). IsUnnamed m c.args.object) (sym c.self.view_is) c.requires) c.self.invariant
+    raised c.insert.result c.self.inside.ranks c.insert.new.self c.args.object c.args.rank c.insert.ensures.ok c.insert.ensures.err c.self.inside.from c.self.inside.table.entries higher (omega (arith, c.if-rank-le-MAX_RANK.true))
+    (subst (λ (t : TableView). IsUnnamed t.entries c.args.object) (sym c.self.view_is) c.requires) c.self.invariant

@@ -1,0 +1,270 @@
+-- What contracts see of the objects, by what is kept for each.
+use Rattle.std.proofs.Common.{◌≡◌, ℕ, List, [], ◌∷◌, ◌++◌, refl, ap, ◌∙◌, sym, subst, arith, Bool, true, false, cond}
+use Rattle.std.specs.Prelude.{Option, Some, None, is_some, ◌==◌, ◌&&◌, ◌↔◌, if◌then◌else◌, unwrap_or, map}
+use Rattle.std.specs.Option.{option_map, option_and_then}
+use Rattle.std.proofs.Math.Dec.{T}
+use Rattle.std.proofs.lemmas.Bool.Decides.{nat_tests}
+use Rattle.std.specs.Ordering.{nat_cmp, eq_by_cmp}
+use Rattle.std.specs.Cmp.{nat_cmp_total}
+use Rattle.std.specs.FinMap.{FinMap, get, insert, remove, empty, entries, keys, entries_sorted, entries-from_sorted, get-entries, get-from_sorted, get-empty, same_map, nat_cmp-IsAntisymmetric}
+use Rattle.std.specs.FinMap.Entries.{is_sorted, below_all, find}
+use Rattle.share_tree.specs.Entries.{entry}
+use Rattle.trace_types.specs.declared.slots.Entry.{Entry}
+use Rattle.ownership_model.proofs.Counting.{get_inserted, get_removed, same_number}
+use Rattle.ownership_model.proofs.Scoping.{itself}
+use Rattle.object_heap.specs.declared.object.Counters.{Counters}
+use Rattle.object_heap.specs.TableView.{TableView, Kept, counters_at, are_zero, if_any, kept_of, picked, part, table_of, IsLean, AreAlike, AllStand}
+use Rattle.object_heap.specs.Gains.{IsSetAt}
+use Rattle.object_heap.proofs.ViewLemmas.{first, second, same_key, find_below}
+
+both : (a b : Bool) → T a → T b → T (a && b)
+both true b p q = q
+both false b p q = p
+
+not_some : {X : Type 0} (x : X) → ◌≡◌ {A = Option X} None (Some x) → ⊥
+not_some x e = cc
+
+not_there : false ≡ true → ⊥
+not_there e = cc
+
+same_some : {X : Type 0} (x y : X) → Some x ≡ Some y → x ≡ y
+same_some x y e = ap (λ o. unwrap_or o x) e
+
+-- ---- what f gives of a list in order
+module _ {X Y : Type 0} (f : X → Option Y) where
+  below-picked : (k : ℕ) (es : List (ℕ × X)) → T (below_all nat_cmp k es) → T (below_all nat_cmp k (picked f es))
+  below-picked k [] h = tt
+  below-picked k (e ∷ es) h =
+      let rest = below-picked k es (second _ _ h) in
+      elim (f e.1) as (λ o. T (below_all nat_cmp k (entry e.0 o ++ picked f es))) [ None ↦ rest | Some y ↦ both _ _ (first _ _ h) rest ]
+
+  sorted-picked : (es : List (ℕ × X)) → T (is_sorted nat_cmp es) → T (is_sorted nat_cmp (picked f es))
+  sorted-picked [] h = tt
+  sorted-picked (e ∷ es) h =
+      let rest = sorted-picked es (second _ _ h) in
+      elim (f e.1) as (λ o. T (is_sorted nat_cmp (entry e.0 o ++ picked f es))) [ None ↦ rest | Some y ↦ both _ _ (below-picked e.0 es (first _ _ h)) rest ]
+
+  below_key : (q : ℕ) (e : ℕ × X) (es : List (ℕ × X)) → T (is_sorted nat_cmp (e ∷ es)) → eq_by_cmp nat_cmp q e.0 ≡ true → T (below_all nat_cmp q es)
+  below_key q e es h t = subst (λ k. T (below_all nat_cmp k es)) (same_number e.0 q (sym (same_key q e.0) ∙ t)) (first _ _ h)
+
+  find-picked : (q : ℕ) (es : List (ℕ × X)) → T (is_sorted nat_cmp es) → find nat_cmp q (picked f es) ≡ option_and_then f (find nat_cmp q es)
+  find-picked q [] h = refl
+  find-picked q (e ∷ es) h =
+      elim (eq_by_cmp nat_cmp q e.0) as (λ b. eq_by_cmp nat_cmp q e.0 ≡ b → find nat_cmp q (entry e.0 (f e.1) ++ picked f es) ≡ option_and_then f (cond b (Some e.1) (find nat_cmp q es))) [
+        | true ↦ λ t. elim (f e.1) as (λ o. find nat_cmp q (entry e.0 o ++ picked f es) ≡ o) [
+          | None ↦ find_below q (picked f es) (below-picked q es (below_key q e es h t))
+          | Some y ↦ ap (λ b. cond b (Some y) (find nat_cmp q (picked f es))) t
+        ]
+        | false ↦ λ t. elim (f e.1) as (λ o. find nat_cmp q (entry e.0 o ++ picked f es) ≡ option_and_then f (find nat_cmp q es)) [
+          | None ↦ find-picked q es (second _ _ h)
+          | Some y ↦ ap (λ b. cond b (Some y) (find nat_cmp q (picked f es))) t ∙ find-picked q es (second _ _ h)
+        ]
+      ] refl
+
+  found_later : (q : ℕ) (e : ℕ × X) (es : List (ℕ × X)) (x : X) → T (is_sorted nat_cmp (e ∷ es)) → find nat_cmp q es ≡ Some x → find nat_cmp q (e ∷ es) ≡ Some x
+  found_later q e es x h found =
+      elim (eq_by_cmp nat_cmp q e.0) as (λ b. eq_by_cmp nat_cmp q e.0 ≡ b → cond b (Some e.1) (find nat_cmp q es) ≡ Some x) [
+        | true ↦ λ t. absurd (not_some x (sym (find_below q es (below_key q e es h t)) ∙ found))
+        | false ↦ λ t. found
+      ] refl
+
+  -- where f gives something of each entry, the keys are the same
+  keys-picked : (es : List (ℕ × X)) → T (is_sorted nat_cmp es) → ((q : ℕ) (x : X) → find nat_cmp q es ≡ Some x → is_some (f x) ≡ true) → map (λ e. e.0) (picked f es) ≡ map (λ e. e.0) es
+  keys-picked [] h all = refl
+  keys-picked (e ∷ es) h all =
+      let rest = keys-picked es (second _ _ h) (λ q x found. all q x (found_later q e es x h found)) in
+      let here : is_some (f e.1) ≡ true = all e.0 e.1 (ap (λ b. cond b (Some e.1) (find nat_cmp e.0 es)) (same_key e.0 e.0 ∙ itself e.0)) in
+      elim (f e.1) as (λ o. is_some o ≡ true → map (λ e. e.0) (entry e.0 o ++ picked f es) ≡ e.0 ∷ map (λ e. e.0) es) [
+        | None ↦ λ s. absurd (not_there s)
+        | Some y ↦ λ s. ap (λ ks. e.0 ∷ ks) rest
+      ] here
+
+  -- ---- and of a map
+  get-part : (m : FinMap nat_cmp X) (q : ℕ) → get (part f m) q ≡ option_and_then f (get m q)
+  unfolding part
+  get-part m q = get-from_sorted nat_cmp (picked f (entries m)) q (sorted-picked (entries m) (entries_sorted m)) ∙ find-picked q (entries m) (entries_sorted m) ∙ ap (option_and_then f) (sym (get-entries m q))
+
+  part_is : (m : FinMap nat_cmp X) (n : FinMap nat_cmp Y) → ((q : ℕ) → option_and_then f (get m q) ≡ get n q) → part f m ≡ n
+  part_is m n is = same_map nat_cmp_total nat_cmp-IsAntisymmetric (part f m) n (λ q. get-part m q ∙ is q)
+
+  part-empty : part f empty ≡ empty
+  part-empty = part_is empty empty (λ q. ap (option_and_then f) (get-empty nat_cmp q) ∙ sym (get-empty nat_cmp q))
+
+  keys-part : (m : FinMap nat_cmp X) → ((q : ℕ) (x : X) → get m q ≡ Some x → is_some (f x) ≡ true) → keys (part f m) ≡ keys m
+  unfolding part
+  keys-part m all =
+      ap (map (λ e. e.0)) (entries-from_sorted nat_cmp (picked f (entries m)) (sorted-picked (entries m) (entries_sorted m)))
+      ∙ keys-picked (entries m) (entries_sorted m) (λ q x found. all q x (get-entries m q ∙ found))
+
+  -- at one key there is something else
+  module _ (old new : FinMap nat_cmp X) (o : ℕ) (y : Option X) (is : (q : ℕ) → get new q ≡ (if o == q then y else get old q)) where
+    through : (b : Bool) (z : Option X) → option_and_then f (if b then y else z) ≡ (if b then option_and_then f y else option_and_then f z)
+    through true z = refl
+    through false z = refl
+
+    part_at : (q : ℕ) → option_and_then f (get new q) ≡ (if o == q then option_and_then f y else get (part f old) q)
+    part_at q = ap (option_and_then f) (is q) ∙ through (o == q) (get old q) ∙ ap (λ z. if o == q then option_and_then f y else z) (sym (get-part old q))
+
+    part_insert : (v : Y) → option_and_then f y ≡ Some v → part f new ≡ insert (part f old) o v
+    part_insert v e = part_is new (insert (part f old) o v) (λ q. part_at q ∙ ap (λ z. if o == q then z else get (part f old) q) e ∙ sym (get_inserted (part f old) o v q))
+
+    part_remove : option_and_then f y ≡ None → part f new ≡ remove (part f old) o
+    part_remove e = part_is new (remove (part f old) o) (λ q. part_at q ∙ ap (λ z. if o == q then z else get (part f old) q) e ∙ sym (get_removed (part f old) o q))
+
+    part_stays : option_and_then f y ≡ get (part f old) o → part f new ≡ part f old
+    part_stays e = part_is new (part f old) (λ q. part_at q
+        ∙ elim (o == q) as (λ b. (o == q) ≡ b → (if b then option_and_then f y else get (part f old) q) ≡ get (part f old) q) [
+          | true ↦ λ t. e ∙ ap (get (part f old)) (same_number o q t)
+          | false ↦ λ t. refl
+        ] refl)
+
+-- ---- counters that are kept where anything is counted
+no_left : (a b : Bool) → (a && b) ≡ true → a ≡ true
+no_left true b h = refl
+no_left false b h = absurd cc
+
+no_right : (a b : Bool) → (a && b) ≡ true → b ≡ true
+no_right true b h = h
+no_right false b h = absurd cc
+
+zeros_are : (c : Counters) → are_zero c ≡ true → counters_at None ≡ c
+zeros_are c t =
+    let rest = no_right (c.strong == 0) ((c.weak == 0) && (c.ends == 0)) t in
+    let s : c.strong ≡ 0 = same_number c.strong 0 (no_left _ _ t) in
+    let w : c.weak ≡ 0 = same_number c.weak 0 (no_left (c.weak == 0) (c.ends == 0) rest) in
+    let e : c.ends ≡ 0 = same_number c.ends 0 (no_right (c.weak == 0) (c.ends == 0) rest) in
+    λ i. record { strong = sym s i; weak = sym w i; ends = sym e i }
+
+-- whichever way the test of counters goes
+by_zero : (P : Option Counters → Type 0) (c : Counters) → (are_zero c ≡ true → P None) → (are_zero c ≡ false → P (Some c)) → P (if_any c)
+by_zero P c zero some = elim (are_zero c) as (λ b. are_zero c ≡ b → P (if b then None else Some c)) [ true ↦ zero | false ↦ some ] refl
+
+any_is : (c : Counters) → counters_at (if_any c) ≡ c
+any_is c = by_zero (λ o. counters_at o ≡ c) c (zeros_are c) (λ _. refl)
+
+-- ---- what is kept of two
+kept_entry : (e : Option Entry) (c : Counters) → option_and_then (λ (x : Kept). x.0) (kept_of e c) ≡ e
+kept_entry (Some e) c = refl
+kept_entry None c = by_zero (λ o. option_and_then (λ (x : Kept). x.0) (option_map (λ n. (None, n)) o) ≡ None) c (λ _. refl) (λ _. refl)
+
+kept_any : (e : Option Entry) (c : Counters) → option_and_then (λ (x : Kept). if_any x.1) (kept_of e c) ≡ if_any c
+kept_any (Some e) c = refl
+kept_any None c = by_zero (λ o. option_and_then (λ (x : Kept). if_any x.1) (option_map (λ n. (None, n)) o) ≡ if_any c) c (λ t. sym (ap (λ b. if b then None else Some c) t)) (λ _. refl)
+
+kept_counters : (e : Option Entry) (c : Counters) → counters_at (option_map (λ (x : Kept). x.1) (kept_of e c)) ≡ c
+kept_counters (Some e) c = refl
+kept_counters None c = by_zero (λ o. counters_at (option_map (λ (x : Kept). x.1) (option_map (λ n. (None, n)) o)) ≡ c) c (zeros_are c) (λ _. refl)
+
+-- ---- what is seen of what is kept
+module _ (m : FinMap nat_cmp Kept) where
+  entry_seen : (q : ℕ) → get (table_of m).entries q ≡ option_and_then (λ (x : Kept). x.0) (get m q)
+  entry_seen q = get-part (λ x. x.0) m q
+
+  counters_of : (o : Option Kept) → counters_at (option_and_then (λ (x : Kept). if_any x.1) o) ≡ counters_at (option_map (λ (x : Kept). x.1) o)
+  counters_of None = refl
+  counters_of (Some x) = any_is x.1
+
+  counters_seen : (q : ℕ) → counters_at (get (table_of m).counts q) ≡ counters_at (option_map (λ (x : Kept). x.1) (get m q))
+  counters_seen q = ap counters_at (get-part (λ x. if_any x.1) m q) ∙ counters_of (get m q)
+
+  any_of : (o : Option Kept) → if_any (counters_at (option_map (λ (x : Kept). x.1) o)) ≡ option_and_then (λ (x : Kept). if_any x.1) o
+  any_of None = refl
+  any_of (Some x) = refl
+
+  any_seen : (q : ℕ) → if_any (counters_at (get (table_of m).counts q)) ≡ get (table_of m).counts q
+  any_seen q = ap if_any (counters_seen q) ∙ any_of (get m q) ∙ sym (get-part (λ x. if_any x.1) m q)
+
+  kept_is : IsLean m → (q : ℕ) → get m q ≡ kept_of (get (table_of m).entries q) (counters_at (get (table_of m).counts q))
+  kept_is lean q =
+      elim (get m q) as (λ z. get m q ≡ z → z ≡ kept_of (option_and_then (λ (x : Kept). x.0) z) (counters_at (option_map (λ (x : Kept). x.1) z))) [
+        | None ↦ λ e. refl
+        | Some x ↦ λ e. sym (lean q x e)
+      ] refl
+      ∙ ap (λ e. kept_of e (counters_at (option_map (λ (x : Kept). x.1) (get m q)))) (sym (entry_seen q))
+      ∙ ap (λ c. kept_of (get (table_of m).entries q) c) (sym (counters_seen q))
+
+  each_stands : IsLean m → AllStand (table_of m) → (q : ℕ) (x : Kept) → get m q ≡ Some x → is_some x.0 ≡ true
+  each_stands lean stand q x is =
+      elim x.0 as (λ z. x.0 ≡ z → is_some z ≡ true) [
+        | None ↦ λ none.
+            let e : get (table_of m).entries q ≡ None = entry_seen q ∙ ap (option_and_then (λ (x : Kept). x.0)) is ∙ none in
+            absurd (not_some x (sym (kept_is lean q ∙ ap (λ z. kept_of z (counters_at (get (table_of m).counts q))) e ∙ ap (λ c. kept_of None c) (stand q e)) ∙ is))
+        | Some e ↦ λ some. refl
+      ] refl
+
+  keys_seen : IsLean m → AllStand (table_of m) → keys m ≡ keys (table_of m).entries
+  keys_seen lean stand = sym (keys-part (λ x. x.0) m (each_stands lean stand))
+
+-- what is found by what is kept
+module _ (m : FinMap nat_cmp Kept) (t : TableView) (view : table_of m ≡ t) (q : ℕ) (x : Option Kept) (is : get m q ≡ x) where
+  pub entry_found : option_and_then (λ (k : Kept). k.0) x ≡ get t.entries q
+  entry_found = ap (option_and_then (λ (k : Kept). k.0)) (sym is) ∙ sym (entry_seen m q) ∙ ap (λ (s : TableView). get s.entries q) view
+
+  pub counters_found : counters_at (option_map (λ (k : Kept). k.1) x) ≡ counters_at (get t.counts q)
+  counters_found = ap (λ (y : Option Kept). counters_at (option_map (λ (k : Kept). k.1) y)) (sym is) ∙ sym (counters_seen m q) ∙ ap (λ (s : TableView). counters_at (get s.counts q)) view
+
+pub keys_found : (m : FinMap nat_cmp Kept) (t : TableView) → table_of m ≡ t → IsLean m → AllStand t → keys m ≡ keys t.entries
+keys_found m t view lean stand = keys_seen m lean (subst (λ (s : TableView). AllStand s) (sym view) stand) ∙ ap (λ (s : TableView). keys s.entries) view
+
+-- trees of which the same is seen are the same
+same_kept : (a b : FinMap nat_cmp Kept) → IsLean a → IsLean b → AreAlike (table_of a) (table_of b) → a ≡ b
+same_kept a b x y alike = same_map nat_cmp_total nat_cmp-IsAntisymmetric a b (λ q.
+    kept_is a x q
+    ∙ ap (λ e. kept_of e (counters_at (get (table_of a).counts q))) (ap (λ m. get m q) alike.0)
+    ∙ ap (λ c. kept_of (get (table_of b).entries q) c) (alike.1 q)
+    ∙ sym (kept_is b y q))
+
+alike_seen : (a b : FinMap nat_cmp Kept) → a ≡ b → AreAlike (table_of a) (table_of b)
+alike_seen a b e = (ap (λ m. (table_of m).entries) e, λ o. ap (λ m. counters_at (get (table_of m).counts o)) e)
+
+pub same_seen : (a b : FinMap nat_cmp Kept) (s t : TableView) → table_of a ≡ s → table_of b ≡ t → IsLean a → IsLean b → (a ≡ b) ↔ AreAlike s t
+same_seen a b s t first next x y = (
+  λ e. subst (λ (u : TableView). AreAlike u t) first (subst (λ (u : TableView). AreAlike (table_of a) u) next (alike_seen a b e)),
+  λ alike. same_kept a b x y (subst (λ (u : TableView). AreAlike u (table_of b)) (sym first) (subst (λ (u : TableView). AreAlike s u) (sym next) alike)),
+)
+
+-- ---- what is kept at one number changes
+module _ (old new : FinMap nat_cmp Kept) (t : TableView) (view : table_of old ≡ t) (o : ℕ) (k : Kept) (is : (q : ℕ) → get new q ≡ (if o == q then kept_of k.0 k.1 else get old q)) where
+  counts_stay : k.1 ≡ counters_at (get t.counts o) → (table_of new).counts ≡ t.counts
+  counts_stay same =
+      part_stays (λ x. if_any x.1) old new o (kept_of k.0 k.1) is (kept_any k.0 k.1 ∙ ap if_any (same ∙ ap (λ (s : TableView). counters_at (get s.counts o)) (sym view)) ∙ any_seen old o)
+      ∙ ap (λ (s : TableView). s.counts) view
+
+  pub entry_put : (e : Entry) (c : Counters) → k ≡ (Some e, c) → c ≡ counters_at (get t.counts o) → table_of new ≡ record { entries = insert t.entries o e; counts = t.counts }
+  entry_put e c by same =
+      let put : (table_of new).entries ≡ insert t.entries o e =
+      part_insert (λ x. x.0) old new o (kept_of k.0 k.1) is e (kept_entry k.0 k.1 ∙ ap (λ (x : Kept). x.0) by) ∙ ap (λ (s : TableView). insert s.entries o e) view in
+      let stay = counts_stay (ap (λ (x : Kept). x.1) by ∙ same) in
+      λ i. record { entries = put i; counts = stay i }
+
+  pub entry_cut : (c : Counters) → k ≡ (None, c) → c ≡ counters_at (get t.counts o) → table_of new ≡ record { entries = remove t.entries o; counts = t.counts }
+  entry_cut c by same =
+      let cut : (table_of new).entries ≡ remove t.entries o =
+      part_remove (λ x. x.0) old new o (kept_of k.0 k.1) is (kept_entry k.0 k.1 ∙ ap (λ (x : Kept). x.0) by) ∙ ap (λ (s : TableView). remove s.entries o) view in
+      let stay = counts_stay (ap (λ (x : Kept). x.1) by ∙ same) in
+      λ i. record { entries = cut i; counts = stay i }
+
+  module _ (c : Counters) (by : k ≡ (get t.entries o, c)) where
+    pub entries_stay : (table_of new).entries ≡ t.entries
+    entries_stay =
+        part_stays (λ x. x.0) old new o (kept_of k.0 k.1) is (kept_entry k.0 k.1 ∙ ap (λ (x : Kept). x.0) by ∙ ap (λ (s : TableView). get s.entries o) (sym view))
+        ∙ ap (λ (s : TableView). s.entries) view
+
+    pub counters_set : IsSetAt t.counts (table_of new).counts o c
+    counters_set p =
+        counters_seen new p
+        ∙ ap (λ z. counters_at (option_map (λ (x : Kept). x.1) z)) (is p)
+        ∙ elim (o == p) as (λ b. counters_at (option_map (λ (x : Kept). x.1) (if b then kept_of k.0 k.1 else get old p)) ≡ (if b then c else counters_at (get t.counts p))) [
+          | true ↦ kept_counters k.0 k.1 ∙ ap (λ (x : Kept). x.1) by
+          | false ↦ sym (counters_seen old p) ∙ ap (λ (s : TableView). counters_at (get s.counts p)) view
+        ]
+
+-- ---- nothing is kept
+pub lean_empty : (m : FinMap nat_cmp Kept) → m ≡ empty → IsLean m
+lean_empty m none o x is = absurd (not_some x (sym (ap (λ n. get n o) none ∙ get-empty nat_cmp o) ∙ is))
+
+pub nothing_seen : (m : FinMap nat_cmp Kept) → m ≡ empty → table_of m ≡ record { entries = empty; counts = empty }
+nothing_seen m none =
+    let e : (table_of m).entries ≡ empty = ap (part (λ x. x.0)) none ∙ part-empty (λ x. x.0) in
+    let c : (table_of m).counts ≡ empty = ap (part (λ x. if_any x.1)) none ∙ part-empty (λ x. if_any x.1) in
+    λ i. record { entries = e i; counts = c i }

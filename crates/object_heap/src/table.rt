@@ -1,0 +1,192 @@
+//! What stands for each object and how often each is named, in one tree.
+ghost use Rattle.std.specs.Prelude.{◌≡◌, ◌↔◌, ℕ, Some, None, IfOk, OnOk, OnErr, IsTrue, ◌==◌, if◌then◌else◌};
+ghost use Rattle.std.specs.Option.{option_copied, option_map};
+ghost use Rattle.std.specs.Arc.{arc_value};
+ghost use Rattle.std.specs.FinMap as map;
+ghost use Rattle.object_heap.specs.TableView.{counters_at, kept_of, AreAlike, AllStand};
+ghost use Rattle.object_heap.specs.Gains.{IsSetAt};
+
+use crate::object::{Counters, Object};
+use crate::weight::{Weigh, scattered};
+use share_tree::ShareTree;
+use std::alloc::{AllocError, Global};
+use std::marker::Model;
+use std::sync::Arc;
+use trace_types::slots::Entry;
+
+/// The objects by their numbers. Contracts see what stands for each, and the counters of each that is named, as two finite maps.
+///
+/// It also keeps a sum over what stands, as `Summed` does. Nothing is kept for an object that doesn't stand and that nothing names.
+pub struct Table {
+    kept: ShareTree<Object>,
+    sum: u64,
+}
+
+impl Model for Table {
+    ghost use Rattle.object_heap.specs.TableView.{TableView, table_code, table_of, IsLean};
+
+    ghost Value = { TableView };
+
+    ghost coded = { table_code };
+
+    ghost view = { λ t. table_of t.kept };
+
+    ghost invariant = { λ t. IsLean t.kept };
+}
+
+impl Drop for Table {
+    fn drop(self) {
+        let Table { kept: _, sum: _ } = self;
+    }
+}
+
+impl Table {
+    /// No object stands, and none is named.
+    pub fn empty() -> Table
+        ensures { result ≡ record { entries = map.empty; counts = map.empty } }
+    {
+        Table {
+            kept: ShareTree::empty(),
+            sum: 0,
+        }
+    }
+
+    /// The same again, whose nodes both have.
+    pub fn share(&self) -> Result<Table, AllocError>
+        ensures { IfOk result (λ t. t ≡ self.now) }
+    {
+        Ok(Table {
+            kept: self.kept.share()?,
+            sum: self.sum,
+        })
+    }
+
+    /// What stands for an object.
+    pub fn get(&self, object: u32) -> Option<&Entry>
+        ensures { option_copied result ≡ map.get self.now.entries object }
+    {
+        match self.kept.get(object) {
+            Some(kept) => kept.entry(),
+            None => None,
+        }
+    }
+
+    /// What stands for an object, for one who holds it while others change.
+    pub fn share_entry(&self, object: u32) -> Result<Option<Arc<Entry>>, AllocError>
+        ensures { IfOk result (λ e. option_map arc_value e ≡ map.get self.now.entries object) }
+    {
+        match self.kept.get(object) {
+            Some(kept) => kept.share_entry(),
+            None => Ok(None),
+        }
+    }
+
+    /// The counters of an object; zeros where none are kept.
+    pub fn counters(&self, object: u32) -> Counters
+        ensures { result ≡ counters_at (map.get self.now.counts object) }
+    {
+        match self.kept.get(object) {
+            Some(kept) => kept.counters(),
+            None => Counters {
+                strong: 0,
+                weak: 0,
+                ends: 0,
+            },
+        }
+    }
+
+    /// The numbers of those that stand, rising. All that are named do.
+    pub fn keys(&self, alloc: Global) -> Result<Vec<u32>, AllocError>
+        requires { AllStand self.now }
+        ensures { IfOk result (λ v. v.items ≡ map.keys self.now.entries) }
+    {
+        self.kept.keys(alloc)
+    }
+
+    /// Whether the same stands in both, and is named as often.
+    pub fn same(&self, other: &Table) -> bool
+        ensures { IsTrue result ↔ AreAlike self.now other.now }
+    {
+        self.kept.same(&other.kept)
+    }
+
+    /// A number that is the same where the same stands.
+    pub fn sum(&self) -> u64 {
+        self.sum
+    }
+
+    /// Something else stands for an object, or it comes to be. Its counters stay.
+    pub fn insert(&mut self, alloc: Global, object: u32, entry: Entry) -> Result<(), AllocError>
+        ensures ok { OnOk result (self.new ≡ record self.old { entries = map.insert self.old.entries object entry }) }
+        ensures err { OnErr result (self.new ≡ self.old) }
+    {
+        let sum = self
+            .rest(object)
+            .wrapping_add(scattered(object, entry.weight()));
+        let kept = Object::standing(alloc, entry, self.counters(object))?;
+        store(alloc, &mut self.kept, object, kept)?;
+        self.sum = sum;
+        Ok(())
+    }
+
+    /// Nothing stands for an object any more. Its counters stay.
+    pub fn remove(&mut self, alloc: Global, object: u32) -> Result<(), AllocError>
+        ensures ok { OnOk result (self.new ≡ record self.old { entries = map.remove self.old.entries object }) }
+        ensures err { OnErr result (self.new ≡ self.old) }
+    {
+        let sum = self.rest(object);
+        let kept = Object::named(self.counters(object));
+        store(alloc, &mut self.kept, object, kept)?;
+        self.sum = sum;
+        Ok(())
+    }
+
+    /// Gives an object these counters. What stands for it stays.
+    pub fn set_counters(
+        &mut self,
+        alloc: Global,
+        object: u32,
+        counters: Counters,
+    ) -> Result<(), AllocError>
+        ensures set { OnOk result (IsSetAt self.old.counts self.new.counts object counters) }
+        ensures entries { self.new.entries ≡ self.old.entries }
+    {
+        let kept = self.recounted(object, counters)?;
+        store(alloc, &mut self.kept, object, kept)
+    }
+
+    // What is kept for an object, with other counters.
+    fn recounted(&self, object: u32, counters: Counters) -> Result<Object, AllocError>
+        ensures { IfOk result (λ x. x ≡ (map.get self.now.entries object, counters)) }
+    {
+        match self.kept.get(object) {
+            Some(kept) => kept.with_counters(counters),
+            None => Ok(Object::named(counters)),
+        }
+    }
+
+    // The sum without what stands for an object.
+    fn rest(&self, object: u32) -> u64 {
+        match self.get(object) {
+            Some(entry) => self.sum.wrapping_sub(scattered(object, entry.weight())),
+            None => self.sum,
+        }
+    }
+}
+
+// Keeps this for an object, or nothing where nothing stands for it and nothing names it.
+fn store(
+    alloc: Global,
+    tree: &mut ShareTree<Object>,
+    object: u32,
+    kept: Object,
+) -> Result<(), AllocError>
+    ensures ok { OnOk result ((q : ℕ) → map.get tree.new q ≡ (if object == q then kept_of kept.0 kept.1 else map.get tree.old q)) }
+    ensures err { OnErr result (tree.new ≡ tree.old) }
+{
+    if kept.is_needed() {
+        tree.insert(alloc, object, kept)
+    } else {
+        tree.remove(alloc, object)
+    }
+}
