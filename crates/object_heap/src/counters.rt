@@ -20,20 +20,22 @@ pub fn hold(alloc: Global, objects: &mut Objects, slot: Slot) -> Result<(), Allo
 {
     match slot {
         Slot::Strong(object) => {
-            let was = objects.counters(object);
+            let kept = objects.kept(object)?;
+            let was = kept.counters();
             let more = Counters {
                 strong: was.strong + 1,
                 ..was
             };
-            objects.set_counters(alloc, object, more)
+            objects.recount(alloc, object, kept, more)
         }
         Slot::Weak(object) => {
-            let was = objects.counters(object);
+            let kept = objects.kept(object)?;
+            let was = kept.counters();
             let more = Counters {
                 weak: was.weak + 1,
                 ..was
             };
-            objects.set_counters(alloc, object, more)
+            objects.recount(alloc, object, kept, more)
         }
         Slot::Nothing | Slot::Dangling => Ok(()),
     }
@@ -47,20 +49,22 @@ pub fn let_go(alloc: Global, objects: &mut Objects, slot: Slot) -> Result<(), Al
 {
     match slot {
         Slot::Strong(object) => {
-            let was = objects.counters(object);
+            let kept = objects.kept(object)?;
+            let was = kept.counters();
             let less = Counters {
                 strong: was.strong - 1,
                 ..was
             };
-            objects.set_counters(alloc, object, less)
+            objects.recount(alloc, object, kept, less)
         }
         Slot::Weak(object) => {
-            let was = objects.counters(object);
+            let kept = objects.kept(object)?;
+            let was = kept.counters();
             let less = Counters {
                 weak: was.weak - 1,
                 ..was
             };
-            objects.set_counters(alloc, object, less)
+            objects.recount(alloc, object, kept, less)
         }
         Slot::Nothing | Slot::Dangling => Ok(()),
     }
@@ -75,12 +79,13 @@ pub fn hold_item(alloc: Global, objects: &mut Objects, item: Item) -> Result<(),
     match item {
         Item::Slot(slot) => hold(alloc, objects, slot),
         Item::End(object) => {
-            let was = objects.counters(object);
+            let kept = objects.kept(object)?;
+            let was = kept.counters();
             let more = Counters {
                 ends: was.ends + 1,
                 ..was
             };
-            objects.set_counters(alloc, object, more)
+            objects.recount(alloc, object, kept, more)
         }
     }
 }

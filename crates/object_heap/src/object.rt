@@ -71,6 +71,14 @@ impl Object {
         })
     }
 
+    /// This one with other counters.
+    pub fn recounted(self, counters: Counters) -> Object
+        ensures { result ≡ (self.0, counters) }
+    {
+        let Object { entry, counters: _ } = self;
+        Object { entry, counters }
+    }
+
     /// What stands for it.
     pub fn entry(&self) -> Option<&Entry>
         ensures { option_copied result ≡ self.now.0 }

@@ -7,7 +7,7 @@ ghost use Rattle.object_heap.specs.TableView.{counters_at, AreAlike, AllStand};
 ghost use Rattle.object_heap.specs.Gains.{IsSetAt};
 ghost use Rattle.object_heap.specs.Descent.{DescendTo, IsUnnamed};
 
-use crate::object::Counters;
+use crate::object::{Counters, Object};
 use crate::ranks::{MAX_RANK, lower_from, rank_of, rank_over};
 use crate::table::Table;
 use share_tree::ShareTree;
@@ -100,6 +100,13 @@ impl Objects {
         self.table.counters(object)
     }
 
+    /// What is kept for an object, which it shares.
+    pub fn kept(&self, object: u32) -> Result<Object, AllocError>
+        ensures { IfOk result (λ x. x ≡ (map.get self.now.entries object, counters_at (map.get self.now.counts object))) }
+    {
+        self.table.kept(object)
+    }
+
     /// The numbers of those that stand, rising. All that are named do.
     pub fn keys(&self, alloc: Global) -> Result<Vec<u32>, AllocError>
         requires { AllStand self.now }
@@ -149,6 +156,21 @@ impl Objects {
         ensures entries { self.new.entries ≡ self.old.entries }
     {
         self.table.set_counters(alloc, object, counters)
+    }
+
+    /// As `set_counters`, of an object for which this is kept.
+    pub fn recount(
+        &mut self,
+        alloc: Global,
+        object: u32,
+        kept: Object,
+        counters: Counters,
+    ) -> Result<(), AllocError>
+        requires { kept.0 ≡ map.get self.old.entries object }
+        ensures set { OnOk result (IsSetAt self.old.counts self.new.counts object counters) }
+        ensures entries { self.new.entries ≡ self.old.entries }
+    {
+        self.table.recount(alloc, object, kept, counters)
     }
 
     /// A rank over those of what the slots name.

@@ -95,6 +95,20 @@ impl Table {
         }
     }
 
+    /// What is kept for an object, which it shares.
+    pub fn kept(&self, object: u32) -> Result<Object, AllocError>
+        ensures { IfOk result (λ x. x ≡ (map.get self.now.entries object, counters_at (map.get self.now.counts object))) }
+    {
+        match self.kept.get(object) {
+            Some(kept) => kept.with_counters(kept.counters()),
+            None => Ok(Object::named(Counters {
+                strong: 0,
+                weak: 0,
+                ends: 0,
+            })),
+        }
+    }
+
     /// The numbers of those that stand, rising. All that are named do.
     pub fn keys(&self, alloc: Global) -> Result<Vec<u32>, AllocError>
         requires { AllStand self.now }
@@ -152,6 +166,22 @@ impl Table {
         ensures entries { self.new.entries ≡ self.old.entries }
     {
         let kept = self.recounted(object, counters)?;
+        store(alloc, &mut self.kept, object, kept)
+    }
+
+    /// As `set_counters`, of an object for which this is kept.
+    pub fn recount(
+        &mut self,
+        alloc: Global,
+        object: u32,
+        kept: Object,
+        counters: Counters,
+    ) -> Result<(), AllocError>
+        requires { kept.0 ≡ map.get self.old.entries object }
+        ensures set { OnOk result (IsSetAt self.old.counts self.new.counts object counters) }
+        ensures entries { self.new.entries ≡ self.old.entries }
+    {
+        let kept = kept.recounted(counters);
         store(alloc, &mut self.kept, object, kept)
     }
 
