@@ -82,6 +82,10 @@ descend_remove ranks from object objects d = record {
   low = d.low;
 }
 
+-- the value of an object goes
+pub descend_husk : (ranks : FinMap nat_cmp ℕ) (from object : ℕ) (objects : FinMap nat_cmp Entry) → AreRanked ranks from objects → AreRanked ranks from (insert objects object Husk)
+descend_husk ranks from object objects d = descend_insert ranks from from object (rank_in ranks object) Husk objects (omega arith) refl (λ o h above. absurd cc) d
+
 apart : (b : Bool) → b ≡ true → b ≡ false → ⊥
 apart true h g = cc
 apart false h g = cc

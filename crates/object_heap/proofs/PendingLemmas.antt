@@ -1,16 +1,19 @@
 -- One item more is pending, after the others.
-use Rattle.std.proofs.Common.{◌≡◌, ℕ, ◌+◌, List, [], ◌∷◌, ◌++◌, arith}
+use Rattle.std.proofs.Common.{◌≡◌, ℕ, ◌+◌, List, [], ◌∷◌, ◌++◌, refl, ap, ◌∙◌, arith, Bool, true, false}
 use Rattle.std.specs.Prelude.{◌==◌, if◌then◌else◌}
 use Rattle.std.specs.Ordering.{nat_cmp}
-use Rattle.std.specs.FinMap.{FinMap}
+use Rattle.std.specs.FinMap.{FinMap, get}
 use Rattle.trace_types.specs.declared.slots.Slot.{Slot}
 use Rattle.trace_types.specs.declared.slots.Slot.TheVariants.{Strong, Weak}
 use Rattle.trace_types.specs.declared.slots.Item.{Item}
 use Rattle.trace_types.specs.declared.slots.Item.TheVariants as item
 use Rattle.ownership_model.specs.State.{State, names_alike, items_weight, ends}
+use Rattle.ownership_model.proofs.Counting.{same_number}
 use Rattle.object_heap.specs.declared.object.Counters.{Counters}
 use Rattle.object_heap.specs.Counted.{IsCounted}
-use Rattle.object_heap.specs.Gains.{CountsMore, CountsItem}
+use Rattle.object_heap.specs.TableView.{counters_at}
+use Rattle.object_heap.specs.Gains.{IsSetAt, CountsMore, CountsItem}
+use Rattle.object_heap.proofs.GainLemmas.{chosen}
 
 items_weight-append : (w : Slot → ℕ) (xs ys : List Item) → items_weight w (xs ++ ys) ≡ items_weight w xs + items_weight w ys
 items_weight-append w [] ys = omega arith
@@ -37,4 +40,19 @@ counts_slot less more s has = record {
   strong_is = λ o. omega (arith, has.strong_is o);
   weak_is = λ o. omega (arith, has.weak_is o);
   ends_is = λ o. omega (arith, has.ends_is o);
+}
+
+one_end : (b : Bool) (c old : Counters) → (b ≡ true → c.ends ≡ 1 + old.ends) → (if b then c else old).ends ≡ ((if b then 1 else 0) + 0) + old.ends
+one_end true c old p = omega (arith, p refl)
+one_end false c old p = omega arith
+
+pub counts_end : (less more : FinMap nat_cmp Counters) (o : ℕ) (c : Counters) → IsSetAt less more o c
+    → c.strong ≡ (counters_at (get less o)).strong → c.weak ≡ (counters_at (get less o)).weak → c.ends ≡ 1 + (counters_at (get less o)).ends → CountsItem less more (item.End o)
+counts_end less more o c set s w e = record {
+  strong_is = λ p. ap (λ (v : Counters). v.strong) (set p)
+      ∙ chosen (λ v. v.strong) (o == p) c (counters_at (get less p)) (0 + (counters_at (get less p)).strong) (λ t. s ∙ ap (λ q. (counters_at (get less q)).strong) (same_number o p t) ∙ omega arith) (λ f. omega arith);
+  weak_is = λ p. ap (λ (v : Counters). v.weak) (set p)
+      ∙ chosen (λ v. v.weak) (o == p) c (counters_at (get less p)) (0 + (counters_at (get less p)).weak) (λ t. w ∙ ap (λ q. (counters_at (get less q)).weak) (same_number o p t) ∙ omega arith) (λ f. omega arith);
+  ends_is = λ p. ap (λ (v : Counters). v.ends) (set p)
+      ∙ one_end (o == p) c (counters_at (get less p)) (λ t. e ∙ ap (λ q. 1 + (counters_at (get less q)).ends) (same_number o p t));
 }

@@ -1,8 +1,9 @@
 -- What contracts see of the objects, by what is kept for each.
-use Rattle.std.proofs.Common.{◌≡◌, ℕ, List, [], ◌∷◌, ◌++◌, refl, ap, ◌∙◌, sym, subst, Bool, true, false, cond}
+use Rattle.std.proofs.Common.{◌≡◌, ℕ, List, [], ◌∷◌, ◌++◌, refl, ap, ◌∙◌, sym, subst, arith, Bool, true, false, cond}
 use Rattle.std.specs.Prelude.{Option, Some, None, is_some, ◌==◌, ◌&&◌, ◌↔◌, if◌then◌else◌, unwrap_or, map}
 use Rattle.std.specs.Option.{option_map, option_and_then}
 use Rattle.std.proofs.Math.Dec.{T}
+use Rattle.std.proofs.lemmas.Bool.Decides.{nat_tests}
 use Rattle.std.specs.Ordering.{nat_cmp, eq_by_cmp}
 use Rattle.std.specs.Cmp.{nat_cmp_total}
 use Rattle.std.specs.FinMap.{FinMap, get, insert, remove, empty, entries, keys, entries_sorted, entries-from_sorted, get-entries, get-from_sorted, get-empty, same_map, nat_cmp-IsAntisymmetric}
@@ -12,7 +13,7 @@ use Rattle.trace_types.specs.declared.slots.Entry.{Entry}
 use Rattle.ownership_model.proofs.Counting.{get_inserted, get_removed, same_number}
 use Rattle.ownership_model.proofs.Scoping.{itself}
 use Rattle.object_heap.specs.declared.object.Counters.{Counters}
-use Rattle.object_heap.specs.TableView.{TableView, Kept, counters_at, are_zero, if_any, kept_of, picked, part, table_of, IsLean, AreAlike, AllStand}
+use Rattle.object_heap.specs.TableView.{TableView, Kept, counters_at, are_zero, if_any, kept_of, picked, part, table_of, with_entry, IsLean, AreAlike, AllStand}
 use Rattle.object_heap.specs.Gains.{IsSetAt}
 use Rattle.object_heap.proofs.ViewLemmas.{first, second, same_key, find_below}
 
@@ -202,6 +203,12 @@ module _ (m : FinMap nat_cmp Kept) (t : TableView) (view : table_of m ≡ t) (q 
   pub counters_found : counters_at (option_map (λ (k : Kept). k.1) x) ≡ counters_at (get t.counts q)
   counters_found = ap (λ (y : Option Kept). counters_at (option_map (λ (k : Kept). k.1) y)) (sym is) ∙ sym (counters_seen m q) ∙ ap (λ (s : TableView). counters_at (get s.counts q)) view
 
+pub kept_found : (m : FinMap nat_cmp Kept) (t : TableView) → table_of m ≡ t → (q : ℕ) (x : Kept) → option_and_then (λ (k : Kept). k.0) (get m q) ≡ x.0 → counters_at (option_map (λ (k : Kept). k.1) (get m q)) ≡ x.1 → x ≡ (get t.entries q, counters_at (get t.counts q))
+kept_found m t view q x e c =
+    let entry = sym e ∙ entry_found m t view q (get m q) refl in
+    let counters = sym c ∙ counters_found m t view q (get m q) refl in
+    λ i. (entry i, counters i)
+
 pub keys_found : (m : FinMap nat_cmp Kept) (t : TableView) → table_of m ≡ t → IsLean m → AllStand t → keys m ≡ keys t.entries
 keys_found m t view lean stand = keys_seen m lean (subst (λ (s : TableView). AllStand s) (sym view) stand) ∙ ap (λ (s : TableView). keys s.entries) view
 
@@ -229,34 +236,30 @@ module _ (old new : FinMap nat_cmp Kept) (t : TableView) (view : table_of old �
       part_stays (λ x. if_any x.1) old new o (kept_of k.0 k.1) is (kept_any k.0 k.1 ∙ ap if_any (same ∙ ap (λ (s : TableView). counters_at (get s.counts o)) (sym view)) ∙ any_seen old o)
       ∙ ap (λ (s : TableView). s.counts) view
 
-  pub entry_put : (e : Entry) (c : Counters) → k ≡ (Some e, c) → c ≡ counters_at (get t.counts o) → table_of new ≡ record { entries = insert t.entries o e; counts = t.counts }
-  entry_put e c by same =
-      let put : (table_of new).entries ≡ insert t.entries o e =
-      part_insert (λ x. x.0) old new o (kept_of k.0 k.1) is e (kept_entry k.0 k.1 ∙ ap (λ (x : Kept). x.0) by) ∙ ap (λ (s : TableView). insert s.entries o e) view in
+  pub entries_with : (e : Option Entry) → k.0 ≡ e → (table_of new).entries ≡ with_entry t.entries o e
+  entries_with None by = part_remove (λ x. x.0) old new o (kept_of k.0 k.1) is (kept_entry k.0 k.1 ∙ by) ∙ ap (λ (s : TableView). remove s.entries o) view
+  entries_with (Some e) by = part_insert (λ x. x.0) old new o (kept_of k.0 k.1) is e (kept_entry k.0 k.1 ∙ by) ∙ ap (λ (s : TableView). insert s.entries o e) view
+
+  -- what stands is replaced, and the counters stay
+  pub entry_replaced : (e : Option Entry) (c : Counters) → k ≡ (e, c) → c ≡ counters_at (get t.counts o) → table_of new ≡ record { entries = with_entry t.entries o e; counts = t.counts }
+  entry_replaced e c by same =
+      let put = entries_with e (ap (λ (x : Kept). x.0) by) in
       let stay = counts_stay (ap (λ (x : Kept). x.1) by ∙ same) in
       λ i. record { entries = put i; counts = stay i }
 
-  pub entry_cut : (c : Counters) → k ≡ (None, c) → c ≡ counters_at (get t.counts o) → table_of new ≡ record { entries = remove t.entries o; counts = t.counts }
-  entry_cut c by same =
-      let cut : (table_of new).entries ≡ remove t.entries o =
-      part_remove (λ x. x.0) old new o (kept_of k.0 k.1) is (kept_entry k.0 k.1 ∙ ap (λ (x : Kept). x.0) by) ∙ ap (λ (s : TableView). remove s.entries o) view in
-      let stay = counts_stay (ap (λ (x : Kept). x.1) by ∙ same) in
-      λ i. record { entries = cut i; counts = stay i }
+  pub entries_stay : k.0 ≡ get t.entries o → (table_of new).entries ≡ t.entries
+  entries_stay by =
+      part_stays (λ x. x.0) old new o (kept_of k.0 k.1) is (kept_entry k.0 k.1 ∙ by ∙ ap (λ (s : TableView). get s.entries o) (sym view))
+      ∙ ap (λ (s : TableView). s.entries) view
 
-  module _ (c : Counters) (by : k ≡ (get t.entries o, c)) where
-    pub entries_stay : (table_of new).entries ≡ t.entries
-    entries_stay =
-        part_stays (λ x. x.0) old new o (kept_of k.0 k.1) is (kept_entry k.0 k.1 ∙ ap (λ (x : Kept). x.0) by ∙ ap (λ (s : TableView). get s.entries o) (sym view))
-        ∙ ap (λ (s : TableView). s.entries) view
-
-    pub counters_set : IsSetAt t.counts (table_of new).counts o c
-    counters_set p =
-        counters_seen new p
-        ∙ ap (λ z. counters_at (option_map (λ (x : Kept). x.1) z)) (is p)
-        ∙ elim (o == p) as (λ b. counters_at (option_map (λ (x : Kept). x.1) (if b then kept_of k.0 k.1 else get old p)) ≡ (if b then c else counters_at (get t.counts p))) [
-          | true ↦ kept_counters k.0 k.1 ∙ ap (λ (x : Kept). x.1) by
-          | false ↦ sym (counters_seen old p) ∙ ap (λ (s : TableView). counters_at (get s.counts p)) view
-        ]
+  pub counters_set : (c : Counters) → k.1 ≡ c → IsSetAt t.counts (table_of new).counts o c
+  counters_set c by p =
+      counters_seen new p
+      ∙ ap (λ z. counters_at (option_map (λ (x : Kept). x.1) z)) (is p)
+      ∙ elim (o == p) as (λ b. counters_at (option_map (λ (x : Kept). x.1) (if b then kept_of k.0 k.1 else get old p)) ≡ (if b then c else counters_at (get t.counts p))) [
+        | true ↦ kept_counters k.0 k.1 ∙ by
+        | false ↦ sym (counters_seen old p) ∙ ap (λ (s : TableView). counters_at (get s.counts p)) view
+      ]
 
 -- ---- nothing is kept
 pub lean_empty : (m : FinMap nat_cmp Kept) → m ≡ empty → IsLean m

@@ -1,5 +1,6 @@
 //! What letting go sets off: what is pending is dropped, one item after another.
 ghost use Rattle.std.specs.Prelude.{◌≡◌, ◌∷◌, ◌++◌, [], OnOk, ◌<◌, ◌^◌, ◌&&◌, ◌==◌, length};
+ghost use Rattle.std.specs.Option.{option_copied};
 ghost use Rattle.std.specs.FinMap as map;
 ghost use Rattle.trace_types.specs.declared.slots.Item.TheVariants as item;
 ghost use Rattle.trace_types.specs.declared.slots.Slot.TheVariants as slot;
@@ -9,10 +10,11 @@ ghost use Rattle.ownership_model.specs.Bounds.{IsBounded};
 ghost use Rattle.object_heap.specs.Counted.{drafted, IsCounted};
 ghost use Rattle.object_heap.specs.TableView.{counters_at};
 ghost use Rattle.object_heap.specs.Drops.{DropsFirst};
+ghost use Rattle.object_heap.specs.Gains.{IsSetAt};
 
 use crate::counters::hold_item;
 use crate::draft::Draft;
-use crate::object::Counters;
+use crate::object::{Counters, Object};
 use std::alloc::{AllocError, Global};
 use std::collections::VecDeque;
 use trace_types::outcomes::Event;
@@ -107,19 +109,19 @@ impl Draft {
         requires counted { IsCounted self.old.objects.counts (drafted self.old) (item.Slot (slot.Strong object) ∷ pending.old.items) }
         ensures { OnOk result (DropsFirst self.old self.new (item.Slot (slot.Strong object)) pending.old.items pending.new.items events.old.items events.new.items) }
     {
-        let was = self.objects.counters(object);
+        let kept = self.objects.at(object)?;
+        let was = kept.counters();
         let strong = was.strong - 1;
         if strong == 0 {
-            self.destroy(alloc, object, pending, events)?;
             let last = Counters {
                 strong,
                 ends: was.ends + 1,
                 ..was
             };
-            return self.objects.set_counters(alloc, object, last);
+            return self.destroy(alloc, object, kept, last, pending, events);
         }
         let less = Counters { strong, ..was };
-        self.objects.set_counters(alloc, object, less)
+        self.objects.set_counters(alloc, object, kept, less)
     }
 
     fn drop_weak(
@@ -133,16 +135,16 @@ impl Draft {
         requires counted { IsCounted self.old.objects.counts (drafted self.old) (item.Slot (slot.Weak object) ∷ rest.now.items) }
         ensures { OnOk result (DropsFirst self.old self.new (item.Slot (slot.Weak object)) rest.now.items rest.now.items events.old.items events.new.items) }
     {
-        let was = self.objects.counters(object);
+        let kept = self.objects.at(object)?;
+        let was = kept.counters();
         let less = Counters {
             weak: was.weak - 1,
             ..was
         };
-        self.objects.set_counters(alloc, object, less)?;
-        if self.is_last(object, less) {
-            return self.free(alloc, object, events);
+        if is_last(kept.entry(), less) {
+            return self.free(alloc, object, &kept, less, events);
         }
-        Ok(())
+        self.objects.set_counters(alloc, object, kept, less)
     }
 
     fn drop_end(
@@ -156,61 +158,62 @@ impl Draft {
         requires counted { IsCounted self.old.objects.counts (drafted self.old) (item.End object ∷ rest.now.items) }
         ensures { OnOk result (DropsFirst self.old self.new (item.End object) rest.now.items rest.now.items events.old.items events.new.items) }
     {
-        let was = self.objects.counters(object);
+        let kept = self.objects.at(object)?;
+        let was = kept.counters();
         let less = Counters {
             ends: was.ends - 1,
             ..was
         };
-        self.objects.set_counters(alloc, object, less)?;
         if less.weak == 0 {
-            return self.free(alloc, object, events);
+            return self.free(alloc, object, &kept, less, events);
         }
-        Ok(())
+        self.objects.set_counters(alloc, object, kept, less)
     }
 
-    // The value of the object is gone, where it was there: its fields, and then its end, are dropped next.
+    // The value of the object is gone, where it was there: its fields, and then its end, are dropped next. It has these counters.
     fn destroy(
         &mut self,
         alloc: Global,
         object: u32,
+        kept: Object,
+        counters: Counters,
         pending: &mut VecDeque<Item>,
         events: &mut Vec<Event>,
     ) -> Result<(), AllocError>
+        requires { kept.0 ≡ map.get self.old.objects.entries object }
         ensures step { OnOk result (Becomes (drafted self.new) pending.new.items events.old.items events.new.items (left_by (drafted self.old) pending.old.items (fall object (map.get self.old.objects.entries object)))) }
-        ensures counts { OnOk result (self.new.objects.counts ≡ self.old.objects.counts) }
+        ensures set { OnOk result (IsSetAt self.old.objects.counts self.new.objects.counts object counters) }
     {
-        match self.objects.get(object) {
-            Some(Entry::Alive(fields)) => {
-                push_fields(fields.as_slice(), object, pending)?;
-                events.push(Event::Destroyed(object))?;
-                self.objects.insert(alloc, object, Entry::Husk)
-            }
-            Some(Entry::Husk) | None => Ok(()),
+        if let Some(Entry::Alive(fields)) = kept.entry() {
+            push_fields(fields.as_slice(), object, pending)?;
+            events.push(Event::Destroyed(object))?;
+            return self.objects.set_husk(alloc, object, &kept, counters);
         }
+        self.objects.set_counters(alloc, object, kept, counters)
     }
 
-    // The allocation of the object is gone: neither a weak slot nor its value holds it (`std::sync::Weak`).
+    // The allocation of the object is gone: neither a weak slot nor its value holds it (`std::sync::Weak`). It has these counters.
     fn free(
         &mut self,
         alloc: Global,
         object: u32,
+        was: &Object,
+        counters: Counters,
         events: &mut Vec<Event>,
     ) -> Result<(), AllocError>
         ensures step { OnOk result (Becomes (drafted self.new) [] events.old.items events.new.items (left_by (drafted self.old) [] (Goes object))) }
-        ensures counts { OnOk result (self.new.objects.counts ≡ self.old.objects.counts) }
+        ensures set { OnOk result (IsSetAt self.old.objects.counts self.new.objects.counts object counters) }
     {
         events.push(Event::Freed(object))?;
-        self.objects.remove(alloc, object)
+        self.objects.free(alloc, object, was, counters)
     }
+}
 
-    // Whether nothing names a husk any more.
-    fn is_last(&self, object: u32, counters: Counters) -> bool
-        ensures { result ≡ ((counters.weak == 0) && (is_husk (map.get self.now.objects.entries object) && (counters.ends == 0))) }
-    {
-        counters.weak == 0
-            && matches!(self.objects.get(object), Some(Entry::Husk))
-            && counters.ends == 0
-    }
+// Whether nothing names a husk any more.
+fn is_last(entry: Option<&Entry>, counters: Counters) -> bool
+    ensures { result ≡ ((counters.weak == 0) && (is_husk (option_copied entry.entry) && (counters.ends == 0))) }
+{
+    counters.weak == 0 && matches!(entry, Some(Entry::Husk)) && counters.ends == 0
 }
 
 // The fields in the order of their declaration (Rust Reference, Destructors), and then the end of the object, go before

@@ -20,22 +20,22 @@ pub fn hold(alloc: Global, objects: &mut Objects, slot: Slot) -> Result<(), Allo
 {
     match slot {
         Slot::Strong(object) => {
-            let kept = objects.kept(object)?;
+            let kept = objects.at(object)?;
             let was = kept.counters();
             let more = Counters {
                 strong: was.strong + 1,
                 ..was
             };
-            objects.recount(alloc, object, kept, more)
+            objects.set_counters(alloc, object, kept, more)
         }
         Slot::Weak(object) => {
-            let kept = objects.kept(object)?;
+            let kept = objects.at(object)?;
             let was = kept.counters();
             let more = Counters {
                 weak: was.weak + 1,
                 ..was
             };
-            objects.recount(alloc, object, kept, more)
+            objects.set_counters(alloc, object, kept, more)
         }
         Slot::Nothing | Slot::Dangling => Ok(()),
     }
@@ -49,22 +49,22 @@ pub fn let_go(alloc: Global, objects: &mut Objects, slot: Slot) -> Result<(), Al
 {
     match slot {
         Slot::Strong(object) => {
-            let kept = objects.kept(object)?;
+            let kept = objects.at(object)?;
             let was = kept.counters();
             let less = Counters {
                 strong: was.strong - 1,
                 ..was
             };
-            objects.recount(alloc, object, kept, less)
+            objects.set_counters(alloc, object, kept, less)
         }
         Slot::Weak(object) => {
-            let kept = objects.kept(object)?;
+            let kept = objects.at(object)?;
             let was = kept.counters();
             let less = Counters {
                 weak: was.weak - 1,
                 ..was
             };
-            objects.recount(alloc, object, kept, less)
+            objects.set_counters(alloc, object, kept, less)
         }
         Slot::Nothing | Slot::Dangling => Ok(()),
     }
@@ -79,13 +79,13 @@ pub fn hold_item(alloc: Global, objects: &mut Objects, item: Item) -> Result<(),
     match item {
         Item::Slot(slot) => hold(alloc, objects, slot),
         Item::End(object) => {
-            let kept = objects.kept(object)?;
+            let kept = objects.at(object)?;
             let was = kept.counters();
             let more = Counters {
                 ends: was.ends + 1,
                 ..was
             };
-            objects.recount(alloc, object, kept, more)
+            objects.set_counters(alloc, object, kept, more)
         }
     }
 }

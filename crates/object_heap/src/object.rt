@@ -61,18 +61,18 @@ impl Object {
         }
     }
 
-    /// The same with other counters. Takes no memory, and fails only where what stands has as many owners as can be counted.
-    pub fn with_counters(&self, counters: Counters) -> Result<Object, AllocError>
-        ensures { IfOk result (λ x. x ≡ (self.now.0, counters)) }
+    /// The same once more. Takes no memory, and fails only where what stands has as many owners as can be counted.
+    pub fn share(&self) -> Result<Object, AllocError>
+        ensures { IfOk result (λ x. x ≡ self.now) }
     {
         Ok(Object {
             entry: self.share_entry()?,
-            counters,
+            counters: self.counters,
         })
     }
 
-    /// This one with other counters.
-    pub fn recounted(self, counters: Counters) -> Object
+    /// The same with other counters.
+    pub fn with_counters(self, counters: Counters) -> Object
         ensures { result ≡ (self.0, counters) }
     {
         let Object { entry, counters: _ } = self;

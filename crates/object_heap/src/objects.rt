@@ -3,6 +3,7 @@ ghost use Rattle.std.specs.Prelude.{◌≡◌, ◌↔◌, true, IfOk, OnOk, OnEr
 ghost use Rattle.std.specs.Option.{option_copied, option_map};
 ghost use Rattle.std.specs.Arc.{arc_value};
 ghost use Rattle.std.specs.FinMap as map;
+ghost use Rattle.trace_types.specs.declared.slots.Entry.TheVariants.{Husk};
 ghost use Rattle.object_heap.specs.TableView.{counters_at, AreAlike, AllStand};
 ghost use Rattle.object_heap.specs.Gains.{IsSetAt};
 ghost use Rattle.object_heap.specs.Descent.{DescendTo, IsUnnamed};
@@ -27,7 +28,8 @@ pub struct Objects {
 }
 
 impl Model for Objects {
-    ghost use Rattle.object_heap.specs.TableView.{TableView, table_code};
+    ghost use Rattle.trace_types.specs.declared.slots.Entry.TheVariants.{Husk};
+ghost use Rattle.object_heap.specs.TableView.{TableView, table_code};
     ghost use Rattle.object_heap.specs.Descent.{AreRanked};
 
     ghost Value = { TableView };
@@ -93,18 +95,18 @@ impl Objects {
         self.table.share_entry(object)
     }
 
+    /// What is kept for an object, to be put back with other counters. It shares what stands, and takes no memory.
+    pub fn at(&self, object: u32) -> Result<Object, AllocError>
+        ensures { IfOk result (λ x. x ≡ (map.get self.now.entries object, counters_at (map.get self.now.counts object))) }
+    {
+        self.table.at(object)
+    }
+
     /// The counters of an object; zeros where none are kept.
     pub fn counters(&self, object: u32) -> Counters
         ensures { result ≡ counters_at (map.get self.now.counts object) }
     {
         self.table.counters(object)
-    }
-
-    /// What is kept for an object, which it shares.
-    pub fn kept(&self, object: u32) -> Result<Object, AllocError>
-        ensures { IfOk result (λ x. x ≡ (map.get self.now.entries object, counters_at (map.get self.now.counts object))) }
-    {
-        self.table.kept(object)
     }
 
     /// The numbers of those that stand, rising. All that are named do.
@@ -145,21 +147,38 @@ impl Objects {
         self.table.remove(alloc, object)
     }
 
-    /// Gives an object these counters. What stands for it stays.
-    pub fn set_counters(
+    /// The value of an object is gone, and it has these counters.
+    pub fn set_husk(
         &mut self,
         alloc: Global,
         object: u32,
+        was: &Object,
         counters: Counters,
     ) -> Result<(), AllocError>
+        ensures entries { OnOk result (self.new.entries ≡ map.insert self.old.entries object Husk) }
         ensures set { OnOk result (IsSetAt self.old.counts self.new.counts object counters) }
-        ensures entries { self.new.entries ≡ self.old.entries }
     {
-        self.table.set_counters(alloc, object, counters)
+        let husk = Object::standing(alloc, Entry::Husk, counters)?;
+        self.table.replace(alloc, object, was, husk)
     }
 
-    /// As `set_counters`, of an object for which this is kept.
-    pub fn recount(
+    /// Nothing stands for an object any more, and it has these counters. Its rank is left: no other object gets its number.
+    pub fn free(
+        &mut self,
+        alloc: Global,
+        object: u32,
+        was: &Object,
+        counters: Counters,
+    ) -> Result<(), AllocError>
+        ensures entries { OnOk result (self.new.entries ≡ map.remove self.old.entries object) }
+        ensures set { OnOk result (IsSetAt self.old.counts self.new.counts object counters) }
+    {
+        self.table
+            .replace(alloc, object, was, Object::named(counters))
+    }
+
+    /// Puts an object back with these counters. What stands for it stays.
+    pub fn set_counters(
         &mut self,
         alloc: Global,
         object: u32,
@@ -170,7 +189,7 @@ impl Objects {
         ensures set { OnOk result (IsSetAt self.old.counts self.new.counts object counters) }
         ensures entries { self.new.entries ≡ self.old.entries }
     {
-        self.table.recount(alloc, object, kept, counters)
+        self.table.set_counters(alloc, object, kept, counters)
     }
 
     /// A rank over those of what the slots name.

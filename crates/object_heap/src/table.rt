@@ -3,7 +3,7 @@ ghost use Rattle.std.specs.Prelude.{◌≡◌, ◌↔◌, ℕ, Some, None, IfOk,
 ghost use Rattle.std.specs.Option.{option_copied, option_map};
 ghost use Rattle.std.specs.Arc.{arc_value};
 ghost use Rattle.std.specs.FinMap as map;
-ghost use Rattle.object_heap.specs.TableView.{counters_at, kept_of, AreAlike, AllStand};
+ghost use Rattle.object_heap.specs.TableView.{counters_at, kept_of, with_entry, AreAlike, AllStand};
 ghost use Rattle.object_heap.specs.Gains.{IsSetAt};
 
 use crate::object::{Counters, Object};
@@ -13,6 +13,13 @@ use std::alloc::{AllocError, Global};
 use std::marker::Model;
 use std::sync::Arc;
 use trace_types::slots::Entry;
+
+// The counters of what is named nowhere.
+const NOTHING: Counters = Counters {
+    strong: 0,
+    weak: 0,
+    ends: 0,
+};
 
 /// The objects by their numbers. Contracts see what stands for each, and the counters of each that is named, as two finite maps.
 ///
@@ -81,31 +88,23 @@ impl Table {
         }
     }
 
+    /// What is kept for an object, to be put back with other counters. It shares what stands, and takes no memory.
+    pub fn at(&self, object: u32) -> Result<Object, AllocError>
+        ensures { IfOk result (λ x. x ≡ (map.get self.now.entries object, counters_at (map.get self.now.counts object))) }
+    {
+        match self.kept.get(object) {
+            Some(kept) => kept.share(),
+            None => Ok(Object::named(NOTHING)),
+        }
+    }
+
     /// The counters of an object; zeros where none are kept.
     pub fn counters(&self, object: u32) -> Counters
         ensures { result ≡ counters_at (map.get self.now.counts object) }
     {
         match self.kept.get(object) {
             Some(kept) => kept.counters(),
-            None => Counters {
-                strong: 0,
-                weak: 0,
-                ends: 0,
-            },
-        }
-    }
-
-    /// What is kept for an object, which it shares.
-    pub fn kept(&self, object: u32) -> Result<Object, AllocError>
-        ensures { IfOk result (λ x. x ≡ (map.get self.now.entries object, counters_at (map.get self.now.counts object))) }
-    {
-        match self.kept.get(object) {
-            Some(kept) => kept.with_counters(kept.counters()),
-            None => Ok(Object::named(Counters {
-                strong: 0,
-                weak: 0,
-                ends: 0,
-            })),
+            None => NOTHING,
         }
     }
 
@@ -134,10 +133,9 @@ impl Table {
         ensures ok { OnOk result (self.new ≡ record self.old { entries = map.insert self.old.entries object entry }) }
         ensures err { OnErr result (self.new ≡ self.old) }
     {
-        let sum = self
-            .rest(object)
-            .wrapping_add(scattered(object, entry.weight()));
-        let kept = Object::standing(alloc, entry, self.counters(object))?;
+        let (rest, counters) = self.rest(object);
+        let sum = rest.wrapping_add(scattered(object, entry.weight()));
+        let kept = Object::standing(alloc, entry, counters)?;
         store(alloc, &mut self.kept, object, kept)?;
         self.sum = sum;
         Ok(())
@@ -148,29 +146,33 @@ impl Table {
         ensures ok { OnOk result (self.new ≡ record self.old { entries = map.remove self.old.entries object }) }
         ensures err { OnErr result (self.new ≡ self.old) }
     {
-        let sum = self.rest(object);
-        let kept = Object::named(self.counters(object));
+        let (rest, counters) = self.rest(object);
+        store(alloc, &mut self.kept, object, Object::named(counters))?;
+        self.sum = rest;
+        Ok(())
+    }
+
+    /// This stands for an object from now on, or nothing, and it has these counters. What was kept for it tells what goes from the sum.
+    pub fn replace(
+        &mut self,
+        alloc: Global,
+        object: u32,
+        was: &Object,
+        kept: Object,
+    ) -> Result<(), AllocError>
+        ensures entries { OnOk result (self.new.entries ≡ with_entry self.old.entries object kept.0) }
+        ensures set { OnOk result (IsSetAt self.old.counts self.new.counts object kept.1) }
+        ensures err { OnErr result (self.new ≡ self.old) }
+    {
+        let rest = self.sum.wrapping_sub(share_of(object, was.entry()));
+        let sum = rest.wrapping_add(share_of(object, kept.entry()));
         store(alloc, &mut self.kept, object, kept)?;
         self.sum = sum;
         Ok(())
     }
 
-    /// Gives an object these counters. What stands for it stays.
+    /// Puts an object back with these counters. What stands for it stays.
     pub fn set_counters(
-        &mut self,
-        alloc: Global,
-        object: u32,
-        counters: Counters,
-    ) -> Result<(), AllocError>
-        ensures set { OnOk result (IsSetAt self.old.counts self.new.counts object counters) }
-        ensures entries { self.new.entries ≡ self.old.entries }
-    {
-        let kept = self.recounted(object, counters)?;
-        store(alloc, &mut self.kept, object, kept)
-    }
-
-    /// As `set_counters`, of an object for which this is kept.
-    pub fn recount(
         &mut self,
         alloc: Global,
         object: u32,
@@ -181,26 +183,28 @@ impl Table {
         ensures set { OnOk result (IsSetAt self.old.counts self.new.counts object counters) }
         ensures entries { self.new.entries ≡ self.old.entries }
     {
-        let kept = kept.recounted(counters);
-        store(alloc, &mut self.kept, object, kept)
+        store(alloc, &mut self.kept, object, kept.with_counters(counters))
     }
 
-    // What is kept for an object, with other counters.
-    fn recounted(&self, object: u32, counters: Counters) -> Result<Object, AllocError>
-        ensures { IfOk result (λ x. x ≡ (map.get self.now.entries object, counters)) }
+    // The sum without what stands for an object, and its counters.
+    fn rest(&self, object: u32) -> (u64, Counters)
+        ensures { result.1 ≡ counters_at (map.get self.now.counts object) }
     {
         match self.kept.get(object) {
-            Some(kept) => kept.with_counters(counters),
-            None => Ok(Object::named(counters)),
+            Some(kept) => (
+                self.sum.wrapping_sub(share_of(object, kept.entry())),
+                kept.counters(),
+            ),
+            None => (self.sum, NOTHING),
         }
     }
+}
 
-    // The sum without what stands for an object.
-    fn rest(&self, object: u32) -> u64 {
-        match self.get(object) {
-            Some(entry) => self.sum.wrapping_sub(scattered(object, entry.weight())),
-            None => self.sum,
-        }
+// What an object adds to the sum.
+fn share_of(object: u32, entry: Option<&Entry>) -> u64 {
+    match entry {
+        Some(entry) => scattered(object, entry.weight()),
+        None => 0,
     }
 }
 
