@@ -1,7 +1,7 @@
 -- Stretches of a run as pieces of another.
 use Rattle.std.proofs.Common.{◌≡◌, ℕ, ◌+◌, ◌-◌, ◌<◌, ◌≤◌, suc, List, [], ◌∷◌, ◌++◌, length, take, drop, get_or, false, refl, ap, sym, subst, ◌∙◌, arith, length-append, length-drop}
 use Rattle.std.specs.Prelude.{Some, None, Option, is_some, IsTrue, slice_range}
-use Rattle.std.proofs.lemmas.List.{append-nil, take_more, length-take, take-append-drop, drop-take, drop-drop}
+use Rattle.std.proofs.lemmas.List.{append-nil, take_more, length-take, take-append-drop, drop-take, drop-drop, get_or-drop}
 use Rattle.std.proofs.Math.Seq.{take-add, take-length}
 use Rattle.std.specs.Prelude.{IfSome}
 use Rattle.ownership_model.specs.State.{State, nothing_held}
@@ -234,3 +234,12 @@ marks_from-piece ops rest at len segments more heap end h piece =
     let long : length (trace_of segments) ≡ at = ap length h.trace ∙ omega (arith, length-take at ops) in
     let place : 0 + length (trace_of segments) ≡ at = omega arith in
     marks_from-append 0 segments more ∙ ap (λ ps. marks_from 0 segments ++ ps) (piece.marks (0 + length (trace_of segments)) ∙ ap (λ p. p ∷ []) place)
+
+-- so it is behind the first ones
+pub marks-bare-later : (segments : List SegmentView) (from i : ℕ) (s : SegmentView) → from ≤ i → i < length segments → s ≡ get_or segments i s → is_some s.mark ≡ false
+    → ((at : ℕ) → marks_from at (take (i - from) (drop from segments)) ≡ []) → (at : ℕ) → marks_from at (take (i + 1 - from) (drop from segments)) ≡ []
+marks-bare-later segments from i s le lt is none h at =
+    let back : from + (i - from) ≡ i = omega arith in
+    let next : i - from + 1 ≡ i + 1 - from = omega arith in
+    let here : s ≡ get_or (drop from segments) (i - from) s = is ∙ ap (λ n. get_or segments n s) (sym back) ∙ sym (get_or-drop from segments (i - from) s) in
+    ap (λ n. marks_from at (take n (drop from segments))) (sym next) ∙ marks-bare-next (drop from segments) (i - from) s (omega (arith, length-drop from segments)) here none h at

@@ -16,6 +16,12 @@ loop-front-init c = record {
   steps = omega arith;
 }
 
+pub joined-requires : goal.joined-requires
+joined-requires c =
+    let piece = c.in_ok-piece.ensures.piece in
+    let long : c.in_ok-piece.piece.len ≤ c.args.leg.to - c.loop-front.front.len = omega (arith, piece.fits, length-take (c.args.leg.to - c.loop-front.front.len) (drop c.loop-front.front.len c.args.revision.now.ops.now.ops)) in
+    omega (arith, long, c.loop-front.invariant.order, c.requires.may.within, c.args.revision.now.holds.trace.few)
+
 -- as far as a cut where an old stretch may begin
 pub loop-front-preserved-then-front-next : goal.loop-front-preserved-then-front-next
 loop-front-preserved-then-front-next c =

@@ -9,7 +9,7 @@ use Rattle.run_engine.proofs.replay.restart.greatest_mark.Goals as goal
 
 pub returns-then-len-head : goal.returns-then-len-head
 returns-then-len-head c =
-    rw c.in_ok-share.ensures
+    rw (c.len.ensures, c.in_ok-share.ensures)
     (IsRestart-end c.args.revision.now.segments.now c.args.revision.now.end.now c.args.head c.base_len-len.result c.args.revision.now.holds.kept.run (sym (c.base_len-len.ensures ∙ ap length c.args.revision.now.holds.base)) c.if-len-head.true)
 
 pub loop-i-init : goal.loop-i-init
@@ -17,6 +17,11 @@ loop-i-init c = record {
   first = AreFirst-last c.args.revision.now.segments.now c.args.head c.last_from-last.result.0 c.last_from-last.result.1 c.last_from-last.ensures (omega (arith, c.base_len-len.ensures, ap length c.args.revision.now.holds.base, c.if-len-head.false));
   within = omega arith;
 }
+
+pub overflow_add-i : goal.overflow_add-i
+overflow_add-i c =
+    let starts = c.args.revision.now.starts in
+    omega (arith, c.last_from-last.ensures.within, starts-as-many c.args.revision.now.segments.now c.args.revision.now.starts.items c.args.revision.now.holds.starts_are, starts.ok.0, starts.ok.1, starts.small)
 
 pub at-requires : goal.at-requires
 at-requires c =

@@ -15,16 +15,16 @@ returns-else-i-eq0-clause-trace c = ap trace_of c.clear_mark.ensures.kept ∙ tr
 pub returns-else-i-eq0-clause-answer : goal.returns-else-i-eq0-clause-answer
 returns-else-i-eq0-clause-answer c =
     let pos : 0 < c.in-Some.i = omega (arith, c.if-i-eq0.false) in
-    let lt = rw c.deref.ensures.value at c.in-Some.ensures.within in
-    let place = rw c.deref.ensures.value at c.in-Some.ensures.place in
+    let lt = c.in-Some.ensures.within in
+    let place = c.in-Some.ensures.place in
     let both = IsInner-answer c.self.inside.segments c.in-Some.i c.args.position c.self.invariant.run.full lt pos place in
     subst (λ (s : RunView). (IsTrue c.clear_mark.result → IsInner s.marks (length s.trace) c.args.position) × (IsInner s.marks (length s.trace) c.args.position → IsTrue c.clear_mark.result)) c.self.view_is
     (rw c.clear_mark.ensures.answer both)
 
 pub returns-else-i-eq0-clause-marks : goal.returns-else-i-eq0-clause-marks
 returns-else-i-eq0-clause-marks c =
-    let lt = rw c.deref.ensures.value at c.in-Some.ensures.within in
-    let place = rw c.deref.ensures.value at c.in-Some.ensures.place in
+    let lt = c.in-Some.ensures.within in
+    let place = c.in-Some.ensures.place in
     rw c.clear_mark.ensures.kept
     (given-up c.self.inside.segments c.in-Some.i c.args.position c.clear_mark.result c.self.invariant.run.full lt place c.clear_mark.ensures.answer
     ∙ ap (λ (s : RunView). if c.clear_mark.result then without c.args.position s.marks else s.marks) c.self.view_is)

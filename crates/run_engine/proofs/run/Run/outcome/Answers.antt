@@ -10,6 +10,5 @@ use Rattle.run_engine.proofs.run.Run.outcome.Goals as goal
 pub returns : goal.returns
 returns c =
     c.outcome_at.ensures
-    ∙ ap (λ ss. slice_get (outcomes_in ss) c.args.place) c.deref.ensures.value
     ∙ ap (λ os. slice_get os c.args.place) (outcomes_in-replay nothing_held c.self.inside.segments c.self.invariant.run.replay)
     ∙ ap (λ (s : RunView). slice_get (outcomes_from nothing_held s.trace) c.args.place) c.self.view_is

@@ -9,6 +9,5 @@ use Rattle.run_engine.proofs.run.Run.outcomes.Goals as goal
 pub returns : goal.returns
 returns c =
     c.in_ok-outcomes.ensures
-    ∙ ap outcomes_in c.deref.ensures.value
     ∙ outcomes_in-replay nothing_held c.self.inside.segments c.self.invariant.run.replay
     ∙ ap (λ (s : RunView). outcomes_from nothing_held s.trace) c.self.view_is

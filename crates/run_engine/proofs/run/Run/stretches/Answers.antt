@@ -9,6 +9,5 @@ use Rattle.run_engine.proofs.run.Run.stretches.Goals as goal
 pub returns-clause-outcomes : goal.returns-clause-outcomes
 returns-clause-outcomes c =
     c.in_ok-stretches.ensures.outcomes
-    ∙ ap outcomes_in c.deref.ensures.value
     ∙ outcomes_in-replay nothing_held c.self.inside.segments c.self.invariant.run.replay
     ∙ ap (λ (s : RunView). outcomes_from nothing_held s.trace) c.self.view_is

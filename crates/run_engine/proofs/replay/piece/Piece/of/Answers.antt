@@ -4,5 +4,5 @@ use Rattle.run_engine.proofs.replay.piece.Piece.of.Goals as goal
 
 pub returns-clause-piece : goal.returns-clause-piece
 returns-clause-piece c =
-    rw (c.in_ok-push.ensures.items, c.new-segments.ensures.items, c.in_ok-of.ensures, c.in_ok-share.ensures, c.ops.ensures.value)
+    rw (c.in_ok-segments.ensures, c.empty.ensures, c.in_ok-of.ensures, c.in_ok-share.ensures, c.ops.ensures.value)
     (IsPiece-one c.args.chunk.now.start _ c.args.chunk.now.ops _ c.requires refl c.end.ensures)
