@@ -1,6 +1,5 @@
-use Rattle.std.proofs.Common.{◌≡◌, ◌-◌, ◌++◌, [], ◌∙◌, ap, sym, arith, take, drop}
+use Rattle.std.proofs.Common.{◌≡◌, ◌-◌, ◌++◌, ◌∙◌, ap, sym, arith, take, drop}
 use Rattle.std.proofs.lemmas.List.{append-nil}
-use Rattle.std.specs.Prelude.{slice_range}
 use Rattle.run_engine.proofs.segments.blocks.Segments.with_part.Goals as goal
 
 pub returns-then-from-to : goal.returns-then-from-to
