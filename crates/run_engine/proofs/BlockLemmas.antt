@@ -8,7 +8,6 @@ use Rattle.run_engine.proofs.ListingLemmas.{take-shorter}
 use Rattle.ownership_model.specs.State.{State, IsSound}
 use Rattle.ownership_model.specs.Patch.{Remains, patched, AreThere, AreBoth}
 use Rattle.ownership_model.proofs.LawsHold.{patches}
-use Rattle.agreement.specs.Laid.{with_laid}
 use Rattle.run_engine.specs.SegmentView.{SegmentView}
 use Rattle.run_engine.specs.Segments.{without_mark}
 use Rattle.run_engine.specs.Cleared.{cleared_if}

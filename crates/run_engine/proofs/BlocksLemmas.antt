@@ -1,14 +1,13 @@
 -- Segments in blocks.
 use Rattle.std.proofs.Common.{◌≡◌, ℕ, zero, suc, ◌+◌, ◌-◌, ◌<◌, ◌≤◌, List, [], ◌∷◌, ◌++◌, map, length, take, drop, get_or, set, min, refl, ap, sym, subst, ◌∙◌, arith, length-append, append_assoc}
 use Rattle.std.specs.Prelude.{slice_range}
-use Rattle.std.proofs.lemmas.List.{get_or_append_left, get_or-append-add, append-nil, map-append, take-append-le, drop-append-le, take_all, take_more, length-drop, length-take-le}
-use Rattle.std.proofs.Math.Seq.{drop-append-add, take-append-add}
+use Rattle.std.proofs.lemmas.List.{get_or_append_left, get_or-append-add, append-nil, map-append, length-drop}
 use Rattle.ownership_model.specs.Patch.{Remains}
 use Rattle.run_engine.specs.SegmentView.{SegmentView}
 use Rattle.run_engine.specs.Segments.{without_mark}
 use Rattle.run_engine.specs.Parts.{joined, starts_from}
-use Rattle.run_engine.specs.Exchanged.{exchanged, IsExchangeable, AreExchangeable}
-use Rattle.run_engine.proofs.PartLemmas.{joined-next, joined-around, joined-few, joined-one}
+use Rattle.run_engine.specs.Exchanged.{exchanged, AreExchangeable}
+use Rattle.run_engine.proofs.PartLemmas.{joined-next, joined-around}
 
 -- the segment at an index
 module _ (blocks : List (List SegmentView)) (i rest index : ℕ) (b : List SegmentView) (lt : i < length blocks) (is : b ≡ get_or blocks i b) (place : length (joined (take i blocks)) + rest ≡ index) (inside : index < length (joined (take (i + 1) blocks))) where

@@ -1,5 +1,5 @@
 -- Segments of a run in blocks, over which something is laid (for private functions alone).
-use Rattle.std.specs.Prelude.{◌≡◌, ℕ, take, drop, Bool, List, [], ◌∷◌, map, Option, Some, None, IfSome}
+use Rattle.std.specs.Prelude.{◌≡◌, ℕ, take, drop, Bool, List, [], ◌∷◌, Option, Some, None, IfSome}
 use Rattle.std.specs.List.{AllByRecursion}
 use Rattle.ownership_model.specs.State.{State, IsSound}
 use Rattle.ownership_model.specs.Patch.{Remains, patched, AreThere}

@@ -9,8 +9,8 @@ ghost use Rattle.run_engine.specs.Steps.{IsOldStretch};
 
 use crate::replay::piece::Piece;
 use crate::replay::revision::Revision;
-use crate::segments::contents::len_in;
 use crate::segments::blocks::Segments;
+use crate::segments::contents::len_in;
 use object_heap::Heap;
 use std::alloc::{AllocError, Global};
 use std::collections::BTreeSet;

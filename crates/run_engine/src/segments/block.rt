@@ -47,7 +47,7 @@ impl Model for Block {
         (b.from + b.len ≤ length (arc_value b.segments).items)
         × (length (arc_value b.segments).items ≤ 64)
         × AreSoundBelow (option_map arc_value b.laid)
-            (standing b.gone b.from b.len (arc_value b.segments).items) };
+        (standing b.gone b.from b.len (arc_value b.segments).items) };
 }
 
 impl Block {

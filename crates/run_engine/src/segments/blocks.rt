@@ -141,6 +141,18 @@ impl Segments {
         self.with_block(block)
     }
 
+    // The segments, and those of a part of a block behind them: none, where the part is empty.
+    fn with_part(self, block: &Block, from: usize, to: usize) -> Result<Self, AllocError>
+        requires order { from ≤ to }
+        requires within { to ≤ length block.now }
+        ensures { IfOk result (λ s. s ≡ self ++ slice_range block.now from to) }
+    {
+        if from == to {
+            return Ok(self);
+        }
+        self.with_block(block.part(from, to)?)
+    }
+
     /// The segments, and others behind them.
     pub fn append(self, alloc: Global, more: Segments) -> Result<Self, AllocError>
         ensures { IfOk result (λ s. s ≡ self ++ more) }
@@ -162,11 +174,9 @@ impl Segments {
         let mut at = 0usize;
         for block in &self.blocks {
             let len = block.len();
-            let part = block.part(
-                from.saturating_sub(at).min(len),
-                to.saturating_sub(at).min(len),
-            )?;
-            all = all.with_block(part)?;
+            let low = from.saturating_sub(at).min(len);
+            let high = to.saturating_sub(at).min(len);
+            all = all.with_part(block, low, high)?;
             at += len;
         }
         Ok(all)

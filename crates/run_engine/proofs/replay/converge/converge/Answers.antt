@@ -10,7 +10,7 @@ use Rattle.run_engine.specs.Segments.{trace_of, marks_from, IsRunFrom}
 use Rattle.run_engine.specs.HeadAndTail.{ShareEnd}
 use Rattle.std.proofs.Math.Seq.{take-length}
 use Rattle.run_engine.proofs.SegmentLemmas.{length-trace_of-next, trace_of-append}
-use Rattle.run_engine.proofs.PieceLemmas.{mark-is, take-rest}
+use Rattle.run_engine.proofs.PieceLemmas.{mark-is}
 use Rattle.run_engine.proofs.PlaceLemmas.{mark-there, place-within, trace_of-front}
 use Rattle.run_engine.proofs.ConvergeLemmas.{IsBeside-first, IsBeside-next, least-agreeing, bounded, ShareEnd-length, IsRunFrom-back, rest-shared, distinct-back, old-unused, new-unused, AgreesAt-here, AgreesAt-there, IsSpliced, IsSpliced-rest, IsSpliced-end}
 use Rattle.run_engine.proofs.replay.converge.converge.Goals.{then-at-seam+in-Some+in_ok-front+in_ok-found+in_default-found, then-at-seam+in_default, else-at-seam}

@@ -1,4 +1,4 @@
-use Rattle.std.proofs.Common.{◌≡◌, ◌-◌, [], sym, ap, arith, take, drop, ◌∙◌}
+use Rattle.std.proofs.Common.{◌≡◌, ◌-◌, sym, ap, arith, take, drop, ◌∙◌}
 use Rattle.run_engine.specs.Segments.{marks_from}
 use Rattle.run_engine.proofs.PieceLemmas.{marks-bare-later}
 use Rattle.run_engine.proofs.replay.stretch.next_marked.Goals as goal

@@ -1,7 +1,6 @@
 use Rattle.std.proofs.Common.{ap, ◌∙◌}
 use Rattle.ownership_model.specs.State.{nothing_held}
 use Rattle.ownership_model.specs.Step.{outcomes_from}
-use Rattle.run_engine.specs.Segments.{outcomes_in}
 use Rattle.run_engine.specs.RunView.{RunView}
 use Rattle.run_engine.proofs.SegmentLemmas.{outcomes_in-replay}
 use Rattle.run_engine.proofs.run.Run.stretches.Goals as goal

@@ -1,5 +1,5 @@
 use Rattle.std.proofs.Common.{◌∙◌, ap, set, length}
-use Rattle.run_engine.specs.Parts.{joined, starts_from}
+use Rattle.run_engine.specs.Parts.{joined}
 use Rattle.run_engine.proofs.BlocksLemmas.{inside-block, joined-without, starts-set, length-without}
 use Rattle.run_engine.proofs.segments.blocks.clear_at.Goals as goal
 

@@ -1,9 +1,6 @@
-use Rattle.std.proofs.Common.{◌≡◌, ◌<◌, ◌∙◌, None, ap, sym, arith, length}
+use Rattle.std.proofs.Common.{◌<◌, ◌∙◌, ap, arith, length}
 use Rattle.std.specs.Ordering.{nat_cmp}
 use Rattle.std.specs.BTreeSet.{contains}
-use Rattle.std.proofs.Math.Seq.{take-length, drop-length}
-use Rattle.std.proofs.lemmas.List.{append-nil}
-use Rattle.run_engine.specs.Cleared.{cleared}
 use Rattle.run_engine.proofs.ClearedLemmas.{long-as-before, cleared-next}
 use Rattle.run_engine.proofs.segments.names.clear_named.Goals as goal
 

@@ -1,4 +1,4 @@
-use Rattle.std.proofs.Common.{◌≡◌, ◌+◌, ◌∙◌, sym, subst, arith, ap, map}
+use Rattle.std.proofs.Common.{◌≡◌, ◌∙◌, sym, subst, arith, ap, map}
 use Rattle.std.specs.Arc.{arc_value}
 use Rattle.std.specs.Option.{option_map}
 use Rattle.run_engine.specs.Segments.{without_mark}

@@ -1,4 +1,4 @@
-use Rattle.std.proofs.Common.{◌≡◌, ◌+◌, ◌-◌, ◌∙◌, sym, subst, ap, map, take, drop, arith, List}
+use Rattle.std.proofs.Common.{◌-◌, ◌∙◌, sym, subst, ap, map, take, drop, arith, List}
 use Rattle.std.specs.Arc.{arc_value}
 use Rattle.std.specs.Option.{option_map}
 use Rattle.run_engine.specs.SegmentView.{SegmentView}

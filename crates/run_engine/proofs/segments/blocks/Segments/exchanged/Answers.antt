@@ -1,4 +1,4 @@
-use Rattle.std.proofs.Common.{◌<◌, ◌≡◌, ◌∙◌, ap, sym, subst, arith, length, get_or}
+use Rattle.std.proofs.Common.{◌∙◌, ap, sym, subst}
 use Rattle.run_engine.specs.Parts.{joined}
 use Rattle.run_engine.specs.Exchanged.{AreExchangeable}
 use Rattle.run_engine.proofs.BlocksLemmas.{exchangeable-block}

@@ -1,4 +1,4 @@
-use Rattle.std.proofs.Common.{◌≡◌, ◌++◌}
+use Rattle.std.proofs.Common.{◌≡◌}
 use Rattle.run_engine.specs.Parts.{joined}
 use Rattle.run_engine.proofs.segments.blocks.Segments.renewed.Given as goal
 

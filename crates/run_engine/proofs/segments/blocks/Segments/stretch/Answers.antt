@@ -1,4 +1,5 @@
-use Rattle.std.proofs.Common.{◌≡◌, ◌+◌, ◌++◌, ◌∙◌, ap, sym, arith, length, length-append, take}
+use Rattle.std.proofs.Common.{◌≡◌, ◌+◌, ◌++◌, ◌∙◌, ap, refl, arith, length, length-append, take}
+use Rattle.std.specs.Prelude.{slice_range}
 use Rattle.run_engine.specs.Parts.{joined}
 use Rattle.run_engine.proofs.PartLemmas.{joined-next, joined-few}
 use Rattle.run_engine.proofs.BlocksLemmas.{stretch-next}
@@ -19,8 +20,8 @@ loop-block-preserved c =
     let b = c.block-item.result in
     let next : length (joined (take (c.loop-block.block-index + 1) c.deref-block-items.result.now)) ≡ length (joined (take c.loop-block.block-index c.deref-block-items.result.now)) + length c.block-item.result = ap length (joined-next blocks i b c.loop-block-test.true c.block-item.is) ∙ length-append (joined (take i blocks)) b in
     record {
-      all = c.in_ok-all.ensures ∙ ap (λ all. all ++ c.in_ok-part.part) c.loop-block.invariant.all
-          ∙ stretch-next c.deref-block-items.result.now c.loop-block.block-index c.args.from c.args.to c.loop-block.at c.min.result c.min-in-loop-block.result c.block-item.result c.in_ok-part.part c.requires.order c.loop-block-test.true c.block-item.is c.loop-block.invariant.at
-          (omega (arith, c.min.ensures, c.saturating_sub.ensures, c.len-len.ensures)) (omega (arith, c.min-in-loop-block.ensures, c.saturating_sub-in-loop-block.ensures, c.len-len.ensures)) c.in_ok-part.ensures;
+      all = c.in_ok-all.ensures ∙ ap (λ all. all ++ slice_range c.block-item.result c.min-low.result c.min-high.result) c.loop-block.invariant.all
+          ∙ stretch-next c.deref-block-items.result.now c.loop-block.block-index c.args.from c.args.to c.loop-block.at c.min-low.result c.min-high.result c.block-item.result (slice_range c.block-item.result c.min-low.result c.min-high.result) c.requires.order c.loop-block-test.true c.block-item.is c.loop-block.invariant.at
+          (omega (arith, c.min-low.ensures, c.saturating_sub.ensures, c.len-len.ensures)) (omega (arith, c.min-high.ensures, c.saturating_sub-in-loop-block.ensures, c.len-len.ensures)) refl;
       at = omega (arith, c.loop-block.invariant.at, c.len-len.ensures);
     }
