@@ -29,7 +29,7 @@ pub struct Objects {
 
 impl Model for Objects {
     ghost use Rattle.trace_types.specs.declared.slots.Entry.TheVariants.{Husk};
-ghost use Rattle.object_heap.specs.TableView.{TableView, table_code};
+    ghost use Rattle.object_heap.specs.TableView.{TableView, table_code};
     ghost use Rattle.object_heap.specs.Descent.{AreRanked};
 
     ghost Value = { TableView };
