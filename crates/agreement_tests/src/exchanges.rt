@@ -1,11 +1,14 @@
-//! Remains that differ and remains that don't, and checkpoints with remains that are still to be exchanged.
+//! Remains that differ and remains that don't, and checkpoints in which an exchange is still to be made.
 ghost use Rattle.std.specs.Prelude.{◌≡◌, IfOk, IfSome};
+ghost use Rattle.std.specs.Arc.{arc_value};
+ghost use Rattle.ownership_model.specs.Patch.{patched};
 
 use crate::agreeing::{BREAK, CYCLE, LET_GO, heap_of};
 use agreement::agree::agree;
-use agreement::{Checkpoint, Remains};
+use agreement::{Checkpoint, Exchange, Remains};
 use object_heap::Heap;
 use std::alloc::{AllocError, Global};
+use std::sync::Arc;
 use std::test::Fail;
 
 fn remains_of(alloc: Global, new: &Heap, old: &Heap) -> Result<Remains, Fail> {
@@ -15,37 +18,56 @@ fn remains_of(alloc: Global, new: &Heap, old: &Heap) -> Result<Remains, Fail> {
     }
 }
 
-// The old heap kept as the new one, where both agree.
-fn kept_as_new(alloc: Global, new: &Heap, old: &Heap) -> Result<Option<Checkpoint>, AllocError>
-    ensures { IfOk result (λ r. IfSome r (λ c. c ≡ new.now)) }
+// What is to be exchanged in the old heap to make it the new one, where both agree.
+fn exchange_between(
+    alloc: Global,
+    new: &Heap,
+    old: &Heap,
+) -> Result<Option<Arc<Exchange>>, AllocError>
+    ensures { IfOk result (λ r. IfSome r (λ x. patched old.now (arc_value x) ≡ new.now)) }
 {
     match agree(alloc, new, old)? {
         None => Ok(None),
         Some(remains) => {
-            let kept = Checkpoint::of(alloc, old.share()?)?;
-            let later = kept.patched(alloc, &remains)?;
-            Ok(Some(later))
+            let exchange = Arc::try_clone(remains.differing())?;
+            Ok(Some(exchange))
         }
     }
 }
 
-// A checkpoint of the middle heap kept as the last one, where both agree.
-fn kept_as_last(
+// An exchange that makes the middle heap out of the first one, and what makes the last one out of that, as one.
+fn joined(
     alloc: Global,
-    last: &Heap,
+    first: &Heap,
     middle: &Heap,
-    checkpoint: &Checkpoint,
-) -> Result<Option<Checkpoint>, AllocError>
-    requires { checkpoint.now ≡ middle.now }
-    ensures { IfOk result (λ r. IfSome r (λ c. c ≡ last.now)) }
+    last: &Heap,
+    exchange: &Exchange,
+) -> Result<Option<Exchange>, AllocError>
+    requires { patched first.now exchange.now ≡ middle.now }
+    ensures { IfOk result (λ r. IfSome r (λ x. patched first.now x ≡ last.now)) }
 {
-    match agree(alloc, last, middle)? {
+    match exchange_between(alloc, last, middle)? {
         None => Ok(None),
-        Some(remains) => {
-            let further = checkpoint.patched(alloc, &remains)?;
-            Ok(Some(further))
+        Some(next) => {
+            let both = exchange.then(alloc, &next)?;
+            Ok(Some(both))
         }
     }
+}
+
+// The heap that an exchange makes, which is known.
+fn made(
+    alloc: Global,
+    kept: &Heap,
+    exchange: &Exchange,
+    known: &Heap,
+) -> Result<Heap, AllocError>
+    requires { patched kept.now exchange.now ≡ known.now }
+    ensures { IfOk result (λ h. h ≡ known.now) }
+{
+    known.kept();
+    let checkpoint = Checkpoint::under(kept, exchange);
+    checkpoint.heap(alloc)
 }
 
 // The first heap kept as the middle one, and that as the last one.
@@ -55,13 +77,14 @@ fn made_last(
     middle: &Heap,
     last: &Heap,
 ) -> Result<Option<Heap>, AllocError> {
-    let Some(checkpoint) = kept_as_new(alloc, middle, first)? else {
+    let Some(exchange) = exchange_between(alloc, middle, first)? else {
         return Ok(None);
     };
-    let Some(further) = kept_as_last(alloc, last, middle, &checkpoint)? else {
+    let Some(both) = joined(alloc, first, middle, last, &exchange)? else {
         return Ok(None);
     };
-    Ok(Some(further.share(alloc)?.heap(alloc)?))
+    let heap = made(alloc, first, &both, last)?;
+    Ok(Some(heap))
 }
 
 #[test]
@@ -132,40 +155,45 @@ fn checkpoints_stand_for_later_heaps(rt: HostRuntime) -> Result<(), Fail> {
         };
         assert!(rt; made.same(last));
     }
-    let as_it_is = Checkpoint::of(alloc, more.share()?)?;
+    let as_it_is = Checkpoint::of(&more);
     assert!(rt; as_it_is.heap(alloc)?.same(&more));
     Ok(())
 }
 
-// The checkpoint once more, as another heap and then as itself again.
+// An exchange that leaves a heap as it is, and then to another heap and back, as one.
 fn there_and_back(
     alloc: Global,
     here: &Heap,
     there: &Heap,
-    checkpoint: &Checkpoint,
-) -> Result<Option<Checkpoint>, AllocError>
-    requires { checkpoint.now ≡ here.now }
-    ensures { IfOk result (λ r. IfSome r (λ c. c ≡ here.now)) }
+    exchange: &Exchange,
+) -> Result<Option<Exchange>, AllocError>
+    requires { patched here.now exchange.now ≡ here.now }
+    ensures { IfOk result (λ r. IfSome r (λ x. patched here.now x ≡ here.now)) }
 {
-    match kept_as_last(alloc, there, here, checkpoint)? {
+    match joined(alloc, here, here, there, exchange)? {
         None => Ok(None),
-        Some(further) => kept_as_last(alloc, here, there, &further),
+        Some(further) => joined(alloc, here, there, here, &further),
     }
 }
 
-// More exchanges than may be pending at once.
+// Many exchanges are one that takes no more than the heap that they make.
 #[test]
-fn many_exchanges_are_pending(rt: HostRuntime) -> Result<(), Fail> {
+fn many_exchanges_are_one(rt: HostRuntime) -> Result<(), Fail> {
     let alloc = rt.alloc();
     let here = fewer_leaks(alloc)?;
     let there = more_leaks(alloc)?;
-    let mut checkpoint = Checkpoint::of(alloc, here.share()?)?;
+    let Some(first) = exchange_between(alloc, &here, &here)? else {
+        return Err(Fail::from("they agree"));
+    };
+    let Some(mut exchange) = there_and_back(alloc, &here, &there, &first)? else {
+        return Err(Fail::from("they agree"));
+    };
     for _ in 0..20 {
-        let Some(next) = there_and_back(alloc, &here, &there, &checkpoint)? else {
+        let Some(next) = there_and_back(alloc, &here, &there, &exchange)? else {
             return Err(Fail::from("they agree"));
         };
-        assert!(rt; next.heap(alloc)?.same(&here));
-        checkpoint = next;
+        assert!(rt; made(alloc, &here, &next, &here)?.same(&here));
+        exchange = next;
     }
     Ok(())
 }

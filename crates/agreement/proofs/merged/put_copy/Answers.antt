@@ -1,4 +1,4 @@
-use Rattle.std.proofs.Common.{◌∙◌, ap, sym}
+use Rattle.std.proofs.Common.{◌∙◌, ap}
 use Rattle.std.specs.Prelude.{Some}
 use Rattle.agreement.proofs.GatheringLemmas.{on_ok}
 use Rattle.agreement.proofs.MergedLemmas.{put_there, none_there}
