@@ -56,12 +56,7 @@ fn joined(
 }
 
 // The heap that an exchange makes, which is known.
-fn made(
-    alloc: Global,
-    kept: &Heap,
-    exchange: &Exchange,
-    known: &Heap,
-) -> Result<Heap, AllocError>
+fn made(alloc: Global, kept: &Heap, exchange: &Exchange, known: &Heap) -> Result<Heap, AllocError>
     requires { patched kept.now exchange.now ≡ known.now }
     ensures { IfOk result (λ h. h ≡ known.now) }
 {

@@ -1,6 +1,5 @@
-use Rattle.std.proofs.Common.{◌∙◌, ap, sym}
-use Rattle.ownership_model.specs.State.{State}
-use Rattle.ownership_model.specs.Patch.{Remains, patched}
+use Rattle.std.proofs.Common.{◌∙◌, sym}
+use Rattle.ownership_model.specs.Patch.{patched}
 use Rattle.ownership_model.proofs.LawsHold.{patches}
 use Rattle.agreement_tests.proofs.exchanges.joined.Goals as goal
 

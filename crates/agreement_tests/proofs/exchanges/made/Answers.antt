@@ -2,5 +2,5 @@ use Rattle.std.proofs.Common.{[], sym, subst}
 use Rattle.ownership_model.specs.State.{State, IsSound}
 use Rattle.agreement_tests.proofs.exchanges.made.Goals as goal
 
-pub under-requires : goal.under-requires
-under-requires c = subst (λ (m : State). IsSound m []) (sym c.requires) c.kept.ensures.sound
+pub under-checkpoint-requires : goal.under-checkpoint-requires
+under-checkpoint-requires c = subst (λ (m : State). IsSound m []) (sym c.requires) c.kept.ensures.sound
