@@ -8,6 +8,7 @@ ghost use Rattle.share_tree.specs.Walk.{IsNowhereFrom, IsFirstFrom};
 ghost use Rattle.share_tree.specs.Digits.{updated, nowhere, child_at, AgreesBelow};
 
 use crate::level::Level;
+use crate::update::Update;
 use std::alloc::{AllocError, Global};
 use std::marker::Model;
 use std::sync::Arc;
@@ -170,6 +171,29 @@ impl<C: Drop> Child<C> {
         Ok(())
     }
 
+    /// Changes the value of a key, in place where nobody else holds the level. It says whether the key is there.
+    #[inline(always)]
+    pub fn update<V, F: Update<V>>(
+        &mut self,
+        alloc: Global,
+        key: u32,
+        how: &F,
+    ) -> Result<bool, AllocError>
+    where
+        C: Level<V>,
+        requires fits { C.SPAN ≤ 2 ^ 32 }
+        requires within { key < C.SPAN }
+        requires able { IfSome (child_at C.at self.old key) (F.can how.now) }
+        ensures was { IfOk result (λ was. was ≡ is_some (child_at C.at self.old key)) }
+        ensures ok { OnOk result ((q : ℕ) → child_at C.at self.new q ≡ updated (child_at C.at self.old) key (option_map (F.to how.now) (child_at C.at self.old key)) q) }
+        ensures err { OnErr result ((q : ℕ) → child_at C.at self.new q ≡ child_at C.at self.old q) }
+    {
+        match &mut self.level {
+            None => Ok(false),
+            Some(level) => update_in(alloc, level, key, how),
+        }
+    }
+
     /// Takes out an entry, in place where nobody else holds the level. None is left where nothing is left of it.
     #[inline(always)]
     pub fn remove<V>(&mut self, alloc: Global, key: u32) -> Result<(), AllocError>
@@ -276,6 +300,50 @@ fn insert_in_copy<V, C: Level<V>>(
     let was = level.get(key).is_some();
     *level = level.with(alloc, key, value)?;
     Ok(was)
+}
+
+/// The value of a key changed in a level, in place where nobody else holds it. It says whether the key is there.
+#[inline(always)]
+pub fn update_in<V, C: Level<V>, F: Update<V>>(
+    alloc: Global,
+    level: &mut Arc<C>,
+    key: u32,
+    how: &F,
+) -> Result<bool, AllocError>
+    requires fits { C.SPAN ≤ 2 ^ 32 }
+    requires within { key < C.SPAN }
+    requires able { IfSome (C.at (arc_value level.old) key) (F.can how.now) }
+    ensures was { IfOk result (λ was. was ≡ is_some (C.at (arc_value level.old) key)) }
+    ensures ok { OnOk result ((q : ℕ) → C.at (arc_value level.new) q ≡ updated (C.at (arc_value level.old)) key (option_map (F.to how.now) (C.at (arc_value level.old) key)) q) }
+    ensures err { OnErr result ((q : ℕ) → C.at (arc_value level.new) q ≡ C.at (arc_value level.old) q) }
+{
+    if let Some(own) = Arc::get_mut(level) {
+        return own.update(alloc, key, how);
+    }
+    update_in_copy(alloc, level, key, how)
+}
+
+// As `update_in`, in a copy of the level.
+#[inline(never)]
+fn update_in_copy<V, C: Level<V>, F: Update<V>>(
+    alloc: Global,
+    level: &mut Arc<C>,
+    key: u32,
+    how: &F,
+) -> Result<bool, AllocError>
+    requires fits { C.SPAN ≤ 2 ^ 32 }
+    requires within { key < C.SPAN }
+    requires able { IfSome (C.at (arc_value level.old) key) (F.can how.now) }
+    ensures was { IfOk result (λ was. was ≡ is_some (C.at (arc_value level.old) key)) }
+    ensures ok { OnOk result ((q : ℕ) → C.at (arc_value level.new) q ≡ updated (C.at (arc_value level.old)) key (option_map (F.to how.now) (C.at (arc_value level.old) key)) q) }
+    ensures err { OnErr result ((q : ℕ) → C.at (arc_value level.new) q ≡ C.at (arc_value level.old) q) }
+{
+    let Some(value) = level.get(key) else {
+        return Ok(false);
+    };
+    let value = how.updated(value)?;
+    *level = level.with(alloc, key, value)?;
+    Ok(true)
 }
 
 // A level without an entry, changed where nobody else holds it. It says whether nothing is left.

@@ -1,18 +1,19 @@
 //! The root: one entry alone, or a tree with as many levels as the keys need that came into it.
 ghost use Rattle.std.specs.Prelude.{◌≡◌, ℕ, ◌<◌, ◌*◌, ◌^◌, ◌↔◌, ◌++◌, OnOk, OnErr, Some, None, IfSome, IfOk, IsTrue, is_some};
 ghost use Rattle.std.specs.Bool.{IsFalse};
-ghost use Rattle.std.specs.Option.{option_copied, IfNone};
+ghost use Rattle.std.specs.Option.{option_copied, option_map, IfNone};
 ghost use Rattle.std.specs.Arc.{arc_value};
 ghost use Rattle.share_tree.specs.Entries.{keys_from};
 ghost use Rattle.share_tree.specs.Levels.{branch_at, root_at, height_of, HasRoom};
 ghost use Rattle.share_tree.specs.Walk.{IsNowhereFrom, IsFirstFrom};
 ghost use Rattle.share_tree.specs.Digits.{updated, nowhere, below, child_at, AgreesBelow};
 
-use crate::child::{Child, insert_in};
+use crate::child::{Child, insert_in, update_in};
 use crate::leaf::Leaf;
 use crate::level::Level;
 use crate::node::{Node, over};
 use crate::short;
+use crate::update::Update;
 use std::alloc::{AllocError, Global};
 use std::sync::Arc;
 use trace_types::same::Same;
@@ -180,6 +181,31 @@ impl<V: Drop> Root<V> {
             Root::Two(child) => Ok(Root::Five(three_over(alloc, child.share()?)?)),
             Root::Five(child) => Ok(Root::Eight(three_over(alloc, child.share()?)?)),
             Root::Eight(_) => unreachable!(),
+        }
+    }
+
+    /// Changes the value of a key, in place where nobody else holds the level. It says whether the key is there.
+    pub fn update<F: Update<V>>(
+        &mut self,
+        alloc: Global,
+        key: u32,
+        how: &F,
+    ) -> Result<bool, AllocError>
+        requires { IfSome (root_at self.old key) (F.can how.now) }
+        ensures was { IfOk result (λ was. was ≡ is_some (root_at self.old key)) }
+        ensures ok { OnOk result ((q : ℕ) → root_at self.new q ≡ updated (root_at self.old) key (option_map (F.to how.now) (root_at self.old key)) q) }
+        ensures err { OnErr result ((q : ℕ) → root_at self.new q ≡ root_at self.old q) }
+    {
+        match self {
+            Root::One(only, leaf) => {
+                if *only != key {
+                    return Ok(false);
+                }
+                update_in(alloc, leaf, 0, how)
+            }
+            Root::Two(child) => short::update(alloc, child, key, how),
+            Root::Five(child) => short::update(alloc, child, key, how),
+            Root::Eight(child) => short::update(alloc, child, key, how),
         }
     }
 

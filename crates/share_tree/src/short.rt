@@ -1,12 +1,13 @@
 //! A child as a map from all keys: from its span on it has nothing.
 ghost use Rattle.std.specs.Prelude.{◌≡◌, ℕ, ◌<◌, ◌≤◌, ◌^◌, ◌↔◌, ◌++◌, OnOk, OnErr, Some, None, IfSome, IfOk, IsTrue, is_some};
-ghost use Rattle.std.specs.Option.{option_copied, IfNone};
+ghost use Rattle.std.specs.Option.{option_copied, option_map, IfNone};
 ghost use Rattle.share_tree.specs.Entries.{keys_from};
 ghost use Rattle.share_tree.specs.Walk.{IsNowhereFrom, IsFirstFrom};
 ghost use Rattle.share_tree.specs.Digits.{updated, below, child_at, AgreesBelow};
 
 use crate::child::Child;
 use crate::level::Level;
+use crate::update::Update;
 use std::alloc::{AllocError, Global};
 use trace_types::same::Same;
 
@@ -49,6 +50,26 @@ pub fn insert<V, C: Level<V>>(
     ensures err { OnErr result ((q : ℕ) → below C.SPAN (child_at C.at child.new) q ≡ below C.SPAN (child_at C.at child.old) q) }
 {
     child.insert(alloc, key, value)
+}
+
+/// Changes the value of a key, as `Child::update`.
+#[inline(always)]
+pub fn update<V, C: Level<V>, F: Update<V>>(
+    alloc: Global,
+    child: &mut Child<C>,
+    key: u32,
+    how: &F,
+) -> Result<bool, AllocError>
+    requires fits { C.SPAN ≤ 2 ^ 32 }
+    requires able { IfSome (below C.SPAN (child_at C.at child.old) key) (F.can how.now) }
+    ensures was { IfOk result (λ was. was ≡ is_some (below C.SPAN (child_at C.at child.old) key)) }
+    ensures ok { OnOk result ((q : ℕ) → below C.SPAN (child_at C.at child.new) q ≡ updated (below C.SPAN (child_at C.at child.old)) key (option_map (F.to how.now) (below C.SPAN (child_at C.at child.old) key)) q) }
+    ensures err { OnErr result ((q : ℕ) → below C.SPAN (child_at C.at child.new) q ≡ below C.SPAN (child_at C.at child.old) q) }
+{
+    if key as u64 >= C::span() {
+        return Ok(false);
+    }
+    child.update(alloc, key, how)
 }
 
 /// Takes out an entry, as `Child::remove`.
