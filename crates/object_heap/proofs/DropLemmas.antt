@@ -1,5 +1,5 @@
--- The counters after one item is dropped, and what a cascade has told so far.
-use Rattle.std.proofs.Common.{◌≡◌, ℕ, ◌+◌, ◌-◌, ◌<◌, List, [], ◌∷◌, ◌++◌, refl, ap, ◌∙◌, sym, subst, arith, Bool, true, false, append_assoc}
+-- The counters after one item is dropped.
+use Rattle.std.proofs.Common.{◌≡◌, ℕ, ◌+◌, ◌-◌, ◌<◌, List, ◌∷◌, refl, ap, ◌∙◌, sym, subst, arith, Bool, true, false}
 use Rattle.std.specs.Prelude.{Option, Some, None, ◌==◌, ◌&&◌, if◌then◌else◌}
 use Rattle.std.proofs.lemmas.Bool.Decides.{nat_tests}
 use Rattle.std.proofs.lemmas.List.{append-nil}
@@ -12,16 +12,14 @@ use Rattle.trace_types.specs.declared.slots.Entry.TheVariants.{Alive, Husk}
 use Rattle.trace_types.specs.declared.slots.Item.{Item}
 use Rattle.trace_types.specs.declared.slots.Item.TheVariants as item
 use Rattle.trace_types.specs.declared.outcomes.Event.{Event}
-use Rattle.ownership_model.specs.Falling.{CascadesTo}
-use Rattle.ownership_model.proofs.LawsHold.{in_turn, cascade}
 use Rattle.ownership_model.proofs.Counting.{weight_at, total-set, total-cut, items_weight-drops, ends-drops, self_strong, self_weak, other_strong, other_weak, same_number}
 use Rattle.ownership_model.specs.State.{State, strong, weak, ends, weight, names_alike, entry_weight, IsSound, IsSoundAt}
-use Rattle.ownership_model.specs.Release.{Fate, Stays, Goes, fate, fall, is_husk, left_by, drop_first, Becomes, Released, after, release, work}
+use Rattle.ownership_model.specs.Release.{Fate, Stays, Goes, fate, fall, is_husk, left_by, drop_first, Becomes}
 use Rattle.object_heap.specs.declared.object.Counters.{Counters}
 use Rattle.object_heap.specs.declared.draft.Draft.{Draft}
 use Rattle.object_heap.specs.Counted.{drafted, IsCounted}
 use Rattle.object_heap.specs.TableView.{counters_at}
-use Rattle.object_heap.specs.Gains.{IsSetAt}
+use Rattle.object_heap.specs.Gains.{IsSetAt, ended}
 use Rattle.object_heap.specs.Drops.{DropsFirst}
 use Rattle.object_heap.proofs.GainLemmas.{chosen}
 
@@ -82,23 +80,23 @@ weight-drop_first w m (item.End o) xs sound =
     decide (Weighs w m xs) (weak m xs o == 0) (Goes o) Stays
     (λ t. weighs_goes w m xs o (ended_husk _ _ _ (get m.objects o) (sound.counts o) (first_end o xs))) (λ f. weighs_stays w m xs)
 
--- only the object that the item names has other counts
-record NamesOnly (m : State) (x : Item) (xs : List Item) (o : ℕ) : Type 0 where
-  strong_stay : (p : ℕ) → (o == p) ≡ false → strong m (x ∷ xs) p ≡ strong m xs p
-  weak_stay : (p : ℕ) → (o == p) ≡ false → weak m (x ∷ xs) p ≡ weak m xs p
-  ends_stay : (p : ℕ) → (o == p) ≡ false → ends p (x ∷ xs) ≡ ends p (drop_first m x xs).pending
+-- what is counted is what the item leaves, but for the object that it names
+record NamesOnly (counts : FinMap nat_cmp Counters) (m : State) (x : Item) (xs : List Item) (o : ℕ) : Type 0 where
+  strong_stay : (p : ℕ) → (o == p) ≡ false → (counters_at (get counts p)).strong ≡ strong m xs p
+  weak_stay : (p : ℕ) → (o == p) ≡ false → (counters_at (get counts p)).weak ≡ weak m xs p
+  ends_stay : (p : ℕ) → (o == p) ≡ false → (counters_at (get counts p)).ends ≡ ends p (drop_first m x xs).pending
 
-counted_next : (m : State) (x : Item) (xs : List Item) (counts less : FinMap nat_cmp Counters) (o : ℕ) (c : Counters) → IsSound m (x ∷ xs) → IsCounted counts m (x ∷ xs) → NamesOnly m x xs o → IsSetAt counts less o c
+counted_next : (m : State) (x : Item) (xs : List Item) (counts less : FinMap nat_cmp Counters) (o : ℕ) (c : Counters) → IsSound m (x ∷ xs) → NamesOnly counts m x xs o → IsSetAt counts less o c
     → c.strong ≡ strong m xs o → c.weak ≡ weak m xs o → c.ends ≡ ends o (drop_first m x xs).pending → IsCounted less (drop_first m x xs).state (drop_first m x xs).pending
-counted_next m x xs counts less o c sound counted only set s w e = record {
+counted_next m x xs counts less o c sound only set s w e = record {
   strong_is = λ p. ap (λ (v : Counters). v.strong) (set p)
-      ∙ chosen (λ v. v.strong) (o == p) c (counters_at (get counts p)) (strong m xs p) (λ t. s ∙ ap (λ q. strong m xs q) (same_number o p t)) (λ f. counted.strong_is p ∙ only.strong_stay p f)
+      ∙ chosen (λ v. v.strong) (o == p) c (counters_at (get counts p)) (strong m xs p) (λ t. s ∙ ap (λ q. strong m xs q) (same_number o p t)) (only.strong_stay p)
       ∙ sym (weight-drop_first (names_alike (Strong p)) m x xs sound);
   weak_is = λ p. ap (λ (v : Counters). v.weak) (set p)
-      ∙ chosen (λ v. v.weak) (o == p) c (counters_at (get counts p)) (weak m xs p) (λ t. w ∙ ap (λ q. weak m xs q) (same_number o p t)) (λ f. counted.weak_is p ∙ only.weak_stay p f)
+      ∙ chosen (λ v. v.weak) (o == p) c (counters_at (get counts p)) (weak m xs p) (λ t. w ∙ ap (λ q. weak m xs q) (same_number o p t)) (only.weak_stay p)
       ∙ sym (weight-drop_first (names_alike (Weak p)) m x xs sound);
   ends_is = λ p. ap (λ (v : Counters). v.ends) (set p)
-      ∙ chosen (λ v. v.ends) (o == p) c (counters_at (get counts p)) (ends p (drop_first m x xs).pending) (λ t. e ∙ ap (λ q. ends q (drop_first m x xs).pending) (same_number o p t)) (λ f. counted.ends_is p ∙ only.ends_stay p f);
+      ∙ chosen (λ v. v.ends) (o == p) c (counters_at (get counts p)) (ends p (drop_first m x xs).pending) (λ t. e ∙ ap (λ q. ends q (drop_first m x xs).pending) (same_number o p t)) (only.ends_stay p);
 }
 
 other_end : (o p n : ℕ) → (o == p) ≡ false → (if o == p then 1 else 0) + n ≡ n
@@ -117,12 +115,22 @@ module _ (m : State) (xs : List Item) (o : ℕ) where
   fall_ends p (Some Husk) f = refl
   fall_ends p (Some (Alive fields)) f = ends-drops p fields (item.End o ∷ xs) ∙ other_end o p (ends p xs) f
 
-  strong_names_only : NamesOnly m (item.Slot (Strong o)) xs o
+  strong_ends : (p : ℕ) → (o == p) ≡ false → ends p xs ≡ ends p (drop_first m (item.Slot (Strong o)) xs).pending
   unfolding EndsAt
-  strong_names_only = record {
-    strong_stay = λ p f. omega (arith, other_strong p o f);
-    weak_stay = λ p f. omega arith;
-    ends_stay = λ p f. sym (either (EndsAt p (ends p xs)) (strong m xs o == 0) _ _ (fall_ends p (get m.objects o) f) refl);
+  strong_ends p f = sym (either (EndsAt p (ends p xs)) (strong m xs o == 0) _ _ (fall_ends p (get m.objects o) f) refl)
+
+  strong_names_only : (counts : FinMap nat_cmp Counters) → IsCounted counts m (item.Slot (Strong o) ∷ xs) → NamesOnly counts m (item.Slot (Strong o)) xs o
+  strong_names_only counts counted = record {
+    strong_stay = λ p f. omega (arith, counted.strong_is p, other_strong p o f);
+    weak_stay = λ p f. omega (arith, counted.weak_is p);
+    ends_stay = λ p f. counted.ends_is p ∙ strong_ends p f;
+  }
+
+  uncounted_names_only : (counts : FinMap nat_cmp Counters) → IsCounted counts m xs → NamesOnly counts m (item.Slot (Strong o)) xs o
+  uncounted_names_only counts counted = record {
+    strong_stay = λ p f. counted.strong_is p;
+    weak_stay = λ p f. counted.weak_is p;
+    ends_stay = λ p f. counted.ends_is p ∙ strong_ends p f;
   }
 
   PendsRest : Fate → Type 0
@@ -136,18 +144,18 @@ module _ (m : State) (xs : List Item) (o : ℕ) where
   unfolding PendsRest
   end_pending = either PendsRest (weak m xs o == 0) (Goes o) Stays refl refl
 
-  weak_names_only : NamesOnly m (item.Slot (Weak o)) xs o
-  weak_names_only = record {
-    strong_stay = λ p f. omega arith;
-    weak_stay = λ p f. omega (arith, other_weak p o f);
-    ends_stay = λ p f. ap (ends p) (sym weak_pending);
+  weak_names_only : (counts : FinMap nat_cmp Counters) → IsCounted counts m (item.Slot (Weak o) ∷ xs) → NamesOnly counts m (item.Slot (Weak o)) xs o
+  weak_names_only counts counted = record {
+    strong_stay = λ p f. omega (arith, counted.strong_is p);
+    weak_stay = λ p f. omega (arith, counted.weak_is p, other_weak p o f);
+    ends_stay = λ p f. counted.ends_is p ∙ ap (ends p) (sym weak_pending);
   }
 
-  end_names_only : NamesOnly m (item.End o) xs o
-  end_names_only = record {
-    strong_stay = λ p f. refl;
-    weak_stay = λ p f. refl;
-    ends_stay = λ p f. other_end o p (ends p xs) f ∙ ap (ends p) (sym end_pending);
+  end_names_only : (counts : FinMap nat_cmp Counters) → IsCounted counts m (item.End o ∷ xs) → NamesOnly counts m (item.End o) xs o
+  end_names_only counts counted = record {
+    strong_stay = λ p f. counted.strong_is p;
+    weak_stay = λ p f. counted.weak_is p;
+    ends_stay = λ p f. counted.ends_is p ∙ other_end o p (ends p xs) f ∙ ap (ends p) (sym end_pending);
   }
 
   -- a first strong slot names what is alive
@@ -173,42 +181,62 @@ is_none n h = grind (arith, nat_tests)
 pub is_some : (n : ℕ) → (n ≡ 0 → ⊥) → (n == 0) ≡ false
 is_some n h = grind (arith, nat_tests)
 
+last_fate : (m : State) (xs : List Item) (o : ℕ) → strong m xs o ≡ 0 → fate m (item.Slot (Strong o)) xs ≡ fall o (get m.objects o)
+last_fate m xs o none = fate_by true (strong m xs o == 0) (fall o (get m.objects o)) Stays (sym (is_none (strong m xs o) none))
+
+other_fate : (m : State) (xs : List Item) (o : ℕ) → (strong m xs o ≡ 0 → ⊥) → fate m (item.Slot (Strong o)) xs ≡ Stays
+other_fate m xs o some = fate_by false (strong m xs o == 0) (fall o (get m.objects o)) Stays (sym (is_some (strong m xs o) some))
+
 -- an item of any kind: the counters of the object that it names, and the step
 module _ (old new : Draft) (x : Item) (o : ℕ) (xs left : List Item) (before told : List Event) (c : Counters)
-    (sound : IsSound (drafted old) (x ∷ xs)) (counted : IsCounted old.objects.counts (drafted old) (x ∷ xs)) (only : NamesOnly (drafted old) x xs o) (set : IsSetAt old.objects.counts new.objects.counts o c) where
+    (sound : IsSound (drafted old) (x ∷ xs)) (only : NamesOnly old.objects.counts (drafted old) x xs o) (set : IsSetAt old.objects.counts new.objects.counts o c) where
   drops_by : (f : Fate) → fate (drafted old) x xs ≡ f → c.strong ≡ strong (drafted old) xs o → c.weak ≡ weak (drafted old) xs o → c.ends ≡ ends o (left_by (drafted old) xs f).pending
       → Becomes (drafted new) left before told (left_by (drafted old) xs f) → DropsFirst old new x xs left before told
   drops_by f is s w e step =
       let next : IsCounted new.objects.counts (drop_first (drafted old) x xs).state (drop_first (drafted old) x xs).pending =
-      counted_next (drafted old) x xs old.objects.counts new.objects.counts o c sound counted only set s w (e ∙ ap (λ (g : Fate). ends o (left_by (drafted old) xs g).pending) (sym is)) in
+      counted_next (drafted old) x xs old.objects.counts new.objects.counts o c sound only set s w (e ∙ ap (λ (g : Fate). ends o (left_by (drafted old) xs g).pending) (sym is)) in
       let here : Becomes (drafted new) left before told (drop_first (drafted old) x xs) = subst (λ (g : Fate). Becomes (drafted new) left before told (left_by (drafted old) xs g)) (sym is) step in
       record {
         step = here;
         counted = subst (λ (p : List Item). IsCounted new.objects.counts (drafted new) p) (sym here.pending) (subst (λ (m : State). IsCounted new.objects.counts m (drop_first (drafted old) x xs).pending) (sym here.state) next);
       }
 
-module _ (old new : Draft) (o : ℕ) (xs left : List Item) (before told : List Event) (c : Counters)
-    (sound : IsSound (drafted old) (item.Slot (Strong o) ∷ xs)) (counted : IsCounted old.objects.counts (drafted old) (item.Slot (Strong o) ∷ xs))
-    (set : IsSetAt old.objects.counts new.objects.counts o c) (less : c.strong ≡ (counters_at (get old.objects.counts o)).strong - 1) (same : c.weak ≡ (counters_at (get old.objects.counts o)).weak) where
-  strong_rest : c.strong ≡ strong (drafted old) xs o
-  strong_rest = omega (arith, less, counted.strong_is o, self_strong o)
-
-  weak_rest : c.weak ≡ weak (drafted old) xs o
-  weak_rest = omega (arith, same, counted.weak_is o)
-
-  -- the last strong slot
-  pub drops_last : c.strong ≡ 0 → c.ends ≡ 1 + (counters_at (get old.objects.counts o)).ends → Becomes (drafted new) left before told (left_by (drafted old) xs (fall o (get old.objects.entries o))) → DropsFirst old new (item.Slot (Strong o)) xs left before told
+-- the last strong slot, whether it is still counted or not
+module _ (old new : Draft) (o : ℕ) (xs left : List Item) (before told : List Event) (sound : IsSound (drafted old) (item.Slot (Strong o) ∷ xs))
+    (step : Becomes (drafted new) left before told (left_by (drafted old) xs (fall o (get old.objects.entries o)))) (set : IsSetAt old.objects.counts new.objects.counts o (ended (counters_at (get old.objects.counts o)))) where
+  falls : NamesOnly old.objects.counts (drafted old) (item.Slot (Strong o)) xs o → strong (drafted old) xs o ≡ 0 → (counters_at (get old.objects.counts o)).weak ≡ weak (drafted old) xs o → (counters_at (get old.objects.counts o)).ends ≡ ends o xs
+      → DropsFirst old new (item.Slot (Strong o)) xs left before told
   unfolding EndsAt
-  drops_last none more step =
-      let is : fate (drafted old) (item.Slot (Strong o)) xs ≡ fall o (get old.objects.entries o) = fate_by true (strong (drafted old) xs o == 0) (fall o (get old.objects.entries o)) Stays (sym (is_none (strong (drafted old) xs o) (sym strong_rest ∙ none))) in
-      drops_by old new (item.Slot (Strong o)) o xs left before told c sound counted (strong_names_only (drafted old) xs o) set (fall o (get old.objects.entries o)) is strong_rest weak_rest
-      (more ∙ ap (λ n. 1 + n) (counted.ends_is o) ∙ sym (fall_ends_self (drafted old) xs o _ _ (get old.objects.entries o) (first_strong (drafted old) xs o sound))) step
+  falls only none w e =
+      let more : (counters_at (get old.objects.counts o)).ends + 1 ≡ 1 + ends o xs = omega (arith, e) in
+      drops_by old new (item.Slot (Strong o)) o xs left before told (ended (counters_at (get old.objects.counts o))) sound only set (fall o (get old.objects.entries o)) (last_fate (drafted old) xs o none) (sym none) w
+      (more ∙ sym (fall_ends_self (drafted old) xs o _ _ (get old.objects.entries o) (first_strong (drafted old) xs o sound))) step
 
-  -- one of several
-  pub drops_more : (c.strong ≡ 0 → ⊥) → c.ends ≡ (counters_at (get old.objects.counts o)).ends → Becomes (drafted new) left before told (left_by (drafted old) xs Stays) → DropsFirst old new (item.Slot (Strong o)) xs left before told
-  drops_more some kept step =
-      let is : fate (drafted old) (item.Slot (Strong o)) xs ≡ Stays = fate_by false (strong (drafted old) xs o == 0) (fall o (get old.objects.entries o)) Stays (sym (is_some (strong (drafted old) xs o) (λ z. some (strong_rest ∙ z)))) in
-      drops_by old new (item.Slot (Strong o)) o xs left before told c sound counted (strong_names_only (drafted old) xs o) set Stays is strong_rest weak_rest (kept ∙ counted.ends_is o) step
+  pub drops_last : IsCounted old.objects.counts (drafted old) (item.Slot (Strong o) ∷ xs) → (counters_at (get old.objects.counts o)).strong - 1 ≡ 0 → DropsFirst old new (item.Slot (Strong o)) xs left before told
+  drops_last counted none = falls (strong_names_only (drafted old) xs o old.objects.counts counted) (omega (arith, none, counted.strong_is o, self_strong o)) (omega (arith, counted.weak_is o)) (counted.ends_is o)
+
+  pub drops_uncounted : IsCounted old.objects.counts (drafted old) xs → (counters_at (get old.objects.counts o)).strong ≡ 0 → DropsFirst old new (item.Slot (Strong o)) xs left before told
+  drops_uncounted counted none = falls (uncounted_names_only (drafted old) xs o old.objects.counts counted) (sym (counted.strong_is o) ∙ none) (counted.weak_is o) (counted.ends_is o)
+
+-- nothing was told, and nothing else is pending
+pub quiet : (m n : State) (xs : List Item) (before : List Event) → n ≡ m → Becomes n xs before before (left_by m xs Stays)
+quiet m n xs before same = record { state = same; pending = refl; events = sym (append-nil before) }
+
+-- one of several strong slots
+pub drops_more : (old new : Draft) (o : ℕ) (xs : List Item) (before : List Event) (c : Counters) → IsSound (drafted old) (item.Slot (Strong o) ∷ xs) → IsCounted old.objects.counts (drafted old) (item.Slot (Strong o) ∷ xs) → IsSetAt old.objects.counts new.objects.counts o c
+    → c.strong ≡ (counters_at (get old.objects.counts o)).strong - 1 → c.weak ≡ (counters_at (get old.objects.counts o)).weak → c.ends ≡ (counters_at (get old.objects.counts o)).ends → (c.strong ≡ 0 → ⊥) → drafted new ≡ drafted old → DropsFirst old new (item.Slot (Strong o)) xs xs before before
+drops_more old new o xs before c sound counted set less same kept some stay =
+    let s : c.strong ≡ strong (drafted old) xs o = omega (arith, less, counted.strong_is o, self_strong o) in
+    let w : c.weak ≡ weak (drafted old) xs o = omega (arith, same, counted.weak_is o) in
+    drops_by old new (item.Slot (Strong o)) o xs xs before before c sound (strong_names_only (drafted old) xs o old.objects.counts counted) set Stays (other_fate (drafted old) xs o (λ z. some (s ∙ z))) s w
+    (kept ∙ counted.ends_is o) (quiet (drafted old) (drafted new) xs before stay)
+
+-- one of several, where it isn't counted any more
+pub stays_uncounted : (old : Draft) (o : ℕ) (xs : List Item) (before : List Event) → IsCounted old.objects.counts (drafted old) xs → ((counters_at (get old.objects.counts o)).strong ≡ 0 → ⊥) → DropsFirst old old (item.Slot (Strong o)) xs xs before before
+stays_uncounted old o xs before counted some = record {
+  step = subst (λ (g : Fate). Becomes (drafted old) xs before before (left_by (drafted old) xs g)) (sym (other_fate (drafted old) xs o (λ z. some (counted.strong_is o ∙ z)))) (quiet (drafted old) (drafted old) xs before refl);
+  counted = counted;
+}
 
 module _ (old new : Draft) (o : ℕ) (xs : List Item) (before told : List Event) (c : Counters)
     (set : IsSetAt old.objects.counts new.objects.counts o c) (same : c.strong ≡ (counters_at (get old.objects.counts o)).strong) where
@@ -220,7 +248,7 @@ module _ (old new : Draft) (o : ℕ) (xs : List Item) (before told : List Event)
       let e : c.ends ≡ ends o xs = kept ∙ counted.ends_is o in
       let tested : b ≡ ((weak (drafted old) xs o == 0) && (is_husk (get old.objects.entries o) && (ends o xs == 0))) = test ∙ ap (λ n. (n == 0) && (is_husk (get old.objects.entries o) && (c.ends == 0))) w ∙ ap (λ n. (weak (drafted old) xs o == 0) && (is_husk (get old.objects.entries o) && (n == 0))) e in
       let is : fate (drafted old) (item.Slot (Weak o)) xs ≡ (if b then Goes o else Stays) = fate_by b ((weak (drafted old) xs o == 0) && (is_husk (get old.objects.entries o) && (ends o xs == 0))) (Goes o) Stays tested in
-      drops_by old new (item.Slot (Weak o)) o xs xs before told c sound counted (weak_names_only (drafted old) xs o) set (if b then Goes o else Stays) is s w (e ∙ ap (ends o) (sym (weak_pending (drafted old) xs o)) ∙ ap (λ (g : Fate). ends o (left_by (drafted old) xs g).pending) is) step
+      drops_by old new (item.Slot (Weak o)) o xs xs before told c sound (weak_names_only (drafted old) xs o old.objects.counts counted) set (if b then Goes o else Stays) is s w (e ∙ ap (ends o) (sym (weak_pending (drafted old) xs o)) ∙ ap (λ (g : Fate). ends o (left_by (drafted old) xs g).pending) is) step
 
   pub drops_end : (b : Bool) → IsSound (drafted old) (item.End o ∷ xs) → IsCounted old.objects.counts (drafted old) (item.End o ∷ xs) → c.weak ≡ (counters_at (get old.objects.counts o)).weak → c.ends ≡ (counters_at (get old.objects.counts o)).ends - 1
       → b ≡ (c.weak == 0) → Becomes (drafted new) xs before told (left_by (drafted old) xs (if b then Goes o else Stays)) → DropsFirst old new (item.End o) xs xs before told
@@ -230,53 +258,14 @@ module _ (old new : Draft) (o : ℕ) (xs : List Item) (before told : List Event)
       let e : c.ends ≡ ends o xs = omega (arith, less, counted.ends_is o, self_end o (ends o xs)) in
       let tested : b ≡ (weak (drafted old) xs o == 0) = test ∙ ap (λ n. n == 0) w in
       let is : fate (drafted old) (item.End o) xs ≡ (if b then Goes o else Stays) = fate_by b (weak (drafted old) xs o == 0) (Goes o) Stays tested in
-      drops_by old new (item.End o) o xs xs before told c sound counted (end_names_only (drafted old) xs o) set (if b then Goes o else Stays) is s w (e ∙ ap (ends o) (sym (end_pending (drafted old) xs o)) ∙ ap (λ (g : Fate). ends o (left_by (drafted old) xs g).pending) is) step
+      drops_by old new (item.End o) o xs xs before told c sound (end_names_only (drafted old) xs o old.objects.counts counted) set (if b then Goes o else Stays) is s w (e ∙ ap (ends o) (sym (end_pending (drafted old) xs o)) ∙ ap (λ (g : Fate). ends o (left_by (drafted old) xs g).pending) is) step
 
 pub drops_nothing : (old : Draft) (s : Slot) (xs : List Item) (before : List Event) → fate (drafted old) (item.Slot s) xs ≡ Stays → ((w : ℕ) → names_alike (Strong w) s ≡ 0) → ((w : ℕ) → names_alike (Weak w) s ≡ 0) → IsCounted old.objects.counts (drafted old) (item.Slot s ∷ xs) → DropsFirst old old (item.Slot s) xs xs before before
 drops_nothing old s xs before is a b counted = record {
-  step = subst (λ (g : Fate). Becomes (drafted old) xs before before (left_by (drafted old) xs g)) (sym is) (record { state = refl; pending = refl; events = sym (append-nil before) });
+  step = subst (λ (g : Fate). Becomes (drafted old) xs before before (left_by (drafted old) xs g)) (sym is) (quiet (drafted old) (drafted old) xs before refl);
   counted = record {
     strong_is = λ o. omega (arith, counted.strong_is o, a o);
     weak_is = λ o. omega (arith, counted.weak_is o, b o);
     ends_is = counted.ends_is;
   };
 }
-
-after-after : (a b : List Event) (r : Released) → after (a ++ b) r ≡ after a (after b r)
-after-after a b r = ap (λ (es : List Event). record { state = r.state; events = es }) (append_assoc a b r.events)
-
--- one item of a release
-module _ (old new : Draft) (x : Item) (xs whole left : List Item) (before told : List Event) (first : whole ≡ x ∷ xs) (dropped : DropsFirst old new x xs left before told) where
-  pub sound_next : IsSound (drafted old) whole → IsSound (drafted new) left
-  sound_next sound =
-      let now : IsSound (drop_first (drafted old) x xs).state (drop_first (drafted old) x xs).pending = in_turn.sound (drafted old) x xs (subst (λ (p : List Item). IsSound (drafted old) p) first sound) in
-      subst (λ (p : List Item). IsSound (drafted new) p) (sym dropped.step.pending) (subst (λ (m : State). IsSound m (drop_first (drafted old) x xs).pending) (sym dropped.step.state) now)
-
-  pub work_next : work (drafted new) left < work (drafted old) whole
-  work_next =
-      let smaller : work (drafted new) left ≡ work (drop_first (drafted old) x xs).state (drop_first (drafted old) x xs).pending = ap (λ (p : List Item). work (drafted new) p) dropped.step.pending ∙ ap (λ (m : State). work m (drop_first (drafted old) x xs).pending) dropped.step.state in
-      let larger : work (drafted old) whole ≡ work (drafted old) (x ∷ xs) = ap (λ (p : List Item). work (drafted old) p) first in
-      omega (arith, smaller, larger, in_turn.less (drafted old) x xs)
-
-  pub release_next : after told (release (drafted new) left) ≡ after before (release (drafted old) whole)
-  release_next =
-      let d = drop_first (drafted old) x xs in
-      let same : release (drafted new) left ≡ release d.state d.pending = ap (λ (p : List Item). release (drafted new) p) dropped.step.pending ∙ ap (λ (m : State). release m d.pending) dropped.step.state in
-      ap (λ (r : Released). after told r) same
-      ∙ ap (λ (es : List Event). after es (release d.state d.pending)) dropped.step.events
-      ∙ after-after before d.events (release d.state d.pending)
-      ∙ ap (λ (r : Released). after before r) (sym (in_turn.first (drafted old) x xs) ∙ ap (λ (p : List Item). release (drafted old) p) (sym first))
-
--- nothing is left
-pub release_end : (m : State) (before told : List Event) (left : List Item) (r : Released) → after told (release m left) ≡ after before r → left ≡ [] → (m ≡ r.state) × (told ≡ before ++ r.events)
-release_end m before told left r is none =
-    let same : after told (record { state = m; events = [] }) ≡ after before r = ap (λ (q : Released). after told q) (sym (in_turn.none m)) ∙ ap (λ (p : List Item). after told (release m p)) (sym none) ∙ is in
-    (ap (λ (q : Released). q.state) same, sym (append-nil told) ∙ ap (λ (q : Released). q.events) same)
-
--- what was released from the same state is the cascade
-pub cascades : (m from end : State) (pending items : List Item) (told : List Event) → IsSound m pending → from ≡ m → items ≡ pending
-    → end ≡ (release from items).state → told ≡ (release from items).events → CascadesTo m end told
-cascades m from end pending items told sound same all state events =
-    let by : release from items ≡ release m pending = ap (λ (n : State). release n items) same ∙ ap (release m) all in
-    subst (λ (n : State). CascadesTo m n told) (sym (state ∙ ap (λ (r : Released). r.state) by))
-    (subst (λ (es : List Event). CascadesTo m (release m pending).state es) (sym (events ∙ ap (λ (r : Released). r.events) by)) (cascade.cascades m pending sound))

@@ -4,7 +4,7 @@ use Rattle.std.specs.Prelude.{Option, Some, None, ◌==◌, if◌then◌else◌,
 use Rattle.std.specs.Prelude.{Result, Ok, Err, OnOk, OnErr}
 use Rattle.std.proofs.Math.Seq.{take-suc, drop-cons}
 use Rattle.std.specs.Ordering.{nat_cmp}
-use Rattle.std.specs.FinMap.{FinMap, get, insert, remove}
+use Rattle.std.specs.FinMap.{FinMap, get, insert}
 use Rattle.trace_types.specs.declared.limits.TheConstants.{MAX_FIELDS}
 use Rattle.trace_types.specs.declared.slots.Slot.{Slot}
 use Rattle.trace_types.specs.declared.slots.Slot.TheVariants.{Strong, Weak}
@@ -19,7 +19,7 @@ use Rattle.ownership_model.specs.State.{State, ends, weight, names_alike, slots_
 use Rattle.ownership_model.specs.Changes.{changed, changed_by, with_field, HasField, CanBeDone, CanChange}
 use Rattle.ownership_model.specs.Bounds.{IsBounded, ChangeFits, ChangesFit}
 use Rattle.ownership_model.proofs.LawsHold.{bounds, scopes}
-use Rattle.ownership_model.proofs.Counting.{weight_at, total-insert, total-remove, total-set, self_strong, self_weak, other_strong, other_weak, same_number, get_inserted, get_removed, names_alike-le}
+use Rattle.ownership_model.proofs.Counting.{weight_at, total-insert, total-remove, total-set, self_strong, self_weak, other_strong, other_weak, same_number, names_alike-le}
 use Rattle.object_heap.specs.declared.object.Counters.{Counters}
 use Rattle.object_heap.specs.declared.draft.Draft.{Draft}
 use Rattle.object_heap.specs.Counted.{drafted, IsCounted}
@@ -154,7 +154,7 @@ room_after less more s n room it = record {
   ends_fit = λ o. omega (arith, room.ends_fit o, it.ends_is o);
 }
 
-ends-le : (o : ℕ) (p : List Item) → ends o p ≤ length p
+pub ends-le : (o : ℕ) (p : List Item) → ends o p ≤ length p
 ends-le o [] = omega arith
 ends-le o (item.Slot s ∷ p) = omega (arith, ends-le o p)
 ends-le o (item.End q ∷ p) = ends_one (q == o) (ends o p) (length p) (ends-le o p)

@@ -4,6 +4,7 @@ pub mod ChangeWeights
 pub mod GainLemmas
 pub mod PendingLemmas
 pub mod DropLemmas
+pub mod ReleaseLemmas
 pub mod LinkLemmas
 pub mod ViewLemmas
 pub mod TableLemmas

@@ -1,14 +1,14 @@
 -- What contracts see of the objects, by what is kept for each.
-use Rattle.std.proofs.Common.{◌≡◌, ℕ, List, [], ◌∷◌, ◌++◌, refl, ap, ◌∙◌, sym, subst, arith, Bool, true, false, cond}
+use Rattle.std.proofs.Common.{◌≡◌, ℕ, List, [], ◌∷◌, ◌++◌, refl, ap, ◌∙◌, sym, subst, Bool, true, false, cond}
 use Rattle.std.specs.Prelude.{Option, Some, None, is_some, ◌==◌, ◌&&◌, ◌↔◌, if◌then◌else◌, unwrap_or, map}
 use Rattle.std.specs.Option.{option_map, option_and_then}
 use Rattle.std.proofs.Math.Dec.{T}
-use Rattle.std.proofs.lemmas.Bool.Decides.{nat_tests}
 use Rattle.std.specs.Ordering.{nat_cmp, eq_by_cmp}
 use Rattle.std.specs.Cmp.{nat_cmp_total}
 use Rattle.std.specs.FinMap.{FinMap, get, insert, remove, empty, entries, keys, entries_sorted, entries-from_sorted, get-entries, get-from_sorted, get-empty, same_map, nat_cmp-IsAntisymmetric}
 use Rattle.std.specs.FinMap.Entries.{is_sorted, below_all, find}
 use Rattle.share_tree.specs.Entries.{entry}
+use Rattle.share_tree.specs.Updates.{set_at}
 use Rattle.trace_types.specs.declared.slots.Entry.{Entry}
 use Rattle.ownership_model.proofs.Counting.{get_inserted, get_removed, same_number}
 use Rattle.ownership_model.proofs.Scoping.{itself}
@@ -262,6 +262,34 @@ module _ (old new : FinMap nat_cmp Kept) (t : TableView) (view : table_of old �
       ]
 
 -- ---- nothing is kept
+-- other counters, not all of them zero, in the place of those that are kept
+kept_counted : (e : Option Entry) (c : Counters) → are_zero c ≡ false → kept_of e c ≡ Some (e, c)
+kept_counted None c any = ap (λ b. option_map (λ (n : Counters). (None, n)) (if b then None else Some c)) any
+kept_counted (Some e) c any = refl
+
+module _ (old new : FinMap nat_cmp Kept) (t : TableView) (view : table_of old ≡ t) (lean : IsLean old) (o : ℕ) (c : Counters) (any : are_zero c ≡ false) (is : new ≡ set_at old o (option_map (λ (k : Kept). (k.0, c)) (get old o))) where
+  recounted_at : (x : Kept) → get old o ≡ Some x → (q : ℕ) → get new q ≡ (if o == q then kept_of x.0 c else get old q)
+  recounted_at x there q =
+      ap (λ m. get m q) is
+      ∙ ap (λ z. get (set_at old o (option_map (λ (k : Kept). (k.0, c)) z)) q) there
+      ∙ get_inserted old o (x.0, c) q
+      ∙ ap (λ z. if o == q then z else get old q) (sym (kept_counted x.0 c any))
+
+  recounted_lean : (x : Kept) → get old o ≡ Some x → IsLean new
+  recounted_lean x there q y found =
+      elim (o == q) as (λ b. (if b then kept_of x.0 c else get old q) ≡ Some y → kept_of y.0 y.1 ≡ Some y) [
+        | true ↦ λ e. subst (λ (z : Kept). kept_of z.0 z.1 ≡ Some z) (same_some (x.0, c) y (sym (kept_counted x.0 c any) ∙ e)) (kept_counted x.0 c any)
+        | false ↦ λ e. lean q y e
+      ] (sym (recounted_at x there q) ∙ found)
+
+  pub recounted : is_some (get old o) ≡ true → IsLean new × (IsSetAt t.counts (table_of new).counts o c × ((table_of new).entries ≡ t.entries))
+  recounted = elim (get old o) as (λ z. get old o ≡ z → is_some z ≡ true → IsLean new × (IsSetAt t.counts (table_of new).counts o c × ((table_of new).entries ≡ t.entries))) [
+    | None ↦ λ none there. absurd (not_there there)
+    | Some x ↦ λ e there.
+        let is = recounted_at x e in
+        (recounted_lean x e, (counters_set old new t view o (x.0, c) is c refl, entries_stay old new t view o (x.0, c) is (entry_found old t view o (Some x) e)))
+  ] refl
+
 pub lean_empty : (m : FinMap nat_cmp Kept) → m ≡ empty → IsLean m
 lean_empty m none o x is = absurd (not_some x (sym (ap (λ n. get n o) none ∙ get-empty nat_cmp o) ∙ is))
 

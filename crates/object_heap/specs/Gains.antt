@@ -18,6 +18,10 @@ use Rattle.object_heap.specs.TableView.{counters_at}
 abbrev pub IsSetAt : FinMap nat_cmp Counters → FinMap nat_cmp Counters → ℕ → Counters → Type 0
 IsSetAt old new o c = (p : ℕ) → counters_at (get new p) ≡ (if o == p then c else counters_at (get old p))
 
+-- the counters of an object after its last strong slot: its end is counted besides
+abbrev pub ended : Counters → Counters
+ended c = record { strong = 0; weak = c.weak; ends = c.ends + 1 }
+
 -- these slots are counted besides
 pub record CountsMore (less more : FinMap nat_cmp Counters) (g : (Slot → ℕ) → ℕ) : Type 0 where
   pub strong_is : (o : ℕ) → (counters_at (get more o)).strong ≡ g (names_alike (Strong o)) + (counters_at (get less o)).strong

@@ -1,28 +1,52 @@
 //! What letting go sets off: what is pending is dropped, one item after another.
-ghost use Rattle.std.specs.Prelude.{◌≡◌, ◌∷◌, ◌++◌, [], OnOk, ◌<◌, ◌^◌, ◌&&◌, ◌==◌, length};
+ghost use Rattle.std.specs.Prelude.{◌≡◌, ◌∷◌, ◌++◌, [], OnOk, ◌+◌, ◌<◌, ◌^◌, ◌&&◌, ◌==◌, length};
 ghost use Rattle.std.specs.Option.{option_copied};
 ghost use Rattle.std.specs.FinMap as map;
 ghost use Rattle.trace_types.specs.declared.slots.Item.TheVariants as item;
 ghost use Rattle.trace_types.specs.declared.slots.Slot.TheVariants as slot;
 ghost use Rattle.ownership_model.specs.State.{IsSound};
-ghost use Rattle.ownership_model.specs.Release.{release, drops, fall, is_husk, left_by, Becomes, Goes};
+ghost use Rattle.ownership_model.specs.Release.{release, after, drops, fall, is_husk, left_by, Becomes, Goes};
 ghost use Rattle.ownership_model.specs.Bounds.{IsBounded};
 ghost use Rattle.object_heap.specs.Counted.{drafted, IsCounted};
 ghost use Rattle.object_heap.specs.TableView.{counters_at};
 ghost use Rattle.object_heap.specs.Drops.{DropsFirst};
-ghost use Rattle.object_heap.specs.Gains.{IsSetAt};
+ghost use Rattle.object_heap.specs.Gains.{IsSetAt, ended};
 
 use crate::counters::hold_item;
 use crate::draft::Draft;
-use crate::object::{Counters, Object};
+use crate::object::Counters;
 use std::alloc::{AllocError, Global};
 use std::collections::VecDeque;
 use trace_types::outcomes::Event;
 use trace_types::slots::{Entry, Item, Slot};
 
 impl Draft {
-    /// All items are pending, in order. Where memory runs out the draft is unspecified: let it go.
-    pub fn add_all(
+    /// All items are pending, in order, on a list that was empty. Where the first is a strong slot, it is dropped at once: its count isn't
+    /// raised only to be lowered next. Where memory runs out the draft is unspecified: let it go.
+    pub fn begin(
+        &mut self,
+        alloc: Global,
+        items: &[Item],
+        pending: &mut VecDeque<Item>,
+        events: &mut Vec<Event>,
+    ) -> Result<(), AllocError>
+        requires sound { IsSound (drafted self.old) items.now }
+        requires counted { IsCounted self.old.objects.counts (drafted self.old) [] }
+        requires bounded { IsBounded (drafted self.old) }
+        requires none { pending.old.items ≡ [] }
+        ensures rest { OnOk result (after events.new.items (release (drafted self.new) pending.new.items) ≡ after events.old.items (release (drafted self.old) items.now)) }
+        ensures sound { OnOk result (IsSound (drafted self.new) pending.new.items) }
+        ensures counted { OnOk result (IsCounted self.new.objects.counts (drafted self.new) pending.new.items) }
+    {
+        if let Some((Item::Slot(Slot::Strong(object)), rest)) = items.split_first() {
+            self.add_all(alloc, rest, pending)?;
+            return self.drop_uncounted(alloc, *object, pending, events);
+        }
+        self.add_all(alloc, items, pending)
+    }
+
+    // All items are pending, in order. Where memory runs out the draft is unspecified: let it go.
+    fn add_all(
         &mut self,
         alloc: Global,
         items: &[Item],
@@ -79,6 +103,7 @@ impl Draft {
         Ok(())
     }
 
+    // Drops the first item of those that are pending.
     fn drop_item(
         &mut self,
         alloc: Global,
@@ -98,6 +123,7 @@ impl Draft {
         }
     }
 
+    // Drops a strong slot: it is counted no more, and the value goes with the last one.
     fn drop_strong(
         &mut self,
         alloc: Global,
@@ -109,21 +135,36 @@ impl Draft {
         requires counted { IsCounted self.old.objects.counts (drafted self.old) (item.Slot (slot.Strong object) ∷ pending.old.items) }
         ensures { OnOk result (DropsFirst self.old self.new (item.Slot (slot.Strong object)) pending.old.items pending.new.items events.old.items events.new.items) }
     {
-        let kept = self.objects.at(object)?;
-        let was = kept.counters();
-        let strong = was.strong - 1;
-        if strong == 0 {
-            let last = Counters {
-                strong,
-                ends: was.ends + 1,
-                ..was
-            };
-            return self.destroy(alloc, object, kept, last, pending, events);
+        let was = self.objects.counters(object);
+        let less = Counters {
+            strong: was.strong - 1,
+            ..was
+        };
+        if less.strong == 0 {
+            return self.destroy(alloc, object, pending, events);
         }
-        let less = Counters { strong, ..was };
-        self.objects.set_counters(alloc, object, kept, less)
+        self.objects.set_counters(alloc, object, less)
     }
 
+    // Drops a strong slot that isn't counted any more, while the others are.
+    fn drop_uncounted(
+        &mut self,
+        alloc: Global,
+        object: u32,
+        pending: &mut VecDeque<Item>,
+        events: &mut Vec<Event>,
+    ) -> Result<(), AllocError>
+        requires sound { IsSound (drafted self.old) (item.Slot (slot.Strong object) ∷ pending.old.items) }
+        requires counted { IsCounted self.old.objects.counts (drafted self.old) pending.old.items }
+        ensures { OnOk result (DropsFirst self.old self.new (item.Slot (slot.Strong object)) pending.old.items pending.new.items events.old.items events.new.items) }
+    {
+        if self.objects.counters(object).strong != 0 {
+            return Ok(());
+        }
+        self.destroy(alloc, object, pending, events)
+    }
+
+    // Drops a weak slot: it is counted no more, and the allocation goes with the last one, where the value is gone.
     fn drop_weak(
         &mut self,
         alloc: Global,
@@ -135,18 +176,18 @@ impl Draft {
         requires counted { IsCounted self.old.objects.counts (drafted self.old) (item.Slot (slot.Weak object) ∷ rest.now.items) }
         ensures { OnOk result (DropsFirst self.old self.new (item.Slot (slot.Weak object)) rest.now.items rest.now.items events.old.items events.new.items) }
     {
-        let kept = self.objects.at(object)?;
-        let was = kept.counters();
+        let was = self.objects.counters(object);
         let less = Counters {
             weak: was.weak - 1,
             ..was
         };
-        if is_last(kept.entry(), less) {
-            return self.free(alloc, object, &kept, less, events);
+        if is_last(self.objects.get(object), less) {
+            return self.free(alloc, object, less, events);
         }
-        self.objects.set_counters(alloc, object, kept, less)
+        self.objects.set_counters(alloc, object, less)
     }
 
+    // Drops the end of a value that is gone: the allocation goes, where no weak slot holds it.
     fn drop_end(
         &mut self,
         alloc: Global,
@@ -158,38 +199,42 @@ impl Draft {
         requires counted { IsCounted self.old.objects.counts (drafted self.old) (item.End object ∷ rest.now.items) }
         ensures { OnOk result (DropsFirst self.old self.new (item.End object) rest.now.items rest.now.items events.old.items events.new.items) }
     {
-        let kept = self.objects.at(object)?;
-        let was = kept.counters();
+        let was = self.objects.counters(object);
         let less = Counters {
             ends: was.ends - 1,
             ..was
         };
         if less.weak == 0 {
-            return self.free(alloc, object, &kept, less, events);
+            return self.free(alloc, object, less, events);
         }
-        self.objects.set_counters(alloc, object, kept, less)
+        self.objects.set_counters(alloc, object, less)
     }
 
-    // The value of the object is gone, where it was there: its fields, and then its end, are dropped next. It has these counters.
+    // No strong slot names the object any more, and so its value is gone, where it was there: its fields, and then its end, are dropped next.
     fn destroy(
         &mut self,
         alloc: Global,
         object: u32,
-        kept: Object,
-        counters: Counters,
         pending: &mut VecDeque<Item>,
         events: &mut Vec<Event>,
     ) -> Result<(), AllocError>
-        requires { kept.0 ≡ map.get self.old.objects.entries object }
+        requires { (counters_at (map.get self.old.objects.counts object)).ends + 1 < 2 ^ 64 }
         ensures step { OnOk result (Becomes (drafted self.new) pending.new.items events.old.items events.new.items (left_by (drafted self.old) pending.old.items (fall object (map.get self.old.objects.entries object)))) }
-        ensures set { OnOk result (IsSetAt self.old.objects.counts self.new.objects.counts object counters) }
+        ensures set { OnOk result (IsSetAt self.old.objects.counts self.new.objects.counts object (ended (counters_at (map.get self.old.objects.counts object)))) }
     {
+        let kept = self.objects.at(object)?;
+        let was = kept.counters();
+        let counters = Counters {
+            strong: 0,
+            ends: was.ends + 1,
+            ..was
+        };
         if let Some(Entry::Alive(fields)) = kept.entry() {
             push_fields(fields.as_slice(), object, pending)?;
             events.push(Event::Destroyed(object))?;
             return self.objects.set_husk(alloc, object, &kept, counters);
         }
-        self.objects.set_counters(alloc, object, kept, counters)
+        self.objects.set_counters(alloc, object, counters)
     }
 
     // The allocation of the object is gone: neither a weak slot nor its value holds it (`std::sync::Weak`). It has these counters.
@@ -197,7 +242,6 @@ impl Draft {
         &mut self,
         alloc: Global,
         object: u32,
-        was: &Object,
         counters: Counters,
         events: &mut Vec<Event>,
     ) -> Result<(), AllocError>
@@ -205,7 +249,8 @@ impl Draft {
         ensures set { OnOk result (IsSetAt self.old.objects.counts self.new.objects.counts object counters) }
     {
         events.push(Event::Freed(object))?;
-        self.objects.free(alloc, object, was, counters)
+        let was = self.objects.at(object)?;
+        self.objects.free(alloc, object, &was, counters)
     }
 }
 

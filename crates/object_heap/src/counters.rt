@@ -20,22 +20,20 @@ pub fn hold(alloc: Global, objects: &mut Objects, slot: Slot) -> Result<(), Allo
 {
     match slot {
         Slot::Strong(object) => {
-            let kept = objects.at(object)?;
-            let was = kept.counters();
+            let was = objects.counters(object);
             let more = Counters {
                 strong: was.strong + 1,
                 ..was
             };
-            objects.set_counters(alloc, object, kept, more)
+            objects.set_counters(alloc, object, more)
         }
         Slot::Weak(object) => {
-            let kept = objects.at(object)?;
-            let was = kept.counters();
+            let was = objects.counters(object);
             let more = Counters {
                 weak: was.weak + 1,
                 ..was
             };
-            objects.set_counters(alloc, object, kept, more)
+            objects.set_counters(alloc, object, more)
         }
         Slot::Nothing | Slot::Dangling => Ok(()),
     }
@@ -49,22 +47,20 @@ pub fn let_go(alloc: Global, objects: &mut Objects, slot: Slot) -> Result<(), Al
 {
     match slot {
         Slot::Strong(object) => {
-            let kept = objects.at(object)?;
-            let was = kept.counters();
+            let was = objects.counters(object);
             let less = Counters {
                 strong: was.strong - 1,
                 ..was
             };
-            objects.set_counters(alloc, object, kept, less)
+            objects.set_counters(alloc, object, less)
         }
         Slot::Weak(object) => {
-            let kept = objects.at(object)?;
-            let was = kept.counters();
+            let was = objects.counters(object);
             let less = Counters {
                 weak: was.weak - 1,
                 ..was
             };
-            objects.set_counters(alloc, object, kept, less)
+            objects.set_counters(alloc, object, less)
         }
         Slot::Nothing | Slot::Dangling => Ok(()),
     }
@@ -79,13 +75,12 @@ pub fn hold_item(alloc: Global, objects: &mut Objects, item: Item) -> Result<(),
     match item {
         Item::Slot(slot) => hold(alloc, objects, slot),
         Item::End(object) => {
-            let kept = objects.at(object)?;
-            let was = kept.counters();
+            let was = objects.counters(object);
             let more = Counters {
                 ends: was.ends + 1,
                 ..was
             };
-            objects.set_counters(alloc, object, kept, more)
+            objects.set_counters(alloc, object, more)
         }
     }
 }
@@ -166,8 +161,9 @@ pub fn let_go_object(alloc: Global, objects: &mut Objects, object: u32) -> Resul
     ensures counts { OnOk result (CountsMore objects.new.counts objects.old.counts (λ w. option_map_or (entry_weight w) (map.get objects.old.entries object) 0)) }
     ensures entries { OnOk result (objects.new.entries ≡ objects.old.entries) }
 {
-    match objects.share_entry(object)? {
-        Some(entry) => let_go_entry(alloc, objects, &entry),
+    let kept = objects.at(object)?;
+    match kept.entry() {
+        Some(entry) => let_go_entry(alloc, objects, entry),
         None => Ok(()),
     }
 }

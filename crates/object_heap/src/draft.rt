@@ -66,8 +66,8 @@ impl Draft {
     {
         self.apply(alloc, changes)?;
         work.clear();
-        self.add_all(alloc, pending, work)?;
         let mut events = Vec::new(alloc);
+        self.begin(alloc, pending, work, &mut events)?;
         self.release(alloc, work, &mut events)?;
         Ok(events)
     }

@@ -1,10 +1,11 @@
 //! What is kept for an object of a heap.
-ghost use Rattle.std.specs.Prelude.{◌≡◌, ◌↔◌, IfOk, IsTrue, Some, None};
+ghost use Rattle.std.specs.Prelude.{◌≡◌, ◌↔◌, ⊤, IfOk, IsTrue, Some, None};
 ghost use Rattle.std.specs.Option.{option_copied, option_map};
 ghost use Rattle.std.specs.Bool.{IsFalse};
 ghost use Rattle.std.specs.Arc.{arc_value};
-ghost use Rattle.object_heap.specs.TableView.{kept_of};
+ghost use Rattle.object_heap.specs.TableView.{are_zero, kept_of};
 
+use share_tree::Update;
 use std::alloc::{AllocError, Global};
 use std::marker::Model;
 use std::sync::Arc;
@@ -17,6 +18,15 @@ pub struct Counters {
     pub strong: u64,
     pub weak: u64,
     pub ends: u64,
+}
+
+impl Counters {
+    /// Whether nothing is counted.
+    pub fn are_zero(self) -> bool
+        ensures { result ≡ are_zero self }
+    {
+        self.strong == 0 && self.weak == 0 && self.ends == 0
+    }
 }
 
 /// What stands for an object, if anything does, and its counters. Contracts see the two.
@@ -89,8 +99,8 @@ impl Object {
         }
     }
 
-    /// What stands for it once more.
-    pub fn share_entry(&self) -> Result<Option<Arc<Entry>>, AllocError>
+    // What stands for it once more.
+    fn share_entry(&self) -> Result<Option<Arc<Entry>>, AllocError>
         ensures { IfOk result (λ e. option_map arc_value e ≡ self.now.0) }
     {
         match &self.entry {
@@ -104,10 +114,7 @@ impl Object {
         ensures kept { IsTrue result → kept_of self.now.0 self.now.1 ≡ Some self.now }
         ensures not_kept { IsFalse result → kept_of self.now.0 self.now.1 ≡ None }
     {
-        self.entry.is_some()
-            || self.counters.strong != 0
-            || self.counters.weak != 0
-            || self.counters.ends != 0
+        self.entry.is_some() || !self.counters.are_zero()
     }
 
     /// How often it is named.
@@ -115,6 +122,21 @@ impl Object {
         ensures { result ≡ self.now.1 }
     {
         self.counters
+    }
+}
+
+/// Counters in the place of an object's own.
+impl Update<Object> for Counters {
+    ghost can = { λ _ _. ⊤ };
+
+    ghost to = { λ counters object. (object.0, counters) };
+
+    fn update(&self, object: &mut Object) {
+        object.counters = *self;
+    }
+
+    fn updated(&self, object: &Object) -> Result<Object, AllocError> {
+        Ok(object.share()?.with_counters(*self))
     }
 }
 

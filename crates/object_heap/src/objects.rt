@@ -1,7 +1,6 @@
 //! The objects of a heap with their counters, and from which rank on they are named by those of higher ranks alone.
 ghost use Rattle.std.specs.Prelude.{◌≡◌, ◌↔◌, true, IfOk, OnOk, OnErr, IsTrue};
-ghost use Rattle.std.specs.Option.{option_copied, option_map};
-ghost use Rattle.std.specs.Arc.{arc_value};
+ghost use Rattle.std.specs.Option.{option_copied};
 ghost use Rattle.std.specs.FinMap as map;
 ghost use Rattle.trace_types.specs.declared.slots.Entry.TheVariants.{Husk};
 ghost use Rattle.object_heap.specs.TableView.{counters_at, AreAlike, AllStand};
@@ -14,7 +13,6 @@ use crate::table::Table;
 use share_tree::ShareTree;
 use std::alloc::{AllocError, Global};
 use std::marker::Model;
-use std::sync::Arc;
 use trace_types::slots::{Entry, Slot};
 
 /// The objects that stand, and how often each is named. Contracts see two finite maps.
@@ -88,14 +86,7 @@ impl Objects {
         self.table.get(object)
     }
 
-    /// What stands for an object, for one who holds it while others change.
-    pub fn share_entry(&self, object: u32) -> Result<Option<Arc<Entry>>, AllocError>
-        ensures { IfOk result (λ e. option_map arc_value e ≡ map.get self.now.entries object) }
-    {
-        self.table.share_entry(object)
-    }
-
-    /// What is kept for an object, to be put back with other counters. It shares what stands, and takes no memory.
+    /// What is kept for an object. It shares what stands, which is there while others change, and takes no memory.
     pub fn at(&self, object: u32) -> Result<Object, AllocError>
         ensures { IfOk result (λ x. x ≡ (map.get self.now.entries object, counters_at (map.get self.now.counts object))) }
     {
@@ -177,19 +168,17 @@ impl Objects {
             .replace(alloc, object, was, Object::named(counters))
     }
 
-    /// Puts an object back with these counters. What stands for it stays.
+    /// An object has these counters from now on. What stands for it stays.
     pub fn set_counters(
         &mut self,
         alloc: Global,
         object: u32,
-        kept: Object,
         counters: Counters,
     ) -> Result<(), AllocError>
-        requires { kept.0 ≡ map.get self.old.entries object }
         ensures set { OnOk result (IsSetAt self.old.counts self.new.counts object counters) }
         ensures entries { self.new.entries ≡ self.old.entries }
     {
-        self.table.set_counters(alloc, object, kept, counters)
+        self.table.set_counters(alloc, object, counters)
     }
 
     /// A rank over those of what the slots name.

@@ -1,7 +1,6 @@
 //! What stands for each object and how often each is named, in one tree.
 ghost use Rattle.std.specs.Prelude.{◌≡◌, ◌↔◌, ℕ, Some, None, IfOk, OnOk, OnErr, IsTrue, ◌==◌, if◌then◌else◌};
-ghost use Rattle.std.specs.Option.{option_copied, option_map};
-ghost use Rattle.std.specs.Arc.{arc_value};
+ghost use Rattle.std.specs.Option.{option_copied};
 ghost use Rattle.std.specs.FinMap as map;
 ghost use Rattle.object_heap.specs.TableView.{counters_at, kept_of, with_entry, AreAlike, AllStand};
 ghost use Rattle.object_heap.specs.Gains.{IsSetAt};
@@ -11,7 +10,6 @@ use crate::weight::{Weigh, scattered};
 use share_tree::ShareTree;
 use std::alloc::{AllocError, Global};
 use std::marker::Model;
-use std::sync::Arc;
 use trace_types::slots::Entry;
 
 // The counters of what is named nowhere.
@@ -78,17 +76,7 @@ impl Table {
         }
     }
 
-    /// What stands for an object, for one who holds it while others change.
-    pub fn share_entry(&self, object: u32) -> Result<Option<Arc<Entry>>, AllocError>
-        ensures { IfOk result (λ e. option_map arc_value e ≡ map.get self.now.entries object) }
-    {
-        match self.kept.get(object) {
-            Some(kept) => kept.share_entry(),
-            None => Ok(None),
-        }
-    }
-
-    /// What is kept for an object, to be put back with other counters. It shares what stands, and takes no memory.
+    /// What is kept for an object. It shares what stands, which is there while others change, and takes no memory.
     pub fn at(&self, object: u32) -> Result<Object, AllocError>
         ensures { IfOk result (λ x. x ≡ (map.get self.now.entries object, counters_at (map.get self.now.counts object))) }
     {
@@ -171,18 +159,34 @@ impl Table {
         Ok(())
     }
 
-    /// Puts an object back with these counters. What stands for it stays.
+    /// An object has these counters from now on. What stands for it stays.
     pub fn set_counters(
         &mut self,
         alloc: Global,
         object: u32,
-        kept: Object,
         counters: Counters,
     ) -> Result<(), AllocError>
-        requires { kept.0 ≡ map.get self.old.entries object }
         ensures set { OnOk result (IsSetAt self.old.counts self.new.counts object counters) }
         ensures entries { self.new.entries ≡ self.old.entries }
     {
+        if !counters.are_zero() && self.kept.update(alloc, object, &counters)? {
+            return Ok(());
+        }
+        self.put_counters(alloc, object, counters)
+    }
+
+    // As `set_counters`, where nothing is kept for the object, or where nothing may be from now on.
+    #[inline(never)]
+    fn put_counters(
+        &mut self,
+        alloc: Global,
+        object: u32,
+        counters: Counters,
+    ) -> Result<(), AllocError>
+        ensures set { OnOk result (IsSetAt self.old.counts self.new.counts object counters) }
+        ensures entries { self.new.entries ≡ self.old.entries }
+    {
+        let kept = self.at(object)?;
         store(alloc, &mut self.kept, object, kept.with_counters(counters))
     }
 

@@ -1,8 +1,8 @@
-use Rattle.std.proofs.Common.{◌≡◌, ◌+◌, arith, ap, ◌∙◌, sym, subst}
+use Rattle.std.proofs.Common.{◌≡◌, ◌+◌, arith, ap, sym, subst}
 use Rattle.std.specs.FinMap.{get}
 use Rattle.trace_types.specs.declared.slots.Item.{Item}
 use Rattle.object_heap.specs.declared.object.Counters.{Counters}
-use Rattle.object_heap.specs.TableView.{Kept, counters_at}
+use Rattle.object_heap.specs.TableView.{counters_at}
 use Rattle.object_heap.specs.Gains.{CountsItem}
 use Rattle.object_heap.proofs.GainLemmas.{on_ok}
 use Rattle.object_heap.proofs.PendingLemmas.{counts_slot, counts_end}
@@ -12,10 +12,10 @@ pub returns-in-Slot-clause-counts : goal.returns-in-Slot-clause-counts
 returns-in-Slot-clause-counts c = on_ok c.hold.result c.hold.ensures.counts (λ has.
     subst (λ (x : Item). CountsItem c.args.objects.now.counts c.hold.new.objects.counts x) (sym c.in-Slot.is) (counts_slot c.args.objects.now.counts c.hold.new.objects.counts c.in-Slot.slot has))
 
-pub returns-in_ok-kept-in-End-clause-counts : goal.returns-in_ok-kept-in-End-clause-counts
-returns-in_ok-kept-in-End-clause-counts c =
+pub returns-in-End-clause-counts : goal.returns-in-End-clause-counts
+returns-in-End-clause-counts c =
     let was = c.counters-was.result in
-    let is : was ≡ counters_at (get c.args.objects.now.counts c.in-End.object) = c.counters-was.ensures ∙ ap (λ (k : Kept). k.1) c.in_ok-kept-in-End.ensures in
+    let is : was ≡ counters_at (get c.args.objects.now.counts c.in-End.object) = c.counters-was.ensures in
     let more : Counters = record { strong = was.strong; weak = was.weak; ends = was.ends + 1 } in
     on_ok c.set_counters.result c.set_counters.ensures.set (λ set.
     subst (λ (x : Item). CountsItem c.args.objects.now.counts c.set_counters.new.self.counts x) (sym c.in-End.is)

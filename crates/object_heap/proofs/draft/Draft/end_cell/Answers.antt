@@ -1,7 +1,4 @@
-use Rattle.std.proofs.Common.{refl, ap}
-use Rattle.std.specs.Ordering.{nat_cmp}
-use Rattle.std.specs.FinMap.{FinMap}
-use Rattle.trace_types.specs.declared.slots.Slot.{Slot}
+use Rattle.std.proofs.Common.{refl}
 use Rattle.trace_types.specs.declared.slots.Change.TheVariants.{EndCell}
 use Rattle.object_heap.specs.declared.draft.Draft.{Draft}
 use Rattle.object_heap.specs.Counted.{drafted}

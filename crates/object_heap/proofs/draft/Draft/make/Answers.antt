@@ -1,6 +1,4 @@
-use Rattle.std.proofs.Common.{◌≡◌, [], refl, ap, ◌∙◌, sym, subst, arith, length, ◌≤◌, List}
-use Rattle.std.specs.Ordering.{nat_cmp}
-use Rattle.std.specs.FinMap.{FinMap}
+use Rattle.std.proofs.Common.{[], refl, ap, ◌∙◌, sym, subst, arith, length, ◌≤◌, List}
 use Rattle.trace_types.specs.declared.slots.Slot.{Slot}
 use Rattle.trace_types.specs.declared.slots.Entry.TheVariants.{Alive}
 use Rattle.trace_types.specs.declared.slots.Change.{Change}

@@ -2,7 +2,7 @@ use Rattle.std.proofs.Common.{◌≡◌, ◌∙◌, [], arith}
 use Rattle.std.proofs.lemmas.Grind.{common_steps}
 use Rattle.ownership_model.specs.Release.{release}
 use Rattle.object_heap.specs.Counted.{drafted}
-use Rattle.object_heap.proofs.DropLemmas.{sound_next, work_next, release_next, release_end}
+use Rattle.object_heap.proofs.ReleaseLemmas.{sound_next, work_next, release_next, release_end}
 use Rattle.object_heap.proofs.draft.Draft.release.Goals as goal
 
 pub loop-item-smaller : goal.loop-item-smaller

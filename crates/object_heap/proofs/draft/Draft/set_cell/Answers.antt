@@ -1,7 +1,4 @@
 use Rattle.std.proofs.Common.{◌≡◌, [], refl, ◌∙◌, arith}
-use Rattle.std.specs.Ordering.{nat_cmp}
-use Rattle.std.specs.FinMap.{FinMap}
-use Rattle.trace_types.specs.declared.slots.Slot.{Slot}
 use Rattle.trace_types.specs.declared.slots.Change.TheVariants.{SetCell}
 use Rattle.trace_types.specs.declared.limits.TheConstants.{MAX_FIELDS}
 use Rattle.object_heap.specs.declared.draft.Draft.{Draft}

@@ -5,7 +5,7 @@ use Rattle.trace_types.specs.declared.slots.Change.TheVariants.{TurnHusk}
 use Rattle.object_heap.specs.declared.draft.Draft.{Draft}
 use Rattle.object_heap.specs.Counted.{drafted}
 use Rattle.object_heap.proofs.ChangeWeights.{gained, lost}
-use Rattle.object_heap.proofs.GainLemmas.{on_ok, no_more, still_more, put_entry, same_more, part_in, lost_in, changes}
+use Rattle.object_heap.proofs.GainLemmas.{on_ok, no_more, still_more, put_entry, lost_in, changes}
 use Rattle.object_heap.proofs.draft.Draft.turn_husk.Goals as goal
 
 pub let_go_object-requires : goal.let_go_object-requires

@@ -2,7 +2,7 @@ use Rattle.std.proofs.Common.{ap, ◌∙◌, refl}
 use Rattle.ownership_model.specs.State.{State}
 use Rattle.ownership_model.specs.Changes.{changed}
 use Rattle.object_heap.specs.Counted.{drafted}
-use Rattle.object_heap.proofs.DropLemmas.{cascades}
+use Rattle.object_heap.proofs.ReleaseLemmas.{cascades}
 use Rattle.object_heap.proofs.NothingLemmas.{kept_nothing}
 use Rattle.object_heap.proofs.heap.Heap.release_on.Goals as goal
 

@@ -1,18 +1,19 @@
-use Rattle.std.proofs.Common.{ap, ◌∙◌}
-use Rattle.std.specs.Ordering.{nat_cmp}
-use Rattle.std.specs.FinMap.{FinMap}
-use Rattle.object_heap.specs.TableView.{TableView, Kept, table_of}
-use Rattle.object_heap.proofs.GainLemmas.{on_ok, either_way}
-use Rattle.object_heap.proofs.TableLemmas.{entries_stay, counters_set}
+use Rattle.std.proofs.Common.{rules, ◌≡◌, ◌∙◌, sym, false}
+use Rattle.object_heap.specs.TableView.{are_zero}
+use Rattle.object_heap.proofs.TableLemmas.{recounted}
 use Rattle.object_heap.proofs.table.Table.set_counters.Goals as goal
 
-pub returns-clause-set : goal.returns-clause-set
-returns-clause-set c =
-    on_ok c.store.result c.store.ensures.ok (λ is.
-    counters_set c.self.inside.kept c.store.new.tree c.args.self.now c.self.view_is c.args.object c.with_counters.result is c.args.counters (ap (λ (k : Kept). k.1) c.with_counters.ensures))
+pub invariant_of-self-then-branch : goal.invariant_of-self-then-branch
+invariant_of-self-then-branch c =
+    let any : are_zero c.args.counters ≡ false = search rules in
+    (recounted c.self.inside.kept c.update.new.self c.args.self.now c.self.view_is c.self.invariant c.args.object c.args.counters any c.in_ok-update.ensures.ok (sym c.in_ok-update.ensures.was ∙ c.if-branch.true)).0
 
-pub returns-clause-entries : goal.returns-clause-entries
-returns-clause-entries c =
-    either_way c.store.result c.store.ensures.ok c.store.ensures.err
-    (λ is. entries_stay c.self.inside.kept c.store.new.tree c.args.self.now c.self.view_is c.args.object c.with_counters.result is (ap (λ (k : Kept). k.0) c.with_counters.ensures ∙ c.requires))
-    (λ same. ap (λ (m : FinMap nat_cmp Kept). (table_of m).entries) same ∙ ap (λ (t : TableView). t.entries) c.self.view_is)
+pub returns-then-branch-clause-set : goal.returns-then-branch-clause-set
+returns-then-branch-clause-set c =
+    let any : are_zero c.args.counters ≡ false = search rules in
+    (recounted c.self.inside.kept c.update.new.self c.args.self.now c.self.view_is c.self.invariant c.args.object c.args.counters any c.in_ok-update.ensures.ok (sym c.in_ok-update.ensures.was ∙ c.if-branch.true)).1.0
+
+pub returns-then-branch-clause-entries : goal.returns-then-branch-clause-entries
+returns-then-branch-clause-entries c =
+    let any : are_zero c.args.counters ≡ false = search rules in
+    (recounted c.self.inside.kept c.update.new.self c.args.self.now c.self.view_is c.self.invariant c.args.object c.args.counters any c.in_ok-update.ensures.ok (sym c.in_ok-update.ensures.was ∙ c.if-branch.true)).1.1
