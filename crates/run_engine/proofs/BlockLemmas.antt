@@ -163,6 +163,10 @@ sound-without (Some x) i [] h = tt
 sound-without (Some x) zero (s ∷ ss) h = (tt, h.1)
 sound-without (Some x) (suc i) (s ∷ ss) h = (h.0, sound-without (Some x) i ss h.1)
 
+pub sound-bare : (x : Option Remains) (ss : List SegmentView) → is_some x ≡ false → AreSoundBelow x ss
+sound-bare None ss bare = tt
+sound-bare (Some x) ss bare = absurd cc
+
 pub laid-part : (x : Option Remains) (a n : ℕ) (ss : List SegmentView) → map (laid_over x) (take n (drop a ss)) ≡ take n (drop a (map (laid_over x) ss))
 laid-part x a n ss = sym (take-map (laid_over x) n (drop a ss)) ∙ ap (take n) (sym (drop-map (laid_over x) a ss))
 

@@ -55,7 +55,7 @@ starts-set at (p ∷ blocks) zero b new lt is long = ap (λ n. at ∷ starts_fro
 starts-set at (p ∷ blocks) (suc i) b new lt is long = ap (λ all. at ∷ all) (starts-set (at + length p) blocks i b new (omega arith) is long)
 
 -- the last block changes
-pub starts-last : (at : ℕ) (blocks : List (List SegmentView)) (i : ℕ) (new : List SegmentView) → i + 1 ≡ length blocks → starts_from at (set blocks i new) ≡ starts_from at blocks
+pub starts-last : {X : Type 0} → (at : ℕ) (blocks : List (List X)) (i : ℕ) (new : List X) → i + 1 ≡ length blocks → starts_from at (set blocks i new) ≡ starts_from at blocks
 starts-last at [] i new last = absurd (omega arith)
 starts-last at (p ∷ []) zero new last = refl
 starts-last at (p ∷ []) (suc i) new last = absurd (omega arith)

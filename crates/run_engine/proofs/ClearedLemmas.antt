@@ -1,6 +1,10 @@
 -- Segments whose checkpoints are given up by name.
 use Rattle.std.proofs.Common.{◌≡◌, ℕ, ◌+◌, ◌<◌, Bool, true, false, cond, nat_lt, zero, suc, take, drop, get_or, add-one, List, [], ◌∷◌, ◌++◌, length, refl, ap, sym, subst, ◌∙◌, arith, append_assoc, length-append, lt-ltb, le-ltb}
 use Rattle.std.specs.Prelude.{◌&&◌, not, filter, Option, Some, None, if◌then◌else◌}
+use Rattle.std.specs.List.{list_any}
+use Rattle.std.specs.Ordering.{nat_cmp}
+use Rattle.std.specs.BTreeMap.{is_at}
+use Rattle.std.specs.BTreeSet.{BTreeSet, btree_set_len, contains}
 use Rattle.std.proofs.lemmas.List.Elements.{filter-append}
 use Rattle.ownership_model.specs.State.{State, nothing_held}
 use Rattle.ownership_model.specs.Step.{end_from}
@@ -12,7 +16,7 @@ use Rattle.run_engine.specs.Cleared.{is_named, cleared_if, last_name, cleared}
 use Rattle.run_engine.proofs.NameLemmas.{last-name}
 use Rattle.run_engine.proofs.BlocksLemmas.{length-without}
 
-ops_of-cleared_if : (goes : Bool) (s : SegmentView) → ops_of (cleared_if goes s) ≡ ops_of s
+pub ops_of-cleared_if : (goes : Bool) (s : SegmentView) → ops_of (cleared_if goes s) ≡ ops_of s
 ops_of-cleared_if true s = refl
 ops_of-cleared_if false s = refl
 
@@ -126,3 +130,17 @@ pub cleared-next : (named : ℕ → Bool) (before after : Option ℕ) (b : Bool)
 cleared-next named before after b ss new i s is lt new-is at after-is =
     (λ j. take (add-one i j) (new-is j) ++ cleared named (after-is j) (drop (add-one i j) (new-is j)))
     ∙ next-cleared named before b ss i s is lt (at ∙ ap (λ all. get_or all i s) new-is)
+
+-- where there is no name every checkpoint stays
+pub cleared-none : (named : ℕ → Bool) (before : Option ℕ) (segments : List SegmentView) → ((id : ℕ) → named id ≡ false) → cleared named before segments ≡ segments
+cleared-none named before [] none = refl
+cleared-none named None (s ∷ segments) none = ap (λ more. s ∷ more) (cleared-none named (last_name (ops_of s)) segments none)
+cleared-none named (Some id) (s ∷ segments) none = (λ j. cleared_if (none id j) s ∷ cleared named (last_name (ops_of s)) segments) ∙ ap (λ more. s ∷ more) (cleared-none named (last_name (ops_of s)) segments none)
+
+any-none : (test : ℕ → Bool) (ids : List ℕ) → length ids ≡ 0 → list_any test ids ≡ false
+any-none test [] none = refl
+any-none test (id ∷ ids) none = absurd (omega arith)
+
+-- a set without names has no name
+pub nothing-named : (names : BTreeSet ℕ) → btree_set_len names ≡ 0 → (id : ℕ) → contains nat_cmp names id ≡ false
+nothing-named names none id = any-none (λ k. is_at (nat_cmp id) k) names.keys none

@@ -1,18 +1,16 @@
 -- A checkpoint that is given up.
-use Rattle.std.proofs.Common.{◌≡◌, ◌≢◌, ℕ, ◌+◌, ◌<◌, ◌≤◌, suc, zero, Bool, true, false, cond, nat_eq, eq-eqb, List, [], ◌∷◌, ◌++◌, length, take, drop, get_or, refl, ap, sym, subst, ◌∙◌, arith, length-append}
+use Rattle.std.proofs.Common.{◌≡◌, ◌≢◌, ℕ, ◌+◌, ◌<◌, ◌≤◌, suc, zero, Bool, true, false, cond, nat_eq, eq-eqb, List, [], ◌∷◌, ◌++◌, length, take, get_or, refl, ap, sym, subst, ◌∙◌, arith, length-append}
 use Rattle.std.specs.Prelude.{Some, None, Option, is_some, Contains, not, ◌↔◌, if◌then◌else◌}
 use mathlib.Core.Logic.{⊎_elim}
 use Rattle.std.proofs.lemmas.Bool.{ne_eqb}
-use Rattle.std.proofs.lemmas.List.{drop_all}
 use Rattle.std.proofs.lemmas.List.Elements.{filter-append, Contains-append_cases, Contains-append_left, Contains-append_right}
 use Rattle.ownership_model.specs.State.{State, nothing_held}
 use Rattle.ownership_model.specs.Step.{end_from}
 use Rattle.run_engine.specs.SegmentView.{SegmentView}
 use Rattle.run_engine.specs.Segments.{ops_of, trace_of, mark_here, marks_from, all_marks, AreFull, BeginsMarked, IsKept, IsInner, IsNoMark, has_mark, without, without_mark}
 use Rattle.run_engine.proofs.SegmentLemmas.{trace_of-without_mark, AreReplayFrom-without_mark}
-use Rattle.run_engine.proofs.ListingLemmas.{around}
 use Rattle.run_engine.proofs.PieceLemmas.{is_some-none}
-use Rattle.run_engine.proofs.PlaceLemmas.{Contains-one, Contains-none, mark_here-place, mark_here-some, marks_from-least}
+use Rattle.run_engine.proofs.PlaceLemmas.{Contains-one, mark_here-place, mark_here-some, marks_from-least}
 
 without-here : (p at : ℕ) (o : Option State) → at ≢ p → without p (mark_here at o) ≡ mark_here at o
 without-here p at None ne = refl
@@ -121,18 +119,6 @@ pub has_mark-at : (segments : List SegmentView) (i : ℕ) (s : SegmentView) → 
 has_mark-at [] i s lt is = absurd (omega arith)
 has_mark-at (t ∷ segments) zero s lt is = ap (λ (u : SegmentView). is_some u.mark) (sym is)
 has_mark-at (t ∷ segments) (suc i) s lt is = has_mark-at segments i s (omega arith) is
-
--- a checkpoint at p stands behind the segment i, which begins elsewhere
-pub mark-later : (segments : List SegmentView) (i at p : ℕ) (s : SegmentView) → i < length segments → s ≡ get_or segments i s → at ≢ p
-    → Contains (marks_from at (drop i segments)) p → Contains (marks_from (at + length s.ops) (drop (i + 1) segments)) p
-mark-later segments i at p s lt is ne h = ⊎_elim (λ x. absurd (ne (sym (mark_here-place at p s.mark x)))) (λ x. x)
-    (Contains-append_cases (mark_here at s.mark) (marks_from (at + length s.ops) (drop (i + 1) segments)) p (subst (λ ss. Contains (marks_from at ss) p) (around segments i s lt is) h))
-
-pub no-mark-past : (segments : List SegmentView) (i at p : ℕ) → p < at → Contains (marks_from at (drop i segments)) p → ⊥
-no-mark-past segments i at p lt h = let le : at ≤ p = marks_from-least at (drop i segments) p h in omega arith
-
-pub no-mark-end : (segments : List SegmentView) (i at p : ℕ) → length segments ≤ i → Contains (marks_from at (drop i segments)) p → ⊥
-no-mark-end segments i at p le h = Contains-none p (subst (λ ss. Contains (marks_from at ss) p) (drop_all i segments le) h)
 
 pub IsInner-none : (segments : List SegmentView) (p : ℕ) → IsNoMark segments p → IsInner (all_marks segments) (length (trace_of segments)) p → ⊥
 IsInner-none segments p away h = away (⊎_elim (λ x. x) (λ x. let b = h.before in let c : length (trace_of segments) ≡ p = Contains-one _ p x in absurd (omega arith)) (Contains-append_cases (marks_from 0 segments) (length (trace_of segments) ∷ []) p h.mark))

@@ -23,6 +23,9 @@ mod GoneLemmas
 mod ClearedLemmas
 mod BlockLemmas
 mod BlocksLemmas
+mod MeasureLemmas
+mod PositionLemmas
+mod SeekLemmas
 mod AnsweredLemmas
 mod OnwardLemmas
 mod GoesOnLemmas

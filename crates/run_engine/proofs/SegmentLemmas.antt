@@ -1,5 +1,5 @@
 -- Segments one after another.
-use Rattle.std.proofs.Common.{◌≡◌, ℕ, ◌+◌, ◌<◌, ◌≤◌, suc, zero, ◌-◌, get_or, set, drop-cons, add-one, List, [], ◌∷◌, ◌++◌, length, take, drop, refl, ap, sym, subst, ◌∙◌, arith, append_assoc, length-append, add-zero}
+use Rattle.std.proofs.Common.{◌≡◌, ℕ, ◌+◌, ◌<◌, ◌≤◌, suc, zero, ◌-◌, get_or, set, drop-cons, List, [], ◌∷◌, ◌++◌, length, take, drop, refl, ap, sym, subst, ◌∙◌, arith, append_assoc, length-append, add-zero}
 use Rattle.std.specs.Prelude.{None, slice_get}
 use Rattle.std.proofs.Math.Nat.{sub-zero}
 use Rattle.std.proofs.lemmas.List.{append-nil, take_more}
@@ -45,7 +45,7 @@ slice_get-append_left [] ys i h = absurd (omega arith)
 slice_get-append_left (x ∷ xs) ys zero h = refl
 slice_get-append_left (x ∷ xs) ys (suc i) h = slice_get-append_left xs ys i (omega arith)
 
-slice_get-append_right : {X : Type 0} (xs ys : List X) (i : ℕ) → length xs ≤ i → slice_get (xs ++ ys) i ≡ slice_get ys (i - length xs)
+pub slice_get-append_right : {X : Type 0} (xs ys : List X) (i : ℕ) → length xs ≤ i → slice_get (xs ++ ys) i ≡ slice_get ys (i - length xs)
 slice_get-append_right [] ys i h = ap (slice_get ys) (sym (sub-zero i))
 slice_get-append_right (x ∷ xs) ys zero h = absurd (omega arith)
 slice_get-append_right (x ∷ xs) ys (suc i) h = slice_get-append_right xs ys i (omega arith) ∙ ap (slice_get ys) (omega arith)
@@ -55,12 +55,6 @@ pub outcome-here : (segments : List SegmentView) (j rest : ℕ) (s : SegmentView
 outcome-here segments j rest s h is lt =
     ap (λ ss. slice_get (outcomes_in ss) rest) (drop-cons segments j s h ∙ ap (λ t. t ∷ drop (suc j) segments) (sym is))
     ∙ slice_get-append_left s.outcomes (outcomes_in (drop (suc j) segments)) rest lt
-
-pub outcome-next : (segments : List SegmentView) (j rest : ℕ) (s : SegmentView) → j < length segments → s ≡ get_or segments j s → length s.outcomes ≤ rest → slice_get (outcomes_in (drop j segments)) rest ≡ slice_get (outcomes_in (drop (j + 1) segments)) (rest - length s.outcomes)
-outcome-next segments j rest s h is le =
-    ap (λ ss. slice_get (outcomes_in ss) rest) (drop-cons segments j s h ∙ ap (λ t. t ∷ drop (suc j) segments) (sym is))
-    ∙ slice_get-append_right s.outcomes (outcomes_in (drop (suc j) segments)) rest le
-    ∙ ap (λ n. slice_get (outcomes_in (drop n segments)) (rest - length s.outcomes)) (sym (add-one j))
 
 pub trace_of-without_mark : (segments : List SegmentView) (i : ℕ) → trace_of (without_mark segments i) ≡ trace_of segments
 trace_of-without_mark [] i = refl
@@ -99,18 +93,6 @@ outcomes_in-next segments j s h is =
     ap outcomes_in (take_more segments j s h ∙ ap (λ t. take j segments ++ t ∷ []) (sym is))
     ∙ outcomes_in-append (take j segments) (s ∷ [])
     ∙ ap (λ os. outcomes_in (take j segments) ++ os) (append-nil s.outcomes)
-
--- the operation at a place, where the loop stands at segment j
-pub op-here : (segments : List SegmentView) (j rest : ℕ) (s : SegmentView) → j < length segments → s ≡ get_or segments j s → rest < length (ops_of s) → slice_get (trace_of (drop j segments)) rest ≡ slice_get (ops_of s) rest
-op-here segments j rest s h is lt =
-    ap (λ ss. slice_get (trace_of ss) rest) (drop-cons segments j s h ∙ ap (λ t. t ∷ drop (suc j) segments) (sym is))
-    ∙ slice_get-append_left (ops_of s) (trace_of (drop (suc j) segments)) rest lt
-
-pub op-next : (segments : List SegmentView) (j rest : ℕ) (s : SegmentView) → j < length segments → s ≡ get_or segments j s → length (ops_of s) ≤ rest → slice_get (trace_of (drop j segments)) rest ≡ slice_get (trace_of (drop (j + 1) segments)) (rest - length (ops_of s))
-op-next segments j rest s h is le =
-    ap (λ ss. slice_get (trace_of ss) rest) (drop-cons segments j s h ∙ ap (λ t. t ∷ drop (suc j) segments) (sym is))
-    ∙ slice_get-append_right (ops_of s) (trace_of (drop (suc j) segments)) rest le
-    ∙ ap (λ n. slice_get (trace_of (drop n segments)) (rest - length (ops_of s))) (sym (add-one j))
 
 -- a segment of a replay has as many outcomes as operations
 pub even_at : (m : State) (segments : List SegmentView) (j : ℕ) (s : SegmentView) → AreReplayFrom m segments → j < length segments → s ≡ get_or segments j s → length s.outcomes ≡ length s.ops

@@ -2,11 +2,10 @@
 use Rattle.std.proofs.Common.{◌≡◌, ℕ, suc, zero, ◌+◌, ◌-◌, ◌<◌, ◌≤◌, List, [], ◌∷◌, ◌++◌, length, take, get_or, map, refl, ap, sym, subst, ◌∙◌, arith, length-append}
 use mathlib.Core.Logic.{⊎_elim}
 use Rattle.std.proofs.lemmas.Bool.{cases_lt}
-use Rattle.std.proofs.lemmas.List.{take_all, take_more, take-map, map-append, length-map}
+use Rattle.std.proofs.lemmas.List.{take_all}
 use Rattle.run_engine.specs.Parts.{joined, starts_from, IsPartAt}
 use Rattle.run_engine.specs.SegmentView.{SegmentView}
 use Rattle.run_engine.specs.Segments.{ops_of, trace_of}
-use Rattle.run_engine.specs.Revision.{IsLastFrom}
 use Rattle.run_engine.proofs.ListingLemmas.{take-shorter}
 use Rattle.run_engine.proofs.PartLemmas.{joined-few}
 
@@ -38,11 +37,6 @@ starts-more at [] p = ap (λ n. n ∷ []) (omega arith)
 starts-more at (q ∷ parts) p =
     let place : at + length q + length (joined parts) ≡ at + length (q ++ joined parts) = omega (arith, length-append q (joined parts)) in
     ap (λ ss. at ∷ ss) (starts-more (at + length q) parts p ∙ ap (λ n. starts_from (at + length q) parts ++ n ∷ []) place)
-
-pub starts-next : {X : Type 0} → (parts : List (List X)) (i at : ℕ) (p : List X) → i < length parts → p ≡ get_or parts i p → at ≡ length (joined (take i parts)) → starts_from 0 (take (i + 1) parts) ≡ starts_from 0 (take i parts) ++ at ∷ []
-starts-next parts i at p lt is here =
-    let place : 0 + length (joined (take i parts)) ≡ at = omega (arith, here) in
-    ap (starts_from 0) (take_more parts i p lt ∙ ap (λ q. take i parts ++ q ∷ []) (sym is)) ∙ starts-more 0 (take i parts) p ∙ ap (λ n. starts_from 0 (take i parts) ++ n ∷ []) place
 
 -- the last of the parts that begin at or before a place has it
 pub last-begun : {X : Type 0} → (parts : List (List X)) (starts : List ℕ) (place begun : ℕ) → starts ≡ starts_from 0 parts → 0 < begun → begun ≤ length starts
@@ -86,40 +80,6 @@ rest-in-part parts starts place i is h =
     (omega arith, omega arith)
 
 -- the operations of segments are those of parts
-joined-ops : (segments : List SegmentView) → joined (map ops_of segments) ≡ trace_of segments
+pub joined-ops : (segments : List SegmentView) → joined (map ops_of segments) ≡ trace_of segments
 joined-ops [] = refl
 joined-ops (s ∷ segments) = ap (λ ops. ops_of s ++ ops) (joined-ops segments)
-
--- where one segment more begins
-pub segment-starts-next : (segments : List SegmentView) (i at : ℕ) (s : SegmentView) → i < length segments → s ≡ get_or segments i s → at ≡ length (trace_of (take i segments))
-    → starts_from 0 (map ops_of (take (i + 1) segments)) ≡ starts_from 0 (map ops_of (take i segments)) ++ at ∷ []
-segment-starts-next segments i at s lt is here =
-    let place : 0 + length (joined (map ops_of (take i segments))) ≡ at = omega (arith, here, ap length (joined-ops (take i segments))) in
-    ap (λ ss. starts_from 0 (map ops_of ss)) (take_more segments i s lt ∙ ap (λ t. take i segments ++ t ∷ []) (sym is))
-    ∙ ap (starts_from 0) (map-append ops_of (take i segments) (s ∷ []))
-    ∙ starts-more 0 (map ops_of (take i segments)) (ops_of s) ∙ ap (λ n. starts_from 0 (map ops_of (take i segments)) ++ n ∷ []) place
-
--- the segment of a part that begins at or before a position
-pub last-from : (segments : List SegmentView) (starts : List ℕ) (position i d : ℕ) → starts ≡ starts_from 0 (map ops_of segments) → IsPartAt (map ops_of segments) position i → IsLastFrom segments position i (get_or starts i d)
-last-from segments starts position i d is h =
-    let within = h.within in
-    let lt : i < length segments = omega (arith, length-map segments ops_of) in
-    let here : get_or starts i d ≡ 0 + length (joined (take i (map ops_of segments))) = ap (λ ss. get_or ss i d) is ∙ start-is 0 (map ops_of segments) i d (omega (arith, length-map segments ops_of)) in
-    let long : (n : ℕ) → length (joined (take n (map ops_of segments))) ≡ length (trace_of (take n segments)) = λ n. ap (λ ps. length (joined ps)) (take-map ops_of n segments) ∙ ap length (joined-ops (take n segments)) in
-    let before = h.before in
-    record {
-      within = omega arith;
-      place = sym (long i) ∙ omega arith;
-      before = omega arith;
-      inside = λ more. (lt, subst (λ n. position < n) (long (i + 1)) (h.inside (omega (arith, ap length (joined-ops segments)))));
-    }
-
-pub starts-as-many : (segments : List SegmentView) (starts : List ℕ) → starts ≡ starts_from 0 (map ops_of segments) → length starts ≡ length segments
-starts-as-many segments starts is = ap length is ∙ starts-long 0 (map ops_of segments) ∙ length-map segments ops_of
-
--- where a segment begins
-pub segment-start : (segments : List SegmentView) (starts : List ℕ) (i d : ℕ) → starts ≡ starts_from 0 (map ops_of segments) → i < length segments → length (trace_of (take i segments)) ≡ get_or starts i d
-segment-start segments starts i d is lt =
-    let here : get_or starts i d ≡ 0 + length (joined (take i (map ops_of segments))) = ap (λ ss. get_or ss i d) is ∙ start-is 0 (map ops_of segments) i d (omega (arith, length-map segments ops_of)) in
-    let long : length (joined (take i (map ops_of segments))) ≡ length (trace_of (take i segments)) = ap (λ ps. length (joined ps)) (take-map ops_of i segments) ∙ ap length (joined-ops (take i segments)) in
-    omega arith

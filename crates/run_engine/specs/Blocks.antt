@@ -1,10 +1,13 @@
 -- Segments of a run in blocks, over which something is laid (for private functions alone).
-use Rattle.std.specs.Prelude.{◌≡◌, ℕ, take, drop, Bool, List, [], ◌∷◌, Option, Some, None, IfSome}
+use Rattle.std.specs.Prelude.{◌≡◌, ℕ, ◌≤◌, length, take, drop, Bool, List, [], ◌∷◌, Option, Some, None, IfSome}
 use Rattle.std.specs.List.{AllByRecursion}
 use Rattle.ownership_model.specs.State.{State, IsSound}
 use Rattle.ownership_model.specs.Patch.{Remains, patched, AreThere}
 use Rattle.agreement.specs.Laid.{with_laid}
+use Rattle.trace_types.specs.declared.limits.TheConstants.{MAX_OPS}
 use Rattle.run_engine.specs.SegmentView.{SegmentView}
+use Rattle.run_engine.specs.Segments.{trace_of}
+use Rattle.run_engine.specs.Parts.{AreBetween}
 use Rattle.run_engine.specs.Cleared.{cleared_if}
 use Rattle.run_engine.specs.Exchanged.{exchanged}
 
@@ -35,3 +38,9 @@ standing gone from len segments = take len (drop from (left gone segments))
 -- where what is to go of the remains is there, the exchange is what is laid over a state, and then the remains
 abbrev pub IsBoth : Option Remains → Remains → Remains → Type 0
 IsBoth laid x both = (m : State) → AreThere (with_laid laid m) x → patched m both ≡ patched (with_laid laid m) x
+
+-- the segments have so many operations, no more than a trace, whose numbers are within bounds
+pub record AreMeasured (segments : List SegmentView) (ops least greatest : ℕ) : Type 0 where
+  pub ops_are : ops ≡ length (trace_of segments)
+  pub few : ops ≤ MAX_OPS
+  pub between : AreBetween least greatest (trace_of segments)

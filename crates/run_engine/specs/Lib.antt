@@ -1,4 +1,5 @@
 pub mod Edited
+pub mod Sources
 pub mod Parts
 pub mod Spans
 pub mod ListingView

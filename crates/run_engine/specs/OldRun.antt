@@ -1,7 +1,9 @@
 -- What a revision has beside each other: an old run, and the operations that replace its own (for private functions alone).
-use Rattle.std.specs.Prelude.{ℕ, List}
+use Rattle.std.specs.Prelude.{ℕ, List, drop}
 use Rattle.trace_types.specs.Operation.{Operation}
+use Rattle.run_engine.specs.declared.replay.rejoin.Rest.{Rest}
 use Rattle.run_engine.specs.declared.replay.revision.Revision.{Revision}
+use Rattle.run_engine.specs.SegmentView.{SegmentView}
 use Rattle.run_engine.specs.Segments.{trace_of, all_marks}
 
 -- the operations of the old run
@@ -15,3 +17,7 @@ old_marks r = all_marks r.segments.now
 -- the operations that replace its own
 abbrev pub new_trace : Revision → List Operation
 new_trace r = r.ops.now.ops
+
+-- the segments of the rest of an old run
+abbrev pub rest_of : Rest → List SegmentView
+rest_of r = drop r.from r.segments.now

@@ -1,6 +1,6 @@
 -- What is true of a revision has one proof at most, as a ghost field needs it.
-use Rattle.std.specs.Prelude.{◌≡◌, ℕ, List, [], ◌∷◌, Option, None, Some, is_some, true, refl, IfSome}
-use Rattle.std.specs.Coded.{Coded-set, coded_bool, coded_ℕ, coded_list, ×_prop, Unit-prop, le_prop}
+use Rattle.std.specs.Prelude.{◌≡◌, List, [], ◌∷◌, Option, None, Some, is_some, true, refl, IfSome}
+use Rattle.std.specs.Coded.{Coded-set, coded_bool, coded_list, ×_prop, Unit-prop, le_prop}
 use Rattle.trace_types.specs.Operation.{Operation}
 use Rattle.trace_types.specs.Trace.{IsTrace}
 use Rattle.trace_types.specs.contracts.ops.Op as op
@@ -64,10 +64,9 @@ IsKept-prop segments end x y = λ i. record {
 }
 
 -- and so what is true of each revision
-pub IsRevision-prop : (segments : List SegmentView) (starts : List ℕ) (end : State) (ops : ListingView) → IsProp (IsRevision segments starts end ops)
-IsRevision-prop segments starts end ops x y = λ i. record {
+pub IsRevision-prop : (segments : List SegmentView) (end : State) (ops : ListingView) → IsProp (IsRevision segments end ops)
+IsRevision-prop segments end ops x y = λ i. record {
   kept = IsKept-prop segments end x.kept y.kept i;
-  starts_are = Coded-set (coded_list coded_ℕ) _ _ x.starts_are y.starts_are i;
   base = Coded-set (coded_list op.the_row.coded) _ _ x.base y.base i;
   trace = IsTrace-prop ops.ops x.trace y.trace i;
 }

@@ -128,3 +128,10 @@ without p marks = filter (λ q. not (nat_eq q p)) marks
 -- no checkpoint of the segments stands at p
 abbrev pub IsNoMark : List SegmentView → ℕ → Type 0
 IsNoMark segments p = Contains (marks_from 0 segments) p → ⊥
+
+-- the segment at i begins at `at`, at or before a position, and has it, where it isn't behind all
+pub record IsLastFrom (segments : List SegmentView) (position i at : ℕ) : Type 0 where
+  pub within : i ≤ length segments
+  pub place : length (trace_of (take i segments)) ≡ at
+  pub before : at ≤ position
+  pub inside : position < length (trace_of segments) → (i < length segments) × (position < length (trace_of (take (i + 1) segments)))

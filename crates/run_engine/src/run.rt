@@ -21,11 +21,12 @@ ghost use Rattle.run_engine.specs.Steps.{AreRising, AreSteppedFrom};
 use crate::editing::edits::{copied, edited, try_size};
 use crate::editing::faults::RunFault;
 use crate::editing::listing::Listing;
+use crate::editing::original::Original;
 use crate::replay::loading::{given_up_in, loaded};
 use crate::replay::restart::resumed;
 use crate::replay::touching::remember_all;
 use crate::segments::blocks::Segments;
-use crate::segments::contents::{len_in, marks_in, ops_in, outcomes_in, stretches_in};
+use crate::segments::contents::{marks_in, outcomes_in, stretches_in};
 use crate::segments::names::clear_named;
 use crate::segments::seek::{op_at, outcome_at, segment_at};
 use mark_shelf::MarkShelf;
@@ -143,7 +144,7 @@ impl Run {
         ensures never_less { meter.old ≤ meter.new }
     {
         try_size(batch.len())?;
-        let original = ops_in(alloc, &self.segments)?;
+        let original = Original::of_segments(&self.segments);
         let listed = Listing::of(alloc, original)?;
         let ops = edited(listed, batch.as_slice())?;
         let replay = resumed(alloc, &self.segments, &self.end, &ops, shelf, meter)?;
@@ -198,7 +199,7 @@ impl Run {
     pub fn len(&self) -> usize
         ensures { result ≡ length self.now.trace }
     {
-        len_in(&self.segments)
+        self.segments.ops_len()
     }
 
     /// The operation at a place, from 0.
@@ -227,7 +228,7 @@ impl Run {
     pub fn trace(&self, alloc: Global) -> Result<Trace, AllocError>
         ensures { IfOk result (λ t. t ≡ self.now.trace) }
     {
-        let original = ops_in(alloc, &self.segments)?;
+        let original = Original::of_segments(&self.segments);
         let ops = Listing::of(alloc, original)?;
         copied(alloc, &ops)
     }

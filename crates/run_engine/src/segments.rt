@@ -1,11 +1,14 @@
 //! The segments of runs: operations with their outcomes, and heaps where some of them begin.
 pub mod block;
+pub mod block_list;
 pub mod blocks;
+pub mod bounds;
 pub mod contents;
 pub mod gone;
+pub mod laid;
 pub mod names;
-pub mod part;
 pub mod seek;
 pub mod segment;
 pub mod standing;
 pub mod starts;
+pub mod walk;

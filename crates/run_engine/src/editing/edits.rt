@@ -7,15 +7,11 @@ ghost use Rattle.run_engine.specs.Edited.{place_after, inserted, removed, change
 use crate::editing::faults::RunFault;
 use crate::editing::listing::Listing;
 use crate::editing::original::Original;
-use crate::segments::part::{Part, bounds_of};
 use std::alloc::{AllocError, Global};
 use trace_types::edits::{Batch, Edit};
 use trace_types::limits::{MAX_EDITS, MAX_OPS};
 use trace_types::ops::Op;
 use trace_types::trace::Trace;
-
-// How many operations a part of a whole trace has, but for the last one.
-const PART: usize = 64;
 
 /// The trace after the edits. The size of the batch is tried first, which takes no memory. Then the edits are tried in
 /// order, each on the result of those before it.
@@ -26,25 +22,9 @@ pub fn apply(alloc: Global, trace: &Trace, batch: &Batch) -> Result<Trace, RunFa
     ensures too_many { MAX_EDITS < length batch.now → result ≡ Err TooManyEdits }
 {
     try_size(batch.len())?;
-    let ops = Listing::of(alloc, parted(alloc, trace.as_slice())?)?;
+    let ops = Listing::of(alloc, Original::of_trace(trace))?;
     let ops = edited(ops, batch.as_slice())?;
     Ok(copied(alloc, &ops)?)
-}
-
-// The operations, where they stand, in parts.
-fn parted<'a>(alloc: Global, all: &'a [Op]) -> Result<Original<'a>, AllocError>
-    requires { length all.now ≤ MAX_OPS }
-    ensures { IfOk result (λ l. l ≡ all.now) }
-{
-    let mut parts = Vec::with_capacity(alloc, all.len() / PART + 1)?;
-    let mut at = 0;
-    while at < all.len() {
-        let to = at + (all.len() - at).min(PART);
-        let ops = &all[at..to];
-        parts.push(Part::new(ops, bounds_of(ops)))?;
-        at = to;
-    }
-    Original::of(alloc, parts)
 }
 
 /// Whether a batch may have so many edits.

@@ -1,20 +1,26 @@
 //! The operations that edits begin with, where they stand.
-ghost use Rattle.std.specs.Prelude.{◌≡◌, ◌<◌, ◌≤◌, length, take, drop, IfOk, slice_index_or};
-ghost use Rattle.trace_types.specs.Trace.{place_of};
-ghost use Rattle.run_engine.specs.Parts.{joined};
+ghost use Rattle.std.specs.Prelude.{◌≡◌, ◌<◌, ◌≤◌, length, take, drop, slice_index_or};
+ghost use Rattle.trace_types.specs.Trace.{IsTrace, place_of};
+ghost use Rattle.run_engine.specs.Segments.{trace_of};
 
-use crate::segments::part::Part;
-use crate::segments::starts::part_at;
-use std::alloc::{AllocError, Global};
+use crate::segments::blocks::Segments;
+use crate::segments::seek::ops_from;
 use std::marker::Model;
 use trace_types::limits::MAX_OPS;
 use trace_types::ops::Op;
+use trace_types::trace::Trace;
 
-/// The operations that edits begin with, in parts that stand elsewhere. Contracts see the list of the operations.
+/// What has the operations that edits begin with: a trace, or a run's segments.
+#[derive(Clone, Copy)]
+pub enum Source<'a> {
+    Trace(&'a Trace),
+    Segments(&'a Segments),
+}
+
+/// The operations that edits begin with, where they stand. Contracts see the list of the operations.
 #[derive(Drop)]
 pub struct Original<'a> {
-    parts: Vec<Part<'a>>,
-    starts: Vec<usize>,
+    source: Source<'a>,
     len: usize,
 }
 
@@ -22,30 +28,35 @@ impl<'a> Model for Original<'a> {
     ghost use Rattle.std.specs.Prelude.{◌≡◌, ◌≤◌, List, length};
     ghost use Rattle.trace_types.specs.Operation.{Operation};
     ghost use Rattle.trace_types.specs.declared.limits.TheConstants.{MAX_OPS};
-    ghost use Rattle.run_engine.specs.Parts.{joined, starts_from};
+    ghost use Rattle.run_engine.specs.Sources.{source_ops};
 
     ghost Value = { List Operation };
 
-    ghost view = { λ o. joined o.parts.items };
+    ghost view = { λ o. source_ops o.source };
 
-    ghost invariant = { λ o.
-        (o.len ≡ length (joined o.parts.items)) × (o.len ≤ MAX_OPS) ×
-        (o.starts.items ≡ starts_from 0 o.parts.items) };
+    ghost invariant = { λ o. (o.len ≡ length (source_ops o.source)) × (o.len ≤ MAX_OPS) };
 }
 
 impl<'a> Original<'a> {
-    /// The operations of all parts.
-    pub fn of(alloc: Global, parts: Vec<Part<'a>>) -> Result<Self, AllocError>
-        requires { length (joined parts.items) ≤ MAX_OPS }
-        ensures { IfOk result (λ o. o ≡ joined parts.entry.items) }
+    /// The operations of a trace. By its clauses a caller knows that they are one.
+    pub fn of_trace(trace: &'a Trace) -> Self
+        ensures value { result ≡ trace.entry.now }
+        ensures is_trace { IsTrace trace.entry.now }
     {
-        let mut starts = Vec::with_capacity(alloc, parts.len())?;
-        let mut len = 0;
-        for part in parts.as_slice() {
-            starts.push(len)?;
-            len += part.ops().len();
+        Original {
+            source: Source::Trace(trace),
+            len: trace.len(),
         }
-        Ok(Original { parts, starts, len })
+    }
+
+    /// The operations of a run's segments.
+    pub fn of_segments(segments: &'a Segments) -> Self
+        ensures { result ≡ trace_of segments.entry.now }
+    {
+        Original {
+            source: Source::Segments(segments),
+            len: segments.ops_len(),
+        }
     }
 
     /// How many operations there are.
@@ -61,16 +72,10 @@ impl<'a> Original<'a> {
         ensures some { place < length self.now → 0 < length result.now }
         ensures ops { result.now ≡ take (length result.now) (drop place self.now) }
     {
-        let starts = self.starts.as_slice();
-        let Some(i) = part_at(starts, place) else {
-            return &[];
-        };
-        let ops = self.parts[i].ops();
-        let rest = place - starts[i];
-        if rest < ops.len() {
-            return &ops[rest..];
+        match &self.source {
+            Source::Trace(trace) => ops_behind(trace.as_slice(), place),
+            Source::Segments(segments) => ops_from(segments, place),
         }
-        &[]
     }
 
     /// The operation at a place.
@@ -86,14 +91,20 @@ impl<'a> Original<'a> {
     pub fn place(&self, id: u32) -> Option<usize>
         ensures { result ≡ place_of id self.now }
     {
-        let parts = self.parts.as_slice();
-        let mut at = 0;
-        for part in parts {
-            if let Some(place) = part.place(id) {
-                return Some(at + place);
-            }
-            at += part.ops().len();
+        match &self.source {
+            Source::Trace(trace) => trace.place(id),
+            Source::Segments(segments) => segments.place(id),
         }
-        None
     }
+}
+
+// The operations from a place on, if it is one.
+fn ops_behind(ops: &[Op], place: usize) -> &[Op]
+    ensures some { place < length ops.now → 0 < length result.now }
+    ensures ops { result.now ≡ take (length result.now) (drop place ops.now) }
+{
+    if place >= ops.len() {
+        return &[];
+    }
+    &ops[place..]
 }

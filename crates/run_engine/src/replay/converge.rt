@@ -14,7 +14,7 @@ ghost use Rattle.run_engine.specs.GoesOn.{MayGoOn, GoesOnBeside};
 
 use crate::replay::ahead::go_ahead;
 use crate::replay::piece::{Piece, STRIDE, found, joined, stepped};
-use crate::replay::rejoin::rejoined;
+use crate::replay::rejoin::{Rest, rejoined};
 use crate::replay::revision::Revision;
 use crate::replay::stretch::{may_begin, old_stretch};
 use crate::replay::touching::touch_at;
@@ -199,7 +199,7 @@ pub fn converge(
 {
     let old = revision.segments;
     let mut front = front;
-    let (first, mut at) = revision.last_from(seam.old);
+    let (first, mut at) = old.last_from(seam.old);
     let mut seen = None;
     for i in first..old.len() {
         let segment = old.at(i);
@@ -210,7 +210,12 @@ pub fn converge(
                     open: seam.new,
                 };
                 front = advance(alloc, revision, front, leg, shelf, meter)?;
-                let found = rejoined(alloc, &front.end, &mark, old, i, revision.end, &mut seen)?;
+                let rest = Rest {
+                    segments: old,
+                    from: i,
+                    end: revision.end,
+                };
+                let found = rejoined(alloc, &front.end, &mark, &rest, &mut seen)?;
                 if let Some((rest, end)) = found {
                     touch_at(revision.ops, front.len, shelf, &mut front.gone)?;
                     let len = revision.ops.len();

@@ -41,14 +41,14 @@ fn greatest_mark(alloc: Global, revision: &Revision, head: usize) -> Result<Rest
             heap: revision.end.share()?,
         });
     }
-    let (last, _) = revision.last_from(head);
+    let (last, _) = old.last_from(head);
     let mut i = last + 1;
     while i > 0 {
         i -= 1;
         if let Some(mark) = old.at(i).mark() {
             return Ok(Restart {
                 index: i,
-                at: revision.starts[i],
+                at: old.position(i),
                 heap: mark.heap(alloc)?,
             });
         }
@@ -107,7 +107,7 @@ pub fn resumed(
 {
     let first = head(ops);
     let last = tail(ops, first);
-    let revision = Revision::of(alloc, segments, end, ops)?;
+    let revision = Revision::of(segments, end, ops);
     let front = front(alloc, &revision, first)?;
     let seam = Seam {
         old: ops.base_len() - last,

@@ -10,7 +10,7 @@ ghost use Rattle.run_engine.specs.Steps.{IsOldStretch};
 use crate::replay::piece::Piece;
 use crate::replay::revision::Revision;
 use crate::segments::blocks::Segments;
-use crate::segments::contents::len_in;
+use crate::segments::seek::segment_at;
 use object_heap::Heap;
 use std::alloc::{AllocError, Global};
 use std::collections::BTreeSet;
@@ -38,7 +38,7 @@ pub fn old_stretch(
         return Ok(None);
     };
     let before = at - alike.at;
-    let Some(i) = revision.segment_at(alike.from + before) else {
+    let Some(i) = segment_at(revision.segments, alike.from + before) else {
         return Ok(None);
     };
     let old = revision.segments;
@@ -47,7 +47,7 @@ pub fn old_stretch(
     };
     let j = next_marked(old, i + 1);
     let segments = old.stretch(alloc, i, j)?;
-    let len = len_in(&segments);
+    let len = segments.ops_len();
     if len > alike.len - before {
         return Ok(None);
     }
@@ -78,7 +78,7 @@ pub fn may_begin(revision: &Revision, at: usize) -> bool
         return false;
     };
     let before = at - alike.at;
-    match revision.segment_at(alike.from + before) {
+    match segment_at(revision.segments, alike.from + before) {
         None => false,
         Some(i) => revision.segments.at(i).is_marked(),
     }

@@ -1,27 +1,36 @@
 //! A block of segments.
 ghost use Rattle.std.specs.Prelude.{◌≡◌, ◌+◌, ◌++◌, ◌∷◌, [], ◌<◌, ◌≤◌, length, map, IfOk, OnErr, IfSome, IfNone, slice_index_or, slice_range};
-ghost use Rattle.std.specs.Arc.{arc_value};
-ghost use Rattle.std.specs.Option.{option_copied, option_map};
+ghost use Rattle.trace_types.specs.Trace.{place_of};
 ghost use Rattle.run_engine.specs.Cleared.{cleared_if};
-ghost use Rattle.run_engine.specs.Blocks.{standing, IsBoth};
-ghost use Rattle.run_engine.specs.Segments.{without_mark, has_mark};
+ghost use Rattle.run_engine.specs.Blocks.{standing};
+ghost use Rattle.run_engine.specs.Segments.{ops_of, trace_of, without_mark, has_mark, IsLastFrom};
 ghost use Rattle.run_engine.specs.Exchanged.{exchanged, AreExchangeable};
 
+use crate::segments::bounds::Bounds;
 use crate::segments::gone::{Gone, MOST_SEGMENTS};
+use crate::segments::laid::{both, laid_in, shared};
 use crate::segments::segment::Segment;
 use crate::segments::standing::Standing;
+use crate::segments::walk::{last_in, len_of, place_in};
 use agreement::{Exchange, Remains};
 use std::alloc::{AllocError, Global};
 use std::marker::Model;
 use std::sync::Arc;
+use trace_types::limits::MAX_OPS;
 
 /// Segments that runs share: a stretch of those that stand in one place, without the checkpoints that are given up here, and under what
 /// is laid over all of them. Contracts see the list of the segments that are meant.
+///
+/// They have at most `MAX_OPS` operations, as a trace has: where there would be more, that is told as want of memory.
 #[derive(Drop)]
 pub struct Block {
     segments: Arc<Vec<Segment>>,
     from: usize,
     len: usize,
+    // how many operations the stretch has
+    ops: usize,
+    // bounds of their numbers, and perhaps of more
+    bounds: Bounds,
     gone: Gone,
     laid: Option<Arc<Exchange>>,
     // a hint: whether a checkpoint was given up
@@ -34,7 +43,7 @@ impl Model for Block {
     ghost use Rattle.std.specs.Option.{option_map};
     ghost use Rattle.std.specs.Coded.{coded_list};
     ghost use Rattle.run_engine.specs.SegmentView.{SegmentView, segment_code};
-    ghost use Rattle.run_engine.specs.Blocks.{standing, laid_over, AreSoundBelow};
+    ghost use Rattle.run_engine.specs.Blocks.{standing, laid_over, AreSoundBelow, AreMeasured};
 
     ghost Value = { List SegmentView };
 
@@ -47,22 +56,32 @@ impl Model for Block {
         (b.from + b.len ≤ length (arc_value b.segments).items)
         × (length (arc_value b.segments).items ≤ 64)
         × AreSoundBelow (option_map arc_value b.laid)
-        (standing b.gone b.from b.len (arc_value b.segments).items) };
+        (standing b.gone b.from b.len (arc_value b.segments).items)
+        × AreMeasured (map (laid_over (option_map arc_value b.laid))
+        (standing b.gone b.from b.len (arc_value b.segments).items))
+        b.ops b.bounds.least b.bounds.greatest };
 }
 
 impl Block {
-    /// Segments in a block of their own.
-    pub fn of(alloc: Global, segments: Vec<Segment>) -> Result<Self, AllocError>
-        requires { length segments.items ≤ 64 }
-        ensures { IfOk result (λ b. b ≡ segments.items) }
+    /// A segment in a block of its own.
+    pub fn of(alloc: Global, segment: Segment) -> Result<Self, AllocError>
+        ensures { IfOk result (λ b. b ≡ segment ∷ []) }
     {
-        let len = segments.len();
-        let segments = Arc::new(alloc, segments)?;
+        let ops = segment.ops().len();
+        if ops > MAX_OPS {
+            return Err(AllocError);
+        }
+        let bounds = segment.bounds();
+        let mut one = Vec::new(alloc);
+        one.push(segment)?;
+        let segments = Arc::new(alloc, one)?;
         let gone = Gone::none();
         Ok(Block {
             segments,
             from: 0,
-            len,
+            len: 1,
+            ops,
+            bounds,
             gone,
             laid: None,
             is_worn: false,
@@ -74,6 +93,50 @@ impl Block {
         ensures { result ≡ length self.now }
     {
         self.len
+    }
+
+    /// How many operations they have.
+    pub fn ops_len(&self) -> usize
+        ensures value { result ≡ length (trace_of self.now) }
+        ensures few { result ≤ MAX_OPS }
+    {
+        self.ops
+    }
+
+    // The segments, as they are shared: what is given up here stands there, and nothing is laid over them.
+    fn stored(&self) -> &[Segment]
+        ensures { map ops_of result.now ≡ map ops_of self.now }
+    {
+        &self.segments[self.from..self.from + self.len]
+    }
+
+    /// How many operations the segments from one index on and before another have.
+    pub fn ops_between(&self, from: usize, to: usize) -> usize
+        requires order { from ≤ to }
+        requires within { to ≤ length self.now }
+        ensures { result ≡ length (trace_of (slice_range self.now from to)) }
+    {
+        if to - from == self.len {
+            return self.ops;
+        }
+        len_of(&self.stored()[from..to])
+    }
+
+    /// The segment that has a position, and where it begins: behind all, how many segments and operations there are.
+    pub fn last_from(&self, position: usize) -> (usize, usize)
+        ensures { IsLastFrom self.now position result.0 result.1 }
+    {
+        last_in(self.stored(), position)
+    }
+
+    /// Where the operation with this number stands, from 0. No segment is looked at where the number is outside the bounds.
+    pub fn place(&self, id: u32) -> Option<usize>
+        ensures { result ≡ place_of id (trace_of self.now) }
+    {
+        if self.bounds.exclude(id) {
+            return None;
+        }
+        place_in(self.stored(), id)
     }
 
     /// The segment at an index, as it stands here.
@@ -100,6 +163,8 @@ impl Block {
             segments,
             from: self.from + from,
             len: to - from,
+            ops: self.ops_between(from, to),
+            bounds: self.bounds,
             gone,
             laid,
             is_worn: self.is_worn,
@@ -119,6 +184,8 @@ impl Block {
             segments,
             from: self.from,
             len: self.len,
+            ops: self.ops,
+            bounds: self.bounds,
             gone,
             laid: Some(laid),
             is_worn: self.is_worn,
@@ -132,15 +199,22 @@ impl Block {
         ensures err { OnErr result (self.new ≡ self.old) }
     {
         let place = self.from + self.len;
+        let more = segment.ops().len();
         if self.laid.is_some() || place >= MOST_SEGMENTS || place < self.segments.len() {
             return Ok(Some(segment));
         }
+        if more > MAX_OPS - self.ops {
+            return Ok(Some(segment));
+        }
+        let bounds = self.bounds.with(&segment.bounds());
         match Arc::get_mut(&mut self.segments) {
             None => Ok(Some(segment)),
             Some(own) => {
                 own.push(segment)?;
                 self.gone.set(place, false);
                 self.len += 1;
+                self.ops += more;
+                self.bounds = bounds;
                 Ok(None)
             }
         }
@@ -184,6 +258,8 @@ impl Block {
             segments,
             from: 0,
             len,
+            ops: self.ops,
+            bounds: self.bounds,
             gone,
             laid: self.laid,
             is_worn: false,
@@ -219,39 +295,4 @@ fn left_at(segment: &Segment, is_gone: bool) -> Result<Segment, AllocError>
         return segment.without_mark();
     }
     segment.share()
-}
-
-// What is laid over a block, where it stands.
-fn laid_in(laid: &Option<Arc<Exchange>>) -> Option<&Exchange>
-    ensures { option_copied result ≡ option_map arc_value laid.now }
-{
-    match laid {
-        None => None,
-        Some(exchange) => Some(exchange),
-    }
-}
-
-// The same once more.
-fn shared(laid: &Option<Arc<Exchange>>) -> Result<Option<Arc<Exchange>>, AllocError>
-    ensures { IfOk result (λ l. option_map arc_value l ≡ option_map arc_value laid.now) }
-{
-    match laid {
-        None => Ok(None),
-        Some(exchange) => Ok(Some(Arc::try_clone(exchange)?)),
-    }
-}
-
-// What is laid over a block, and then what differs in the remains, as one exchange.
-fn both(
-    alloc: Global,
-    laid: &Option<Arc<Exchange>>,
-    remains: &Remains,
-) -> Result<Arc<Exchange>, AllocError>
-    ensures { IfOk result (λ x. IsBoth (option_map arc_value laid.now) remains.now (arc_value x)) }
-{
-    let next = remains.differing();
-    match laid {
-        None => Ok(Arc::try_clone(next)?),
-        Some(exchange) => Ok(Arc::new(alloc, exchange.then(alloc, next)?)?),
-    }
 }

@@ -1,10 +1,11 @@
 //! The segments of a run, in blocks.
-ghost use Rattle.std.specs.Prelude.{◌≡◌, ◌+◌, ◌++◌, ◌∷◌, [], ◌<◌, ◌≤◌, length, map, take, IfOk, OnOk, IfSome, IfNone, slice_index_or, slice_range};
-ghost use Rattle.run_engine.specs.Parts.{joined, starts_from};
-ghost use Rattle.run_engine.specs.Segments.{without_mark, has_mark};
+ghost use Rattle.std.specs.Prelude.{◌≡◌, ◌++◌, ◌∷◌, [], ◌<◌, ◌≤◌, length, map, take, IfOk, slice_index_or, slice_range};
+ghost use Rattle.trace_types.specs.Trace.{place_of};
+ghost use Rattle.run_engine.specs.Segments.{trace_of, without_mark, has_mark, IsLastFrom};
 ghost use Rattle.run_engine.specs.Exchanged.{exchanged, AreExchangeable};
 
 use crate::segments::block::Block;
+use crate::segments::block_list::{clear_at, find, push_last};
 use crate::segments::segment::Segment;
 use crate::segments::standing::Standing;
 use crate::segments::starts::part_at;
@@ -15,21 +16,27 @@ use trace_types::limits::MAX_OPS;
 
 /// Segments one behind the other, in blocks, which runs share. Contracts see the list of the segments.
 ///
-/// There are at most `MAX_OPS`, as many as a trace has operations: where there would be more, that is told as want of memory.
+/// There are at most `MAX_OPS`, and they have at most as many operations, as a trace has: where there would be more, that is told as want
+/// of memory.
 #[derive(Drop)]
 pub struct Segments {
     blocks: Vec<Block>,
     // the index of each block's first segment
     starts: Vec<usize>,
+    // where the operations of each block begin
+    positions: Vec<usize>,
     len: usize,
+    // how many operations there are
+    ops: usize,
 }
 
 impl Model for Segments {
-    ghost use Rattle.std.specs.Prelude.{◌≡◌, ◌≤◌, List, length};
+    ghost use Rattle.std.specs.Prelude.{◌≡◌, ◌≤◌, List, length, map};
     ghost use Rattle.std.specs.Coded.{coded_list};
     ghost use Rattle.trace_types.specs.declared.limits.TheConstants.{MAX_OPS};
     ghost use Rattle.run_engine.specs.Parts.{joined, starts_from};
     ghost use Rattle.run_engine.specs.SegmentView.{SegmentView, segment_code};
+    ghost use Rattle.run_engine.specs.Segments.{trace_of};
 
     ghost Value = { List SegmentView };
 
@@ -40,7 +47,10 @@ impl Model for Segments {
     ghost invariant = { λ s.
         (s.starts.items ≡ starts_from 0 s.blocks.items)
         × (s.len ≡ length (joined s.blocks.items))
-        × (s.len ≤ MAX_OPS) };
+        × (s.len ≤ MAX_OPS)
+        × (s.positions.items ≡ starts_from 0 (map trace_of s.blocks.items))
+        × (s.ops ≡ length (trace_of (joined s.blocks.items)))
+        × (s.ops ≤ MAX_OPS) };
 }
 
 impl Segments {
@@ -51,7 +61,9 @@ impl Segments {
         Segments {
             blocks: Vec::new(alloc),
             starts: Vec::new(alloc),
+            positions: Vec::new(alloc),
             len: 0,
+            ops: 0,
         }
     }
 
@@ -60,6 +72,14 @@ impl Segments {
         ensures { result ≡ length self.now }
     {
         self.len
+    }
+
+    /// How many operations they have.
+    pub fn ops_len(&self) -> usize
+        ensures value { result ≡ length (trace_of self.now) }
+        ensures few { result ≤ MAX_OPS }
+    {
+        self.ops
     }
 
     /// The segment at an index, as it stands here. Its block is found by halves.
@@ -71,41 +91,77 @@ impl Segments {
         self.blocks[i].at(rest)
     }
 
+    /// Where the operations of the segment at an index begin. Its block is found by halves.
+    pub fn position(&self, index: usize) -> usize
+        requires { index < length self.now }
+        ensures { length (trace_of (take index self.now)) ≡ result }
+    {
+        let (i, rest) = find(&self.blocks, &self.starts, index);
+        self.positions[i] + self.blocks[i].ops_between(0, rest)
+    }
+
+    /// The segment that has a position, and where it begins: behind all, how many segments and operations there are. Its block is found
+    /// by halves.
+    pub fn last_from(&self, position: usize) -> (usize, usize)
+        ensures last { IsLastFrom self.now position result.0 result.1 }
+        ensures few { result.0 ≤ MAX_OPS }
+    {
+        match part_at(&self.positions, position) {
+            None => (0, 0),
+            Some(i) => {
+                let at = self.positions[i];
+                let (more, begun) = self.blocks[i].last_from(position - at);
+                (self.starts[i] + more, at + begun)
+            }
+        }
+    }
+
+    /// Where the operation with this number stands, from 0. Of a block that the number is outside the bounds of, no segment is looked at.
+    pub fn place(&self, id: u32) -> Option<usize>
+        ensures { result ≡ place_of id (trace_of self.now) }
+    {
+        let mut at = 0;
+        for block in &self.blocks {
+            if let Some(place) = block.place(id) {
+                return Some(at + place);
+            }
+            at += block.ops_len();
+        }
+        None
+    }
+
     /// The segments, and another one behind them.
     pub fn push(self, alloc: Global, segment: Segment) -> Result<Self, AllocError>
         ensures { IfOk result (λ s. s ≡ self ++ segment ∷ []) }
     {
-        if self.len >= MAX_OPS {
+        let more = segment.ops().len();
+        if self.len >= MAX_OPS || more > MAX_OPS - self.ops {
             return Err(AllocError);
         }
         let Segments {
             mut blocks,
             starts,
+            positions,
             len,
+            ops,
         } = self;
         match push_last(&mut blocks, segment)? {
             None => Ok(Segments {
                 blocks,
                 starts,
+                positions,
                 len: len + 1,
+                ops: ops + more,
             }),
             Some(back) => Segments {
                 blocks,
                 starts,
+                positions,
                 len,
+                ops,
             }
-            .begin(alloc, back),
+            .with_block(Block::of(alloc, back)?),
         }
-    }
-
-    // The segments, and another one behind them in a block of its own.
-    fn begin(self, alloc: Global, segment: Segment) -> Result<Self, AllocError>
-        ensures { IfOk result (λ s. s ≡ self ++ segment ∷ []) }
-    {
-        let mut one = Vec::new(alloc);
-        one.push(segment)?;
-        let block = Block::of(alloc, one)?;
-        self.with_block(block)
     }
 
     // The segments, and a block behind them.
@@ -113,20 +169,26 @@ impl Segments {
         ensures { IfOk result (λ s. s ≡ self ++ block) }
     {
         let more = block.len();
-        if more > MAX_OPS - self.len {
+        let more_ops = block.ops_len();
+        if more > MAX_OPS - self.len || more_ops > MAX_OPS - self.ops {
             return Err(AllocError);
         }
         let Segments {
             mut blocks,
             mut starts,
+            mut positions,
             len,
+            ops,
         } = self;
         starts.push(len)?;
+        positions.push(ops)?;
         blocks.push(block)?;
         Ok(Segments {
             blocks,
             starts,
+            positions,
             len: len + more,
+            ops: ops + more_ops,
         })
     }
 
@@ -216,45 +278,4 @@ impl Segments {
         }
         Ok(all)
     }
-}
-
-// The block that has the segment at an index, and how many segments stand before that in it. It is found by halves.
-fn find(blocks: &[Block], starts: &[usize], index: usize) -> (usize, usize)
-    requires starts { starts.now ≡ starts_from 0 blocks.now }
-    requires index { index < length (joined blocks.now) }
-    ensures within { result.0 < length blocks.now }
-    ensures place { length (joined (take result.0 blocks.now)) + result.1 ≡ index }
-    ensures inside { index < length (joined (take (result.0 + 1) blocks.now)) }
-{
-    match part_at(starts, index) {
-        None => (0, index),
-        Some(i) => (i, index - starts[i]),
-    }
-}
-
-// Puts a segment behind those of the last block, where there is one and it has room: else gives it back.
-fn push_last(blocks: &mut Vec<Block>, segment: Segment) -> Result<Option<Segment>, AllocError>
-    ensures taken { IfOk result (λ o. IfNone o
-        (joined blocks.new.items ≡ joined blocks.old.items ++ segment ∷ [])) }
-    ensures back { IfOk result (λ o. IfSome o
-        (λ s. (s ≡ segment) × (joined blocks.new.items ≡ joined blocks.old.items))) }
-    ensures starts { OnOk result (starts_from 0 blocks.new.items ≡ starts_from 0 blocks.old.items) }
-{
-    let len = blocks.len();
-    if len == 0 {
-        return Ok(Some(segment));
-    }
-    let back = blocks[len - 1].push(segment)?;
-    Ok(back)
-}
-
-// Gives up the checkpoint of the segment at an index.
-fn clear_at(blocks: &mut Vec<Block>, starts: &[usize], index: usize)
-    requires starts { starts.now ≡ starts_from 0 blocks.old.items }
-    requires index { index < length (joined blocks.old.items) }
-    ensures segments { joined blocks.new.items ≡ without_mark (joined blocks.old.items) index }
-    ensures starts { starts_from 0 blocks.new.items ≡ starts_from 0 blocks.old.items }
-{
-    let (i, rest) = find(blocks, starts, index);
-    let _ = blocks[i].clear_mark(rest);
 }

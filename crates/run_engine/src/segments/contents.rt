@@ -5,7 +5,6 @@ ghost use Rattle.trace_types.specs.Stretches as lent;
 ghost use Rattle.ownership_model.specs.State.{nothing_held};
 ghost use Rattle.run_engine.specs.Segments.{trace_of, outcomes_in, mark_here, all_marks, AreReplayFrom};
 
-use crate::editing::original::Original;
 use crate::segments::blocks::Segments;
 use crate::segments::standing::Standing;
 use std::alloc::{AllocError, Global};
@@ -13,32 +12,6 @@ use trace_types::limits::MAX_OPS;
 use trace_types::outcomes::Outcome;
 use trace_types::sequence::Sequence;
 use trace_types::stretches::Stretch;
-
-/// How many operations there are.
-pub fn len_in(segments: &Segments) -> usize
-    requires { length (trace_of segments.now) ≤ MAX_OPS }
-    ensures { result ≡ length (trace_of segments.now) }
-{
-    let mut len = 0;
-    for i in 0..segments.len() {
-        let segment = segments.at(i);
-        len += segment.ops().len();
-    }
-    len
-}
-
-/// The operations, where they stand.
-pub fn ops_in<'a>(alloc: Global, segments: &'a Segments) -> Result<Original<'a>, AllocError>
-    requires { length (trace_of segments.now) ≤ MAX_OPS }
-    ensures { IfOk result (λ v. v ≡ trace_of segments.now) }
-{
-    let mut parts = Vec::with_capacity(alloc, segments.len())?;
-    for i in 0..segments.len() {
-        let segment = segments.at(i);
-        parts.push(segment.part())?;
-    }
-    Original::of(alloc, parts)
-}
 
 /// The operations and outcomes of each segment, where they stand.
 pub fn stretches_in<'a>(

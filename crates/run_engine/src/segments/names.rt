@@ -23,10 +23,13 @@ pub fn add_name(names: &mut BTreeSet<u32>, name: Option<u32>) -> Result<(), Allo
     Ok(())
 }
 
-/// Gives up the checkpoints whose names are in the set, in one pass.
+/// Gives up the checkpoints whose names are in the set, in one pass: no segment is looked at where there is no name.
 pub fn clear_named(segments: &mut Segments, names: &BTreeSet<u32>)
     ensures { segments.new ≡ cleared (contains nat_cmp names.now) None segments.old }
 {
+    if names.is_empty() {
+        return;
+    }
     let mut before = None;
     for i in 0..segments.len() {
         clear_if(segments, i, is_among(before, names));

@@ -1,10 +1,12 @@
 //! A segment of a run.
 ghost use Rattle.std.specs.Prelude.{◌≡◌, IfOk, None, Some};
 ghost use Rattle.std.specs.Option.{option_copied};
+ghost use Rattle.trace_types.specs.Trace.{place_of};
 ghost use Rattle.ownership_model.specs.Step.{outcomes_from};
+ghost use Rattle.run_engine.specs.Parts.{AreBetween};
 ghost use Rattle.run_engine.specs.Cleared.{last_name};
 
-use crate::segments::part::{Bounds, Part, bounds_of};
+use crate::segments::bounds::{Bounds, bounds_of};
 use object_heap::Heap;
 use op_step::{ChunkRun, Replayed};
 use std::alloc::{AllocError, Global};
@@ -120,11 +122,21 @@ impl Segment {
         self.body.ops.as_slice()
     }
 
-    /// The operations, with the bounds of their numbers.
-    pub fn part(&self) -> Part<'_>
-        ensures { result ≡ self.now.ops }
+    /// Bounds of the operations' numbers.
+    pub fn bounds(&self) -> Bounds
+        ensures { AreBetween result.least result.greatest self.now.ops }
     {
-        Part::new(self.body.ops.as_slice(), self.bounds)
+        self.bounds
+    }
+
+    /// Where the operation with this number stands in it, from 0.
+    pub fn place(&self, id: u32) -> Option<usize>
+        ensures { result ≡ place_of id self.now.ops }
+    {
+        if self.bounds.exclude(id) {
+            return None;
+        }
+        place_in(self.ops(), id)
     }
 
     /// The number of the last operation, which is kept beside them: they aren't looked at.
@@ -158,4 +170,16 @@ fn last_id(ops: &[Op]) -> Option<u32>
 {
     let op = ops.last()?;
     Some(op.id())
+}
+
+// Where the operation with this number stands among others, from 0.
+fn place_in(ops: &[Op], id: u32) -> Option<usize>
+    ensures { result ≡ place_of id ops.now }
+{
+    for (place, op) in ops.iter().enumerate() {
+        if op.id() == id {
+            return Some(place);
+        }
+    }
+    None
 }

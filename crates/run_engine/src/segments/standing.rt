@@ -4,7 +4,6 @@ ghost use Rattle.std.specs.Option.{option_copied};
 ghost use Rattle.run_engine.specs.Cleared.{cleared_if, last_name};
 ghost use Rattle.run_engine.specs.Blocks.{laid_over, AreSoundBelow};
 
-use crate::segments::part::Part;
 use crate::segments::segment::Segment;
 use agreement::{Checkpoint, Exchange};
 use std::marker::Model;
@@ -57,13 +56,6 @@ impl<'a> Standing<'a> {
         ensures { result.now ≡ self.now.ops }
     {
         self.segment.ops()
-    }
-
-    /// The operations, with the bounds of their numbers.
-    pub fn part(&self) -> Part<'a>
-        ensures { result ≡ self.now.ops }
-    {
-        self.segment.part()
     }
 
     /// The number of the last operation, which is kept beside them: they aren't looked at.

@@ -2,7 +2,6 @@ use Rattle.std.proofs.Common.{◌≡◌, ◌-◌, ◌<◌, length, ap, sym, subs
 use Rattle.std.specs.Prelude.{is_some}
 use Rattle.run_engine.specs.Segments.{trace_of}
 use Rattle.run_engine.proofs.PieceLemmas.{mark-is}
-use Rattle.run_engine.proofs.StartLemmas.{starts-as-many, segment-start}
 use Rattle.run_engine.proofs.PlaceLemmas.{first-mark-there}
 use Rattle.run_engine.proofs.RestartLemmas.{AreFirst, AreFirst-last, AreFirst-bare, IsRestart-there, IsRestart-end}
 use Rattle.run_engine.proofs.replay.restart.greatest_mark.Goals as goal
@@ -14,45 +13,43 @@ returns-then-len-head c =
 
 pub loop-i-init : goal.loop-i-init
 loop-i-init c = record {
-  first = AreFirst-last c.args.revision.now.segments.now c.args.head c.last_from-last.result.0 c.last_from-last.result.1 c.last_from-last.ensures (omega (arith, c.base_len-len.ensures, ap length c.args.revision.now.holds.base, c.if-len-head.false));
+  first = AreFirst-last c.args.revision.now.segments.now c.args.head c.last_from-last.result.0 c.last_from-last.result.1 c.last_from-last.ensures.last (omega (arith, c.base_len-len.ensures, ap length c.args.revision.now.holds.base, c.if-len-head.false));
   within = omega arith;
 }
 
 pub overflow_add-i : goal.overflow_add-i
 overflow_add-i c =
-    let starts = c.args.revision.now.starts in
-    omega (arith, c.last_from-last.ensures.within, starts-as-many c.args.revision.now.segments.now c.args.revision.now.starts.items c.args.revision.now.holds.starts_are, starts.ok.0, starts.ok.1, starts.small)
+    omega (arith, c.last_from-last.ensures.few)
 
 pub at-requires : goal.at-requires
 at-requires c =
     let before : c.args.head < length (trace_of c.args.revision.now.segments.now) = omega (arith, c.base_len-len.ensures, ap length c.args.revision.now.holds.base, c.if-len-head.false) in
-    let top = (c.last_from-last.ensures.inside before).0 in
+    let top = (c.last_from-last.ensures.last.inside before).0 in
     omega (arith, top, c.loop-i.invariant.within, c.loop-i-test.true)
 
-pub index-requires : goal.index-requires
-index-requires c =
+pub position-requires : goal.position-requires
+position-requires c =
     let before : c.args.head < length (trace_of c.args.revision.now.segments.now) = omega (arith, c.base_len-len.ensures, ap length c.args.revision.now.holds.base, c.if-len-head.false) in
-    let top = (c.last_from-last.ensures.inside before).0 in
-    let lt : c.loop-i.i - 1 < length c.args.revision.now.segments.now = omega (arith, top, c.loop-i.invariant.within, c.loop-i-test.true) in
-    omega (arith, starts-as-many c.args.revision.now.segments.now c.args.revision.now.starts.items c.args.revision.now.holds.starts_are, c.args.revision.now.starts.ok.0)
+    let top = (c.last_from-last.ensures.last.inside before).0 in
+    omega (arith, top, c.loop-i.invariant.within, c.loop-i-test.true)
 
 pub returns-in-Some : goal.returns-in-Some
 returns-in-Some c =
     let before : c.args.head < length (trace_of c.args.revision.now.segments.now) = omega (arith, c.base_len-len.ensures, ap length c.args.revision.now.holds.base, c.if-len-head.false) in
-    let top = (c.last_from-last.ensures.inside before).0 in
+    let top = (c.last_from-last.ensures.last.inside before).0 in
     let lt : c.loop-i.i - 1 < length c.args.revision.now.segments.now = omega (arith, top, c.loop-i.invariant.within, c.loop-i-test.true) in
     let more = c.loop-i-test.true in
     let within = c.loop-i.invariant.within in
     rw c.in_ok-heap.ensures
-    (IsRestart-there c.args.revision.now.segments.now c.args.head c.loop-i.i (c.loop-i.i - 1) c.index.result.now c.last_from-last.result.0 c.last_from-last.result.1 c.in-Some.mark c.in-Some.mark c.at.result
+    (IsRestart-there c.args.revision.now.segments.now c.args.head c.loop-i.i (c.loop-i.i - 1) c.position.result c.last_from-last.result.0 c.last_from-last.result.1 c.in-Some.mark c.in-Some.mark c.at.result
     c.args.revision.now.holds.kept.run.replay c.loop-i.invariant.first (omega arith) lt c.at.ensures (sym c.in-Some.ensures)
-    (segment-start c.args.revision.now.segments.now c.args.revision.now.starts.items (c.loop-i.i - 1) c.index.result.now c.args.revision.now.holds.starts_are lt ∙ sym c.index.ensures) c.last_from-last.ensures (omega arith)
+    c.position.ensures c.last_from-last.ensures.last (omega arith)
     (mark-is c.args.revision.now.segments.now (c.loop-i.i - 1) c.at.result c.in-Some.mark c.args.revision.now.holds.kept.run.replay lt c.at.ensures c.in-Some.ensures))
 
 pub loop-i-preserved : goal.loop-i-preserved
 loop-i-preserved c =
     let before : c.args.head < length (trace_of c.args.revision.now.segments.now) = omega (arith, c.base_len-len.ensures, ap length c.args.revision.now.holds.base, c.if-len-head.false) in
-    let top = (c.last_from-last.ensures.inside before).0 in
+    let top = (c.last_from-last.ensures.last.inside before).0 in
     let lt : c.loop-i.i - 1 < length c.args.revision.now.segments.now = omega (arith, top, c.loop-i.invariant.within, c.loop-i-test.true) in
     let more = c.loop-i-test.true in
     let within = c.loop-i.invariant.within in

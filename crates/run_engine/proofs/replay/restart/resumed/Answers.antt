@@ -10,18 +10,18 @@ use Rattle.run_engine.proofs.replay.restart.resumed.Goals as goal
 
 pub converge-requires-clause-may : goal.converge-requires-clause-may
 converge-requires-clause-may c =
-    let kept = rw c.in_ok-revision.ensures.segments at c.in_ok-front.ensures.kept in
-    rw c.in_ok-revision.ensures.ops
+    let kept = rw c.of-revision.ensures.segments at c.in_ok-front.ensures.kept in
+    rw c.of-revision.ensures.ops
     (record {
       reached = IsReached-restart c.args.segments.now c.in_ok-front.front.segments c.args.end.now c.in_ok-front.front.end c.args.ops.now.ops c.head-first.result _ c.in_ok-front.front.len
-          c.requires.kept.run kept (rw c.in_ok-revision.ensures.segments at c.in_ok-front.ensures.segments) (subst (λ t. take c.head-first.result t ≡ take c.head-first.result c.args.ops.now.ops) c.requires.base c.head-first.ensures.same) c.head-first.ensures.within;
+          c.requires.kept.run kept (rw c.of-revision.ensures.segments at c.in_ok-front.ensures.segments) (subst (λ t. take c.head-first.result t ≡ take c.head-first.result c.args.ops.now.ops) c.requires.base c.head-first.ensures.same) c.head-first.ensures.within;
       order = omega (arith, kept.greatest.early, c.tail-last.ensures.within, c.len.ensures);
       within = omega (arith, c.len.ensures);
     })
 
 pub converge-requires-clause-shared : goal.converge-requires-clause-shared
 converge-requires-clause-shared c =
-    rw (c.in_ok-revision.ensures.segments, c.in_ok-revision.ensures.ops, c.base_len.ensures, c.len.ensures, ← c.requires.base) (ShareEnd-tail c.args.ops.now.base c.args.ops.now.ops c.head-first.result c.tail-last.result c.tail-last.ensures)
+    rw (c.of-revision.ensures.segments, c.of-revision.ensures.ops, c.base_len.ensures, c.len.ensures, ← c.requires.base) (ShareEnd-tail c.args.ops.now.base c.args.ops.now.ops c.head-first.result c.tail-last.result c.tail-last.ensures)
 
 pub returns-in_err-front-clause-bound : goal.returns-in_err-front-clause-bound
 returns-in_err-front-clause-bound c = bounded-none c.args.ops.now.base c.args.ops.now.ops _ _
@@ -31,32 +31,32 @@ returns-in_err-replay-clause-bound c =
     from-greatest (λ t r. StepsAtMost c.args.ops.now.base c.args.ops.now.ops (length c.args.ops.now.base - t) (length c.args.ops.now.ops - t) (all_marks c.args.segments.now) r c.args.meter.now c.converge.new.meter)
     c.args.ops.now.base c.args.ops.now.ops (all_marks c.args.segments.now) c.head-first.result c.tail-last.result c.in_ok-front.front.len
     (record { head_is = c.head-first.ensures; tail_is = c.tail-last.ensures })
-    (rw c.in_ok-revision.ensures.segments at c.in_ok-front.ensures.kept).greatest
+    (rw c.of-revision.ensures.segments at c.in_ok-front.ensures.kept).greatest
     (subst (λ t. StepsAtMost t c.args.ops.now.ops (length t - c.tail-last.result) (length c.args.ops.now.ops - c.tail-last.result) (all_marks c.args.segments.now) c.in_ok-front.front.len c.args.meter.now c.converge.new.meter) (sym c.requires.base)
-    (rw (c.in_ok-revision.ensures.segments, c.in_ok-revision.ensures.ops, c.base_len.ensures, c.len.ensures, c.requires.base) at c.converge.ensures.bound))
+    (rw (c.of-revision.ensures.segments, c.of-revision.ensures.ops, c.base_len.ensures, c.len.ensures, c.requires.base) at c.converge.ensures.bound))
 
 pub returns-clause-bound : goal.returns-clause-bound
 returns-clause-bound c =
     from-greatest (λ t r. StepsAtMost c.args.ops.now.base c.args.ops.now.ops (length c.args.ops.now.base - t) (length c.args.ops.now.ops - t) (all_marks c.args.segments.now) r c.args.meter.now c.converge.new.meter)
     c.args.ops.now.base c.args.ops.now.ops (all_marks c.args.segments.now) c.head-first.result c.tail-last.result c.in_ok-front.front.len
     (record { head_is = c.head-first.ensures; tail_is = c.tail-last.ensures })
-    (rw c.in_ok-revision.ensures.segments at c.in_ok-front.ensures.kept).greatest
+    (rw c.of-revision.ensures.segments at c.in_ok-front.ensures.kept).greatest
     (subst (λ t. StepsAtMost t c.args.ops.now.ops (length t - c.tail-last.result) (length c.args.ops.now.ops - c.tail-last.result) (all_marks c.args.segments.now) c.in_ok-front.front.len c.args.meter.now c.converge.new.meter) (sym c.requires.base)
-    (rw (c.in_ok-revision.ensures.segments, c.in_ok-revision.ensures.ops, c.base_len.ensures, c.len.ensures, c.requires.base) at c.converge.ensures.bound))
+    (rw (c.of-revision.ensures.segments, c.of-revision.ensures.ops, c.base_len.ensures, c.len.ensures, c.requires.base) at c.converge.ensures.bound))
 
 pub returns-clause-stepped : goal.returns-clause-stepped
 returns-clause-stepped c =
     from-greatest (λ t r. AreStepped c.args.ops.now.base c.args.ops.now.ops (length c.args.ops.now.base - t) (length c.args.ops.now.ops - t) (all_marks c.args.segments.now) c.args.shelf.now.chunks r c.args.meter.now c.converge.new.meter)
     c.args.ops.now.base c.args.ops.now.ops (all_marks c.args.segments.now) c.head-first.result c.tail-last.result c.in_ok-front.front.len
     (record { head_is = c.head-first.ensures; tail_is = c.tail-last.ensures })
-    (rw c.in_ok-revision.ensures.segments at c.in_ok-front.ensures.kept).greatest
+    (rw c.of-revision.ensures.segments at c.in_ok-front.ensures.kept).greatest
     (subst (λ t. AreStepped t c.args.ops.now.ops (length t - c.tail-last.result) (length c.args.ops.now.ops - c.tail-last.result) (all_marks c.args.segments.now) c.args.shelf.now.chunks c.in_ok-front.front.len c.args.meter.now c.converge.new.meter) (sym c.requires.base)
-    (rw (c.in_ok-revision.ensures.segments, c.in_ok-revision.ensures.ops, c.base_len.ensures, c.len.ensures, c.requires.base) at c.in_ok-replay.ensures.stepped))
+    (rw (c.of-revision.ensures.segments, c.of-revision.ensures.ops, c.base_len.ensures, c.len.ensures, c.requires.base) at c.in_ok-replay.ensures.stepped))
 
 pub returns-clause-marks : goal.returns-clause-marks
 returns-clause-marks c =
     rw c.requires.base
     (AreMarksDue-restart c.args.segments.now c.in_ok-front.front.segments c.args.end.now c.in_ok-front.front.end c.args.ops.now.ops (all_marks c.in_ok-replay.replay.segments) c.head-first.result c.tail-last.result _ c.in_ok-front.front.len _ _ _ _
-    c.requires.kept.run (rw c.in_ok-revision.ensures.segments at c.in_ok-front.ensures.kept) (rw c.in_ok-revision.ensures.segments at c.in_ok-front.ensures.segments)
+    c.requires.kept.run (rw c.of-revision.ensures.segments at c.in_ok-front.ensures.kept) (rw c.of-revision.ensures.segments at c.in_ok-front.ensures.segments)
     (subst (λ t. AreShared t c.args.ops.now.ops c.head-first.result c.tail-last.result) c.requires.base (record { head_is = c.head-first.ensures; tail_is = c.tail-last.ensures })) c.in_ok-front.ensures.gone
-    (rw (c.in_ok-revision.ensures.segments, c.in_ok-revision.ensures.ops, c.base_len.ensures, c.len.ensures, c.requires.base) at c.in_ok-replay.ensures.marks))
+    (rw (c.of-revision.ensures.segments, c.of-revision.ensures.ops, c.base_len.ensures, c.len.ensures, c.requires.base) at c.in_ok-replay.ensures.marks))

@@ -8,19 +8,12 @@ use Rattle.run_engine.specs.Segments.{trace_of, BeginsMarked}
 use Rattle.run_engine.specs.HeadAndTail.{AreAlike}
 use Rattle.run_engine.proofs.PieceLemmas.{old-piece}
 use Rattle.run_engine.proofs.MarksLemmas.{old-neighbours, old-stretch-is}
-use Rattle.run_engine.proofs.StartLemmas.{starts-as-many}
-use Rattle.run_engine.proofs.StretchLemmas.{stretch-few, stretch-ops}
+use Rattle.run_engine.proofs.StretchLemmas.{stretch-ops}
 use Rattle.run_engine.proofs.replay.stretch.old_stretch.Goals as goal
 
 pub overflow_add-i : goal.overflow_add-i
 overflow_add-i c =
-    let starts = c.args.revision.now.starts in
-    omega (arith, c.in-Some-segment_at.ensures.within, starts-as-many c.args.revision.now.segments.now c.args.revision.now.starts.items c.args.revision.now.holds.starts_are, starts.ok.0, starts.ok.1, starts.small)
-
-pub len_in-len-requires : goal.len_in-len-requires
-len_in-len-requires c =
-    rw c.in_ok-segments.ensures
-    (omega (arith, stretch-few c.args.revision.now.segments.now c.in-Some-segment_at.i (c.next_marked-j.result - c.in-Some-segment_at.i), c.args.revision.now.holds.kept.trace.few))
+    omega (arith, c.in-Some-segment_at.ensures.few)
 
 pub returns : goal.returns
 returns c =
@@ -33,11 +26,11 @@ returns c =
     let n : c.next_marked-j.result - c.in-Some-segment_at.i ≡ suc (c.next_marked-j.result - (c.in-Some-segment_at.i + 1)) = omega arith in
     let m : c.next_marked-j.result ≡ c.in-Some-segment_at.i + suc (c.next_marked-j.result - (c.in-Some-segment_at.i + 1)) = omega arith in
     let stretch : c.in_ok-segments.segments ≡ take (suc k) (drop c.in-Some-segment_at.i c.args.revision.now.segments.now) = c.in_ok-segments.ensures ∙ ap (λ x. take x (drop c.in-Some-segment_at.i c.args.revision.now.segments.now)) n in
-    let long : c.len_in-len.result ≡ length (trace_of (take (suc k) (drop c.in-Some-segment_at.i c.args.revision.now.segments.now))) = c.len_in-len.ensures ∙ ap (λ ss. length (trace_of ss)) stretch in
+    let long : c.ops_len-len.result ≡ length (trace_of (take (suc k) (drop c.in-Some-segment_at.i c.args.revision.now.segments.now))) = c.ops_len-len.ensures.value ∙ ap (λ ss. length (trace_of ss)) stretch in
     let alike : AreAlike (trace_of c.args.revision.now.segments.now) ops c.args.at c.in-Some.alike.from c.in-Some.alike.at c.in-Some.alike.len =
     subst (λ base. AreAlike base ops c.args.at c.in-Some.alike.from c.in-Some.alike.at c.in-Some.alike.len) c.args.revision.now.holds.base c.in-Some.ensures in
-    let fits : c.len_in-len.result ≤ length (slice_range ops c.args.at c.args.to) = omega (arith, length-take (c.args.to - c.args.at) (drop c.args.at ops), length-drop c.args.at ops) in
-    let parts : trace_of (take (suc k) (drop c.in-Some-segment_at.i c.args.revision.now.segments.now)) ≡ take c.len_in-len.result (slice_range ops c.args.at c.args.to) =
+    let fits : c.ops_len-len.result ≤ length (slice_range ops c.args.at c.args.to) = omega (arith, length-take (c.args.to - c.args.at) (drop c.args.at ops), length-drop c.args.at ops) in
+    let parts : trace_of (take (suc k) (drop c.in-Some-segment_at.i c.args.revision.now.segments.now)) ≡ take c.ops_len-len.result (slice_range ops c.args.at c.args.to) =
     stretch-ops c.args.revision.now.segments.now ops c.in-Some-segment_at.i (suc k) c.in-Some.alike.from c.in-Some.alike.at c.in-Some.alike.len c.args.at c.args.to alike c.in-Some-segment_at.ensures.place (omega arith) (omega arith)
     ∙ ap (λ x. take x (slice_range ops c.args.at c.args.to)) (sym long) in
     let bare = c.next_marked-j.ensures.none in
@@ -46,10 +39,10 @@ returns c =
     let kept : BeginsMarked (drop (i + suc k) c.args.revision.now.segments.now) = subst (λ j. BeginsMarked (drop j c.args.revision.now.segments.now)) m (rw c.in-Some-2.is at c.in_ok-after.ensures.kept) in
     let after = rw c.in-Some-2.is at c.in_ok-after.ensures.heap in
     record {
-      gap = old-neighbours c.args.revision.now.segments.now c.in-Some-segment_at.i k c.at.result c.args.heap.now (slice_range ops c.args.at c.args.to) c.len_in-len.result c.in-Some-segment_at.ensures.within c.at.ensures mark bare fits parts kept;
-      stretch = old-stretch-is c.args.revision.now.segments.now c.args.revision.now.end.now c.in-Some-segment_at.i k c.at.result c.args.heap.now (slice_range ops c.args.at c.args.to) c.len_in-len.result c.args.revision.now.holds.kept.run c.in-Some-segment_at.ensures.within c.at.ensures mark bare fits parts kept;
+      gap = old-neighbours c.args.revision.now.segments.now c.in-Some-segment_at.i k c.at.result c.args.heap.now (slice_range ops c.args.at c.args.to) c.ops_len-len.result c.in-Some-segment_at.ensures.within c.at.ensures mark bare fits parts kept;
+      stretch = old-stretch-is c.args.revision.now.segments.now c.args.revision.now.end.now c.in-Some-segment_at.i k c.at.result c.args.heap.now (slice_range ops c.args.at c.args.to) c.ops_len-len.result c.args.revision.now.holds.kept.run c.in-Some-segment_at.ensures.within c.at.ensures mark bare fits parts kept;
       piece = rw stretch
-          (old-piece c.args.revision.now.segments.now c.args.revision.now.end.now c.in-Some-segment_at.i k c.at.result c.args.heap.now c.in-Some-2.after (slice_range ops c.args.at c.args.to) c.len_in-len.result
+          (old-piece c.args.revision.now.segments.now c.args.revision.now.end.now c.in-Some-segment_at.i k c.at.result c.args.heap.now c.in-Some-2.after (slice_range ops c.args.at c.args.to) c.ops_len-len.result
           c.args.revision.now.holds.kept.run c.in-Some-segment_at.ensures.within c.at.ensures mark bare fits parts
           (after ∙ ap (λ j. end_from nothing_held (trace_of (take j c.args.revision.now.segments.now))) m));
     }

@@ -12,8 +12,8 @@ use Rattle.run_engine.proofs.run.Run.edited.Goals as goal
 
 pub returns-in_err-replay-clause-bound : goal.returns-in_err-replay-clause-bound
 returns-in_err-replay-clause-bound c ops e =
-    let trace : c.in_ok-listed.listed.ops ≡ c.args.self.now.trace = c.in_ok-listed.ensures.ops ∙ c.in_ok-original.ensures ∙ ap (λ (s : RunView). s.trace) c.self.view_is in
-    let base : c.in_ok-ops.ops.base ≡ c.args.self.now.trace = c.in_ok-ops.ensures.base ∙ c.in_ok-listed.ensures.base ∙ c.in_ok-original.ensures ∙ ap (λ (s : RunView). s.trace) c.self.view_is in
+    let trace : c.in_ok-listed.listed.ops ≡ c.args.self.now.trace = c.in_ok-listed.ensures.ops ∙ c.of_segments-original.ensures ∙ ap (λ (s : RunView). s.trace) c.self.view_is in
+    let base : c.in_ok-ops.ops.base ≡ c.args.self.now.trace = c.in_ok-ops.ensures.base ∙ c.in_ok-listed.ensures.base ∙ c.of_segments-original.ensures ∙ ap (λ (s : RunView). s.trace) c.self.view_is in
     let ok : edited_by c.args.self.now.trace c.args.batch.now ≡ Ok c.in_ok-ops.ops.ops = rw (trace, c.as_slice.ensures) at c.in_ok-ops.ensures.ok in
     let same : c.in_ok-ops.ops.ops ≡ ops = cc in
     subst (λ os. StepsAtMostFrom c.args.self.now.trace os c.args.self.now.marks c.args.meter.now c.resumed.new.meter) same
@@ -21,8 +21,8 @@ returns-in_err-replay-clause-bound c ops e =
 
 pub returns-in_err-run-clause-bound : goal.returns-in_err-run-clause-bound
 returns-in_err-run-clause-bound c ops e =
-    let trace : c.in_ok-listed.listed.ops ≡ c.args.self.now.trace = c.in_ok-listed.ensures.ops ∙ c.in_ok-original.ensures ∙ ap (λ (s : RunView). s.trace) c.self.view_is in
-    let base : c.in_ok-ops.ops.base ≡ c.args.self.now.trace = c.in_ok-ops.ensures.base ∙ c.in_ok-listed.ensures.base ∙ c.in_ok-original.ensures ∙ ap (λ (s : RunView). s.trace) c.self.view_is in
+    let trace : c.in_ok-listed.listed.ops ≡ c.args.self.now.trace = c.in_ok-listed.ensures.ops ∙ c.of_segments-original.ensures ∙ ap (λ (s : RunView). s.trace) c.self.view_is in
+    let base : c.in_ok-ops.ops.base ≡ c.args.self.now.trace = c.in_ok-ops.ensures.base ∙ c.in_ok-listed.ensures.base ∙ c.of_segments-original.ensures ∙ ap (λ (s : RunView). s.trace) c.self.view_is in
     let ok : edited_by c.args.self.now.trace c.args.batch.now ≡ Ok c.in_ok-ops.ops.ops = rw (trace, c.as_slice.ensures) at c.in_ok-ops.ensures.ok in
     let same : c.in_ok-ops.ops.ops ≡ ops = cc in
     subst (λ os. StepsAtMostFrom c.args.self.now.trace os c.args.self.now.marks c.args.meter.now c.resumed.new.meter) same
@@ -30,8 +30,8 @@ returns-in_err-run-clause-bound c ops e =
 
 pub returns-clause-bound : goal.returns-clause-bound
 returns-clause-bound c ops e =
-    let trace : c.in_ok-listed.listed.ops ≡ c.args.self.now.trace = c.in_ok-listed.ensures.ops ∙ c.in_ok-original.ensures ∙ ap (λ (s : RunView). s.trace) c.self.view_is in
-    let base : c.in_ok-ops.ops.base ≡ c.args.self.now.trace = c.in_ok-ops.ensures.base ∙ c.in_ok-listed.ensures.base ∙ c.in_ok-original.ensures ∙ ap (λ (s : RunView). s.trace) c.self.view_is in
+    let trace : c.in_ok-listed.listed.ops ≡ c.args.self.now.trace = c.in_ok-listed.ensures.ops ∙ c.of_segments-original.ensures ∙ ap (λ (s : RunView). s.trace) c.self.view_is in
+    let base : c.in_ok-ops.ops.base ≡ c.args.self.now.trace = c.in_ok-ops.ensures.base ∙ c.in_ok-listed.ensures.base ∙ c.of_segments-original.ensures ∙ ap (λ (s : RunView). s.trace) c.self.view_is in
     let ok : edited_by c.args.self.now.trace c.args.batch.now ≡ Ok c.in_ok-ops.ops.ops = rw (trace, c.as_slice.ensures) at c.in_ok-ops.ensures.ok in
     let same : c.in_ok-ops.ops.ops ≡ ops = cc in
     subst (λ os. StepsAtMostFrom c.args.self.now.trace os c.args.self.now.marks c.args.meter.now c.resumed.new.meter) same
@@ -39,7 +39,7 @@ returns-clause-bound c ops e =
 
 pub returns-clause-marks : goal.returns-clause-marks
 returns-clause-marks c =
-    let base : c.in_ok-ops.ops.base ≡ c.args.self.now.trace = c.in_ok-ops.ensures.base ∙ c.in_ok-listed.ensures.base ∙ c.in_ok-original.ensures ∙ ap (λ (s : RunView). s.trace) c.self.view_is in
+    let base : c.in_ok-ops.ops.base ≡ c.args.self.now.trace = c.in_ok-ops.ensures.base ∙ c.in_ok-listed.ensures.base ∙ c.of_segments-original.ensures ∙ ap (λ (s : RunView). s.trace) c.self.view_is in
     let marks : all_marks c.self.inside.segments ≡ c.args.self.now.marks = ap (λ (s : RunView). s.marks) c.self.view_is in
     let due : AreMarksDue c.args.self.now (record { trace = trace_of c.in_ok-replay.replay.segments; marks = all_marks c.in_ok-replay.replay.segments }) c.args.shelf.now c.resumed.new.shelf (contains nat_cmp c.in_ok-replay.replay.gone) =
     subst (λ (s : RunView). AreMarksDue s (record { trace = trace_of c.in_ok-replay.replay.segments; marks = all_marks c.in_ok-replay.replay.segments }) c.args.shelf.now c.resumed.new.shelf (contains nat_cmp c.in_ok-replay.replay.gone)) (λ i. record { trace = base i; marks = marks i })

@@ -3,6 +3,7 @@ use Rattle.std.specs.Arc.{arc_value}
 use Rattle.std.specs.Option.{option_map}
 use Rattle.run_engine.specs.Segments.{without_mark}
 use Rattle.run_engine.specs.Blocks.{laid_over, AreSoundBelow, standing}
+use Rattle.run_engine.proofs.MeasureLemmas.{measured-as, standing-trace}
 use Rattle.run_engine.proofs.BlockLemmas.{length-laid, standing-without, sound-without, map-without}
 use Rattle.run_engine.proofs.GiveUpLemmas.{has_mark-at}
 use Rattle.run_engine.proofs.segments.block.Block.clear_mark.Goals as goal
@@ -13,8 +14,13 @@ invariant_of-self c =
     let items = (arc_value c.self.inside.segments).items in
     let long = length-laid x c.self.inside.gone c.self.inside.from c.self.inside.len items c.args.self.now c.self.view_is c.self.invariant.0 in
     let less : standing c.set.new.self c.self.inside.from c.self.inside.len items ≡ without_mark (standing c.self.inside.gone c.self.inside.from c.self.inside.len items) c.args.index =
-    ap (λ g. standing g c.self.inside.from c.self.inside.len items) c.set.ensures.set ∙ standing-without c.self.inside.gone c.self.inside.from c.self.inside.len c.args.index items (omega (arith, c.requires, c.set.ensures.long, c.self.invariant.0, c.self.invariant.1)) in
-    (c.self.invariant.0, c.self.invariant.1, subst (AreSoundBelow x) (sym less) (sound-without x c.args.index (standing c.self.inside.gone c.self.inside.from c.self.inside.len items) c.self.invariant.2))
+    ap (λ g. standing g c.self.inside.from c.self.inside.len items) c.set.ensures.set ∙ standing-without c.self.inside.gone c.self.inside.from c.self.inside.len c.args.index items (omega (arith, c.requires, c.set.ensures.long, c.self.invariant.0, c.self.invariant.1)) in (
+      c.self.invariant.0,
+      c.self.invariant.1,
+      subst (AreSoundBelow x) (sym less) (sound-without x c.args.index (standing c.self.inside.gone c.self.inside.from c.self.inside.len items) c.self.invariant.2),
+      measured-as (map (laid_over x) (standing c.self.inside.gone c.self.inside.from c.self.inside.len items)) _ c.self.inside.ops c.self.inside.bounds.least c.self.inside.bounds.greatest
+          (standing-trace x x c.self.inside.gone c.set.new.self c.self.inside.from c.self.inside.len items) c.self.invariant.3,
+    )
 
 pub returns-clause-kept : goal.returns-clause-kept
 returns-clause-kept c =

@@ -4,6 +4,8 @@ use Rattle.std.specs.Option.{option_map}
 use Rattle.run_engine.specs.SegmentView.{SegmentView}
 use Rattle.run_engine.specs.Exchanged.{exchanged, AreExchangeable}
 use Rattle.run_engine.specs.Blocks.{laid_over, standing}
+use Rattle.std.specs.Prelude.{Some}
+use Rattle.run_engine.proofs.MeasureLemmas.{measured-as, standing-trace}
 use Rattle.run_engine.proofs.BlockLemmas.{laid-both, sound-both}
 use Rattle.run_engine.proofs.segments.block.Block.exchanged.Goals as goal
 
@@ -12,7 +14,13 @@ invariant_of-result c =
     let x = option_map arc_value c.self.inside.laid in
     let ss : List SegmentView = standing c.self.inside.gone c.self.inside.from c.self.inside.len (arc_value c.self.inside.segments).items in
     let can : AreExchangeable c.args.remains.now (map (laid_over x) ss) = subst (AreExchangeable c.args.remains.now) (sym c.self.view_is) c.requires in
-    rw (c.in_ok-segments.ensures, c.share-gone.ensures) (c.self.invariant.0, c.self.invariant.1, sound-both x c.args.remains.now (arc_value c.in_ok-laid.laid) ss c.in_ok-laid.ensures can)
+    rw (c.in_ok-segments.ensures, c.share-gone.ensures) (
+      c.self.invariant.0,
+      c.self.invariant.1,
+      sound-both x c.args.remains.now (arc_value c.in_ok-laid.laid) ss c.in_ok-laid.ensures can,
+      measured-as (map (laid_over x) ss) _ c.self.inside.ops c.self.inside.bounds.least c.self.inside.bounds.greatest
+          (standing-trace x (Some (arc_value c.in_ok-laid.laid)) c.self.inside.gone c.self.inside.gone c.self.inside.from c.self.inside.len (arc_value c.self.inside.segments).items) c.self.invariant.3,
+    )
 
 pub returns : goal.returns
 returns c =

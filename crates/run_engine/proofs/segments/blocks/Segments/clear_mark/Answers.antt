@@ -1,5 +1,7 @@
 use Rattle.std.proofs.Common.{◌∙◌, ap, sym, length}
-use Rattle.run_engine.specs.Parts.{joined}
+use Rattle.run_engine.specs.Parts.{joined, starts_from}
+use Rattle.run_engine.specs.Segments.{trace_of}
+use Rattle.run_engine.proofs.SegmentLemmas.{trace_of-without_mark}
 use Rattle.run_engine.proofs.BlocksLemmas.{length-without}
 use Rattle.run_engine.proofs.GiveUpLemmas.{has_mark-at}
 use Rattle.run_engine.proofs.segments.blocks.Segments.clear_mark.Goals as goal
@@ -9,6 +11,9 @@ invariant_of-self c = (
   c.self.invariant.0 ∙ sym c.clear_at.ensures.starts,
   c.self.invariant.1 ∙ sym (ap length c.clear_at.ensures.segments ∙ length-without (joined c.self.inside.blocks.items) c.args.index),
   c.self.invariant.2,
+  c.self.invariant.3 ∙ ap (starts_from 0) (sym c.clear_at.ensures.traces),
+  c.self.invariant.4 ∙ ap length (sym (ap trace_of c.clear_at.ensures.segments ∙ trace_of-without_mark (joined c.self.inside.blocks.items) c.args.index)),
+  c.self.invariant.5,
 )
 
 pub returns-clause-answer : goal.returns-clause-answer
