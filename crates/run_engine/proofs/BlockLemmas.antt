@@ -221,11 +221,6 @@ bare-all : (ss : List SegmentView) → map (laid_over None) ss ≡ ss
 bare-all [] = refl
 bare-all (s ∷ ss) = ap (λ more. s ∷ more) (bare-all ss)
 
--- segments in a block of their own
-pub own-block : (gone : List Bool) (n len : ℕ) (ss more : List SegmentView) → gone ≡ replicate n false → more ≡ ss → len ≡ length ss → map (laid_over None) (standing gone 0 len more) ≡ ss
-own-block gone n len ss more none same long =
-    ap (map (laid_over None)) ((λ j. standing (none j) 0 len (same j)) ∙ standing-own n len ss (sym long)) ∙ bare-all ss
-
 -- what was laid over states, and then what differs in the remains
 pub both-laid : (laid : Option Remains) (x a b d z new r : Remains) → laid ≡ Some x → a ≡ x → b ≡ d → AreBoth a b z → new ≡ z → ((m : State) → AreThere m r → patched m d ≡ patched m r) → IsBoth laid r new
 both-laid laid x a b d z new r is here next joint same patch =

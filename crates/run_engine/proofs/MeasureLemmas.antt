@@ -1,7 +1,7 @@
 -- How many operations segments have, and within which bounds their numbers are.
-use Rattle.std.proofs.Common.{◌≡◌, ℕ, zero, suc, ◌+◌, ◌-◌, ◌<◌, ◌≤◌, Bool, List, [], ◌∷◌, ◌++◌, map, length, take, drop, refl, ap, sym, subst, ◌∙◌, arith, length-append}
+use Rattle.std.proofs.Common.{◌≡◌, ℕ, ◌+◌, ◌-◌, ◌<◌, ◌≤◌, Bool, List, [], ◌∷◌, ◌++◌, map, length, take, drop, refl, ap, sym, subst, ◌∙◌, arith, length-append}
 use Rattle.std.specs.Prelude.{Option, Some, None, slice_range}
-use Rattle.std.proofs.lemmas.List.{take-map, drop-map, length-map, take_all, append-nil}
+use Rattle.std.proofs.lemmas.List.{take-map, drop-map, length-map, append-nil}
 use Rattle.trace_types.specs.Operation.{Operation}
 use Rattle.trace_types.specs.declared.limits.TheConstants.{MAX_OPS}
 use Rattle.ownership_model.specs.Patch.{Remains}
@@ -69,11 +69,6 @@ standing-trace x y gone new from len ss =
     (all-laid x (standing gone from len ss) ∙ same-part (left gone ss) ss len from (all-left gone ss)
     ∙ sym (all-laid y (standing new from len ss) ∙ same-part (left new ss) ss len from (all-left new ss)))
 
--- all segments
-pub whole-range : (ss : List SegmentView) (from to len : ℕ) → from ≤ to → to ≤ length ss → to - from ≡ len → len ≡ length ss → slice_range ss from to ≡ ss
-whole-range ss zero to len order within is all = let le : length ss ≤ to - 0 = omega arith in take_all (to - 0) ss le
-whole-range ss (suc from) to len order within is all = absurd (omega arith)
-
 -- numbers within bounds
 between-front : (least greatest : ℕ) (a b : List Operation) → AreBetween least greatest (a ++ b) → AreBetween least greatest a
 between-front least greatest [] b h = tt
@@ -112,12 +107,6 @@ measured-part ss part ops n least greatest from to is long h =
     let all = h.ops_are in
     measured-as (slice_range ss from to) part n least greatest (ap trace_of (sym is))
     (record { ops_are = long; few = omega arith; between = between-part least greatest (to - from) from ss h.between })
-
-pub measured-one : (s : SegmentView) (all : List SegmentView) (ops least greatest : ℕ) → all ≡ s ∷ [] → ops ≡ length (ops_of s) → ops ≤ MAX_OPS → AreBetween least greatest (ops_of s) → AreMeasured all ops least greatest
-measured-one s all ops least greatest is long few h =
-    let one : trace_of (s ∷ []) ≡ ops_of s = append-nil (ops_of s) in
-    measured-as (s ∷ []) all ops least greatest (ap trace_of (sym is))
-    (record { ops_are = long ∙ ap length (sym one); few = few; between = subst (AreBetween least greatest) (sym one) h })
 
 -- one segment more
 pub measured-more : (ss all : List SegmentView) (s : SegmentView) (ops more least greatest low high : ℕ) → all ≡ ss ++ s ∷ [] → more ≡ length (ops_of s) → ops + more ≤ MAX_OPS
