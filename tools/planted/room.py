@@ -37,7 +37,7 @@ class Room:
         return "::".join(self.crate.parts_of(function)) if not function.of_trait else self.only_trait(function)
 
     def only_trait(self, function):
-        return "::".join([*self.crate.home_of(function), f"{function.kind}{function.trait}", function.name])
+        return "::".join([*self.crate.home_of(function), f"{function.kind}{function.trait}{''.join(function.given)}", function.name])
 
     def write(self, folder, plants, real, texts):
         crate = self.crate

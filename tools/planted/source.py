@@ -34,6 +34,12 @@ class Function:
         return words[-1] if " for " in self.owner else ""
 
     @property
+    def given(self):
+        """The names of the types that its impl gives to the trait, less the impl's own parameters: the check's name of the trait ends with them."""
+        own, head = parameters_of(self.owner.partition(" for ")[0])
+        return [it for it in re.findall(r"\w+", head.partition("<")[2]) if it not in own]
+
+    @property
     def shown(self):
         named = f"{self.kind}::{self.name}" if self.kind else self.name
         return f"{self.trait} for {named}" if self.trait else named
@@ -82,6 +88,19 @@ def split(text):
         else:
             part += it
     return [it.strip() for it in [*parts, part] if it.strip()]
+
+
+def parameters_of(head):
+    """Returns the names of an impl's own type parameters, and what of its head follows them."""
+    head = re.sub(r"^impl\b\s*", "", head)
+    if not head.startswith("<"):
+        return [], head
+    depth = 0
+    for i, letter in enumerate(head):
+        depth += {"<": 1, ">": -1}.get(letter, 0)
+        if depth == 0:
+            return [re.split(r"\W", it)[0] for it in split(head[1:i])], head[i + 1 :]
+    return [], head
 
 
 def without_arguments(text):
