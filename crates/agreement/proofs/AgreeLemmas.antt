@@ -77,4 +77,5 @@ all_reached m = record {
 -- what agreement is for
 pub replay_alike : (new old : State) (x : Remains) → IsSound new [] → IsSound old [] → Agree new old → AreRemains new old x → ReplayAlike (is_apart new old) new old x
 replay_alike new old x sound sound_too a is ops distinct unused unused_too =
-    agreement (λ o. is_reached StrongOrWeak new o) new old sound sound_too (all_reached new) a x is ops distinct unused unused_too
+    let reach : IsReach StrongOrWeak new (λ o. is_reached StrongOrWeak new o) = all_reached new in
+    agreement (λ o. is_reached StrongOrWeak new o) new old sound sound_too (record { roots = reach.roots; fields = reach.fields }) a x is ops distinct unused unused_too

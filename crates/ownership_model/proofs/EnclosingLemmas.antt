@@ -1,4 +1,4 @@
--- What strong or weak slots reach encloses what a program can ask about.
+-- A set that is closed by strong or weak slots encloses what a program can ask about.
 use Rattle.std.proofs.Common.{◌≡◌, ℕ, List, [], ◌∷◌, refl, arith, Bool, true, false}
 use Rattle.std.specs.Prelude.{not, Option, Some, None}
 use Rattle.std.specs.FinMap.{get, keys}
@@ -12,7 +12,7 @@ use Rattle.trace_types.specs.declared.slots.Entry.TheVariants.{Alive, Husk}
 use Rattle.ownership_model.specs.State.{State}
 use Rattle.ownership_model.proofs.Twins.{AvoidsSlot, AvoidSlots, AvoidsHolding, AvoidsEntry, IfThere, outside, Encloses}
 use Rattle.ownership_model.specs.declared.link.Link.TheVariants.{StrongOrWeak}
-use Rattle.ownership_model.specs.Reach.{IsReach, named, slots_names, holding_names, cell_names, entry_names, handle_names, all_cell_names}
+use Rattle.ownership_model.specs.Reach.{IsClosed, named, slots_names, holding_names, cell_names, entry_names, handle_names, all_cell_names}
 use Rattle.ownership_model.proofs.NameLemmas.{HasAll, all_left, all_right, at_each_key}
 
 not_true : (b : Bool) → b ≡ true → not b ≡ false
@@ -47,7 +47,7 @@ entry_avoids k None h = tt
 entry_avoids k (Some (Alive fields)) h = slots_avoid k fields h
 entry_avoids k (Some Husk) h = tt
 
-pub encloses : (m : State) (k : ℕ → Bool) → IsReach StrongOrWeak m k → Encloses k m
+pub encloses : (m : State) (k : ℕ → Bool) → IsClosed StrongOrWeak m k → Encloses k m
 encloses m k r = record {
   roots = λ h. holding_avoids k (get m.handles h) (at_each_key k m.handles (holding_names StrongOrWeak) refl (all_left k (handle_names StrongOrWeak m (keys m.handles)) (all_cell_names StrongOrWeak m (keys m.cells)) r.roots) h);
   cell_roots = λ c. cell_avoids k (get m.cells c) (at_each_key k m.cells (cell_names StrongOrWeak) refl (all_right k (handle_names StrongOrWeak m (keys m.handles)) (all_cell_names StrongOrWeak m (keys m.cells)) r.roots) c);
