@@ -1,7 +1,7 @@
 -- The laws, each as the contract of its function in `laws` or `reach_laws` has it. For the layers above: their proofs cite a law by
 -- its name here.
 use Rattle.std.proofs.Common.{arith}
-use Rattle.ownership_model.specs.Laws.{AgreementHolds, PatchesHold, SoundnessHolds, ReleasesInTurn, CascadeHolds, BoundsHold, AppendsHold, ScopesHold}
+use Rattle.ownership_model.specs.Laws.{AgreementHolds, PatchesHold, SoundnessHolds, ReleasesInTurn, CascadeHolds, BoundsHold, AppendsHold, TouchedHolds, ScopesHold}
 use Rattle.ownership_model.specs.Before.{OldTracesReplayAsBefore}
 use Rattle.ownership_model.specs.ReachLaws.{ReachIsLeast, NamedAreReached, LeakedAreUnreached, HoldersHold}
 use Rattle.ownership_model.proofs.ReleaseLemmas.{release-nil, release-cons, work_drops}
@@ -14,6 +14,7 @@ use Rattle.ownership_model.proofs.PatchLemmas.{get-patched}
 use Rattle.ownership_model.proofs.RemainsLemmas.{is_patched, patched_both, patched_less, still_there}
 use Rattle.ownership_model.proofs.LaterLemmas.{stops_later}
 use Rattle.ownership_model.proofs.ReplayLemmas.{appends_hold, nothing_sound, nothing_taken, distinct_new}
+use Rattle.ownership_model.proofs.TouchedLemmas.{end_outside}
 use Rattle.ownership_model.proofs.FitLemmas.{bounds_hold}
 use Rattle.ownership_model.proofs.BeforeLemmas.{as_before}
 use Rattle.ownership_model.proofs.ScopeLemmas.{changed_scoped}
@@ -59,6 +60,9 @@ bounds = bounds_hold
 
 pub appends : AppendsHold
 appends = appends_hold
+
+pub touched : TouchedHolds
+touched = λ m ops. end_outside ops m
 
 pub old_traces : OldTracesReplayAsBefore
 old_traces = as_before

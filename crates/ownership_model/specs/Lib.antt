@@ -16,6 +16,7 @@ pub mod Agrees
 pub mod Patch
 pub mod Cascade
 pub mod Reach
+pub mod Touched
 pub mod Leaks
 pub mod Falling
 pub mod Laws
