@@ -238,23 +238,23 @@ pub reached : (m : State) (o : ℕ) → IsSound m [] → IsBounded m → Descend
 reached m o sound bounded to there = reached_below m to.ranks to.from sound bounded to.ranked (suc MAX_RANK) o to.above (omega arith) there
 
 -- ---- what counts nothing is named by nothing
-counted_slot : (o : ℕ) (s : Slot) → names_alike (Strong o) s ≡ 0 → names_alike (Weak o) s ≡ 0 → has o (named StrongOrWeak s) ≡ false
+pub counted_slot : (o : ℕ) (s : Slot) → names_alike (Strong o) s ≡ 0 → names_alike (Weak o) s ≡ 0 → has o (named StrongOrWeak s) ≡ false
 counted_slot o Nothing z y = refl
 counted_slot o (Strong p) z y = grind (arith, nat_tests, z)
 counted_slot o (Weak p) z y = grind (arith, nat_tests, y)
 counted_slot o Dangling z y = refl
 
-both_false : (a b : Bool) → a ≡ false → b ≡ false → (a || b) ≡ false
+pub both_false : (a b : Bool) → a ≡ false → b ≡ false → (a || b) ≡ false
 both_false true b h g = absurd cc
 both_false false b h g = g
 
-counted_slots : (o : ℕ) (ss : List Slot) → slots_weight (names_alike (Strong o)) ss ≡ 0 → slots_weight (names_alike (Weak o)) ss ≡ 0 → has o (slots_names StrongOrWeak ss) ≡ false
+pub counted_slots : (o : ℕ) (ss : List Slot) → slots_weight (names_alike (Strong o)) ss ≡ 0 → slots_weight (names_alike (Weak o)) ss ≡ 0 → has o (slots_names StrongOrWeak ss) ≡ false
 counted_slots o [] z y = refl
 counted_slots o (s ∷ ss) z y =
     has-append o (named StrongOrWeak s) (slots_names StrongOrWeak ss)
     ∙ both_false _ _ (counted_slot o s (omega (arith, z)) (omega (arith, y))) (counted_slots o ss (omega (arith, z)) (omega (arith, y)))
 
-counted_entry : (o : ℕ) (x : Option Entry) → weight_at (entry_weight (names_alike (Strong o))) x ≡ 0 → weight_at (entry_weight (names_alike (Weak o))) x ≡ 0 → has o (entry_names StrongOrWeak x) ≡ false
+pub counted_entry : (o : ℕ) (x : Option Entry) → weight_at (entry_weight (names_alike (Strong o))) x ≡ 0 → weight_at (entry_weight (names_alike (Weak o))) x ≡ 0 → has o (entry_names StrongOrWeak x) ≡ false
 counted_entry o None z y = refl
 counted_entry o (Some (Alive fields)) z y = counted_slots o fields z y
 counted_entry o (Some Husk) z y = refl

@@ -105,7 +105,7 @@ cut_then true false x = refl
 cut_then false true x = refl
 cut_then false false x = refl
 
-get-without_keys : (qs : List ℕ) (m : State) (q : ℕ) → get (without_keys qs m).objects q ≡ (if has q qs then None else get m.objects q)
+pub get-without_keys : (qs : List ℕ) (m : State) (q : ℕ) → get (without_keys qs m).objects q ≡ (if has q qs then None else get m.objects q)
 get-without_keys [] m q = refl
 get-without_keys (k ∷ qs) m q =
     get-without_keys qs (without_object m k) q
@@ -135,13 +135,13 @@ get-with_keys xs (k ∷ qs) m q =
     ∙ put_then (has q qs) (k == q) (get xs k) (get xs q) (get m.objects q) (λ t. ap (get xs) (same_number k q t))
 
 -- handles, cells and scopes stay
-abbrev HasRootsOf : State → State → Type 0
+abbrev pub HasRootsOf : State → State → Type 0
 HasRootsOf m n = (n.handles ≡ m.handles) × ((n.cells ≡ m.cells) × (n.scopes ≡ m.scopes))
 
 roots_then : (m n k : State) → HasRootsOf n k → HasRootsOf m n → HasRootsOf m k
 roots_then m n k next first = (next.0 ∙ first.0, (next.1.0 ∙ first.1.0, next.1.1 ∙ first.1.1))
 
-roots-without_keys : (qs : List ℕ) (m : State) → HasRootsOf m (without_keys qs m)
+pub roots-without_keys : (qs : List ℕ) (m : State) → HasRootsOf m (without_keys qs m)
 roots-without_keys [] m = (refl, (refl, refl))
 roots-without_keys (k ∷ qs) m = roots-without_keys qs (without_object m k)
 

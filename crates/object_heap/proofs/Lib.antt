@@ -13,3 +13,4 @@ pub mod EnterLemmas
 pub mod NeighbourLemmas
 pub mod LeaveLemmas
 pub mod ExchangeLemmas
+pub mod IslandLemmas

@@ -45,8 +45,19 @@ impl Draft {
         ensures bounded { OnOk result (IsBounded (drafted self.new)) }
     {
         let keys = removed.keys(alloc)?;
-        for key in &keys {
-            self.take_out(alloc, *key)?;
+        self.take_out_each(alloc, &keys)
+    }
+
+    /// These objects go, one after another. Where memory runs out the draft is unspecified: let it go.
+    pub fn take_out_each(&mut self, alloc: Global, objects: &[u32]) -> Result<(), AllocError>
+        requires counted { IsCounted self.old.objects.counts (drafted self.old) [] }
+        requires bounded { IsBounded (drafted self.old) }
+        ensures state { OnOk result (drafted self.new ≡ without_keys objects.now (drafted self.old)) }
+        ensures counted { OnOk result (IsCounted self.new.objects.counts (drafted self.new) []) }
+        ensures bounded { OnOk result (IsBounded (drafted self.new)) }
+    {
+        for object in objects {
+            self.take_out(alloc, *object)?;
         }
         Ok(())
     }

@@ -1,5 +1,5 @@
 //! The heap of a traced program at one moment.
-ghost use Rattle.std.specs.Prelude.{◌≡◌, ◌↔◌, [], true, IfOk, OnOk, OnErr, IsTrue};
+ghost use Rattle.std.specs.Prelude.{◌≡◌, ◌↔◌, [], true, not, IfOk, OnOk, OnErr, IsTrue};
 ghost use Rattle.std.specs.Option.{option_copied};
 ghost use Rattle.std.specs.FinMap as map;
 ghost use Rattle.ownership_model.specs.State.{nothing_held, strong, weak, IsSound};
@@ -10,7 +10,7 @@ ghost use Rattle.ownership_model.specs.Falling.{CascadesTo};
 ghost use Rattle.ownership_model.specs.Scopes.{scope_of};
 ghost use Rattle.ownership_model.specs.Agrees.{HaveSameRoots};
 ghost use Rattle.ownership_model.specs.declared.link.Link.TheVariants.{StrongOrWeak};
-ghost use Rattle.ownership_model.specs.Reach.{is_reached};
+ghost use Rattle.ownership_model.specs.Reach.{has, is_reached, IsClosed};
 ghost use Rattle.ownership_model.specs.Patch.{patched};
 ghost use Rattle.object_heap.specs.Exchange.{AreWithinLimits};
 ghost use Rattle.object_heap.specs.Links.{first_of, earlier_in};
@@ -128,6 +128,16 @@ impl Heap {
             Some(_) => self.draft.objects.descend_to(object),
             None => false,
         }
+    }
+
+    /// Whether nothing but fields of these objects names any of them: neither handles nor cells, nor fields of other objects.
+    ///
+    /// One may be listed twice, or not stand at all. The work is that of the objects and of their fields: the rest isn't looked at.
+    /// May take memory. It is a help for speed, and no clause says that an island is told as one.
+    pub fn is_island(&self, alloc: Global, objects: &[u32]) -> Result<bool, AllocError>
+        ensures { IfOk result (λ b. IsTrue b → IsClosed StrongOrWeak self.now (λ o. not (has o objects.now))) }
+    {
+        self.draft.is_island(alloc, objects)
     }
 
     /// How many slots name the object strongly.

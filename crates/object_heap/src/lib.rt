@@ -7,6 +7,7 @@ mod counters;
 mod draft;
 mod exchange;
 pub mod heap;
+mod island;
 mod object;
 mod objects;
 pub mod place;
