@@ -9,10 +9,12 @@ mod exchange;
 mod merged;
 mod remains;
 mod search;
+mod suspects;
 mod trail;
 
 pub use checkpoint::Checkpoint;
 pub use exchange::Exchange;
 pub use remains::{Remains, patch};
-pub use search::{Meeting, meet};
+pub use search::{Meeting, meet, meet_among};
+pub use suspects::Suspects;
 pub use trail::{Path, Root, Trail, refutes};

@@ -1,11 +1,13 @@
 //! Heaps of one replay compared with those of another: the trail to a difference that was found before is followed first.
-ghost use Rattle.std.specs.Prelude.{IfOk, IsTrue};
+ghost use Rattle.std.specs.Prelude.{IfOk, OnOk, IsTrue};
+ghost use Rattle.ownership_model.specs.Touched.{AgreeOutside};
 ghost use Rattle.agreement.specs.Agreement.{Agree};
 ghost use Rattle.agreement.specs.Meeting.{Meets};
 
 use crate::agree::agree;
 use crate::differing::differing_object;
 use crate::remains::Remains;
+use crate::suspects::Suspects;
 use crate::trail::{Trail, refutes};
 use object_heap::Heap;
 use std::alloc::{AllocError, Global};
@@ -46,6 +48,22 @@ pub fn meet(
         Some(remains) => Ok(Meeting::Alike(remains)),
         None => Ok(Meeting::Apart),
     }
+}
+
+/// As `meet`, of heaps that differ at most at the suspects.
+pub fn meet_among(
+    alloc: Global,
+    new: &Heap,
+    old: &Heap,
+    suspects: &mut Suspects,
+    seen: &mut Option<Trail>,
+) -> Result<Meeting, AllocError>
+    requires { AgreeOutside suspects.old new.now old.now }
+    ensures meets { IfOk result (Meets new.now old.now) }
+    ensures outside { OnOk result (AgreeOutside suspects.new new.now old.now) }
+{
+    let _ = suspects;
+    meet(alloc, new, old, seen)
 }
 
 fn is_refuted(seen: &Option<Trail>, new: &Heap, old: &Heap) -> bool
