@@ -93,6 +93,14 @@ whole false false m q x t = sym (nothing_at m q x t)
 pub rest_whole : (m : State) (k : ℕ → Bool) (rest : FinMap nat_cmp Remaining) → IsRest m k (keys m.objects) rest → (q : ℕ) → get rest q ≡ (if k q then None else remaining_at m q (get m.objects q))
 rest_whole m k rest all q = all q ∙ whole (has q (keys m.objects)) (k q) m q (get m.objects q) (contains_key-keys m.objects q ∙ has_as_any q (keys m.objects))
 
+turned_round : (b : Bool) (x : Option Remaining) → (if b && true then x else None) ≡ (if not b then None else x)
+turned_round true x = refl
+turned_round false x = refl
+
+-- no listed one was skipped
+pub rest_listed : (m : State) (xs : List ℕ) (rest : FinMap nat_cmp Remaining) → IsRest m (λ o. false) xs rest → (q : ℕ) → get rest q ≡ (if not (has q xs) then None else remaining_at m q (get m.objects q))
+rest_listed m xs rest all q = all q ∙ turned_round (has q xs) (remaining_at m q (get m.objects q))
+
 -- what a call that succeeded gives
 pub on_ok : {T E : Type 0} (r : Result T E) {P Q : Type 0} → OnOk r P → (P → Q) → OnOk r Q
 on_ok (Ok x) p f = f p

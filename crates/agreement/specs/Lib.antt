@@ -4,3 +4,4 @@ pub mod Gathering
 pub mod Trimmed
 pub mod Laid
 pub mod Meeting
+pub mod Joining

@@ -3,9 +3,13 @@
 #![tactic(auto)]
 
 pub mod agree;
+mod among;
 mod checkpoint;
 mod differing;
 mod exchange;
+mod gathering;
+mod joining;
+mod listed;
 mod merged;
 mod remains;
 mod search;

@@ -1,10 +1,12 @@
 //! Heaps of one replay compared with those of another: the trail to a difference that was found before is followed first.
-ghost use Rattle.std.specs.Prelude.{IfOk, OnOk, IsTrue};
+ghost use Rattle.std.specs.Prelude.{IfOk, IfSome, OnOk, IsTrue};
+ghost use Rattle.ownership_model.specs.Agrees.{HaveSameRoots};
 ghost use Rattle.ownership_model.specs.Touched.{AgreeOutside};
 ghost use Rattle.agreement.specs.Agreement.{Agree};
 ghost use Rattle.agreement.specs.Meeting.{Meets};
 
 use crate::agree::agree;
+use crate::among::{island_among, sure_difference};
 use crate::differing::differing_object;
 use crate::remains::Remains;
 use crate::suspects::Suspects;
@@ -23,9 +25,7 @@ pub enum Meeting {
     Alike(Remains),
 }
 
-/// Compares a new heap with an old one. Where the trail still leads to a difference nothing else is looked at. Heaps that are the
-/// same are told as such: only where their sums are equal both are walked for it. Else the trail is replaced by one to a difference, if
-/// any is found: then they don't agree. Only where none is found all that can be reached is compared.
+/// Compares a new heap with an old one, of which nothing else is known: as `meet_among` where all objects are suspects.
 pub fn meet(
     alloc: Global,
     new: &Heap,
@@ -34,23 +34,17 @@ pub fn meet(
 ) -> Result<Meeting, AllocError>
     ensures { IfOk result (Meets new.now old.now) }
 {
-    if is_refuted(seen, new, old) {
-        return Ok(Meeting::Apart);
-    }
-    if new.sum() == old.sum() && new.same(old) {
-        return Ok(Meeting::Same);
-    }
-    *seen = trail_between(alloc, new, old)?;
-    if is_refuted(seen, new, old) {
-        return Ok(Meeting::Apart);
-    }
-    match agree(alloc, new, old)? {
-        Some(remains) => Ok(Meeting::Alike(remains)),
-        None => Ok(Meeting::Apart),
-    }
+    let mut suspects = Suspects::of_both(alloc, new, old)?;
+    meet_among(alloc, new, old, &mut suspects, seen)
 }
 
-/// As `meet`, of heaps that differ at most at the suspects.
+/// Compares a new heap with an old one that differs from it at most at the suspects.
+///
+/// Where the trail still leads to a difference nothing else is looked at. Where the roots are the same the suspects are settled: those
+/// that are the same in both are dropped. With none left the heaps are the same; with one that is surely reached they don't agree, and
+/// it is the trail from now on; and where those left, with all that differs with them, are an island, they agree but for it. Up to here
+/// the work is that of the suspects. Else the trail is replaced by one to a difference, if any is found: then they don't agree. Only
+/// where none is found all that can be reached is compared.
 pub fn meet_among(
     alloc: Global,
     new: &Heap,
@@ -62,8 +56,60 @@ pub fn meet_among(
     ensures meets { IfOk result (Meets new.now old.now) }
     ensures outside { OnOk result (AgreeOutside suspects.new new.now old.now) }
 {
-    let _ = suspects;
-    meet(alloc, new, old, seen)
+    if is_refuted(seen, new, old) {
+        return Ok(Meeting::Apart);
+    }
+    if new.same_roots(old) {
+        suspects.settle(alloc, new, old)?;
+        if let Some(meeting) = told_by(alloc, new, old, suspects.as_slice(), seen)? {
+            return Ok(meeting);
+        }
+    }
+    meet_by_search(alloc, new, old, seen)
+}
+
+// What the suspects tell alone of heaps with the same roots, if they do.
+fn told_by(
+    alloc: Global,
+    new: &Heap,
+    old: &Heap,
+    suspects: &[u32],
+    seen: &mut Option<Trail>,
+) -> Result<Option<Meeting>, AllocError>
+    requires roots { HaveSameRoots new.now old.now }
+    requires outside { AgreeOutside suspects.now new.now old.now }
+    ensures { IfOk result (λ r. IfSome r (Meets new.now old.now)) }
+{
+    if suspects.is_empty() {
+        return Ok(Some(Meeting::Same));
+    }
+    if let Some(trail) = sure_difference(new, old, suspects) {
+        *seen = Some(trail);
+        return Ok(Some(Meeting::Apart));
+    }
+    match island_among(alloc, new, old, suspects)? {
+        Some(remains) => Ok(Some(Meeting::Alike(remains))),
+        None => Ok(None),
+    }
+}
+
+// Where a trail to a difference is found they don't agree; else all that is reached is compared.
+fn meet_by_search(
+    alloc: Global,
+    new: &Heap,
+    old: &Heap,
+    seen: &mut Option<Trail>,
+) -> Result<Meeting, AllocError>
+    ensures { IfOk result (Meets new.now old.now) }
+{
+    *seen = trail_between(alloc, new, old)?;
+    if is_refuted(seen, new, old) {
+        return Ok(Meeting::Apart);
+    }
+    match agree(alloc, new, old)? {
+        Some(remains) => Ok(Meeting::Alike(remains)),
+        None => Ok(Meeting::Apart),
+    }
 }
 
 fn is_refuted(seen: &Option<Trail>, new: &Heap, old: &Heap) -> bool

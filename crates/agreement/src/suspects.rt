@@ -1,7 +1,10 @@
 //! Objects at which two heaps may differ.
-ghost use Rattle.std.specs.Prelude.{◌≡◌, [], ◌++◌, ◌∷◌, map, OnOk};
-ghost use Rattle.ownership_model.specs.Touched.{event_object, counted, touched_by, touched_in};
+ghost use Rattle.std.specs.Prelude.{◌≡◌, [], ◌++◌, ◌∷◌, map, IfOk, OnOk};
+ghost use Rattle.ownership_model.specs.Touched.{event_object, touched_by, touched_in, AgreeOutside};
 
+use crate::agree::is_same_entry;
+use crate::listed::Listed;
+use object_heap::Heap;
 use std::alloc::{AllocError, Global};
 use std::marker::Model;
 use trace_types::outcomes::{Event, Outcome};
@@ -33,6 +36,21 @@ impl Suspects {
         }
     }
 
+    /// All objects of both heaps, where nothing else is known of them.
+    pub fn of_both(alloc: Global, new: &Heap, old: &Heap) -> Result<Suspects, AllocError>
+        ensures { IfOk result (λ s. AgreeOutside s new.now old.now) }
+    {
+        let mut objects = new.objects(alloc)?;
+        objects.extend_from_slice(&old.objects(alloc)?)?;
+        Ok(Suspects { objects })
+    }
+
+    pub fn as_slice(&self) -> &[u32]
+        ensures { result.now ≡ self.now }
+    {
+        self.objects.as_slice()
+    }
+
     /// What these outcomes tell may have changed joins them.
     pub fn add(&mut self, outcomes: &[Outcome]) -> Result<(), AllocError>
         ensures { OnOk result (self.new ≡ self.old ++ touched_in outcomes.now) }
@@ -40,6 +58,21 @@ impl Suspects {
         for outcome in outcomes {
             self.add_one(outcome)?;
         }
+        Ok(())
+    }
+
+    /// Those at which the same stands in both heaps are suspects no more, and each of the others is listed once.
+    pub fn settle(&mut self, alloc: Global, new: &Heap, old: &Heap) -> Result<(), AllocError>
+        requires { AgreeOutside self.old new.now old.now }
+        ensures { OnOk result (AgreeOutside self.new new.now old.now) }
+    {
+        let mut left = Listed::none(alloc);
+        for object in &self.objects {
+            if !is_same_entry(new, old, *object) {
+                left.join(*object)?;
+            }
+        }
+        self.objects = left.into_vec();
         Ok(())
     }
 

@@ -2,7 +2,7 @@ use Rattle.ownership_model.specs.declared.link.Link.TheVariants.{StrongOrWeak}
 use Rattle.ownership_model.specs.Reach.{is_reached}
 use Rattle.std.proofs.Common.{refl}
 use Rattle.agreement.proofs.MeetingLemmas.{agree_but}
-use Rattle.agreement.proofs.search.meet.Goals as goal
+use Rattle.agreement.proofs.search.meet_by_search.Goals as goal
 
 pub returns-in-Some : goal.returns-in-Some
 returns-in-Some c =

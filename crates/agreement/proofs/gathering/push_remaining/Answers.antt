@@ -1,7 +1,7 @@
 use Rattle.std.proofs.Common.{◌≡◌, rules}
 use Rattle.ownership_model.specs.declared.remaining.Remaining.{Remaining}
 use Rattle.agreement.proofs.GatheringLemmas.{on_ok, put_remaining, none_remaining}
-use Rattle.agreement.proofs.agree.push_remaining.Goals as goal
+use Rattle.agreement.proofs.gathering.push_remaining.Goals as goal
 
 pub returns-in_ok-copy-in-Some : goal.returns-in_ok-copy-in-Some
 returns-in_ok-copy-in-Some c =

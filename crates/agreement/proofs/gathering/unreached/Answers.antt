@@ -4,8 +4,8 @@ use Rattle.std.proofs.lemmas.List.{take_all}
 use Rattle.std.specs.FinMap.{get, get-empty}
 use Rattle.std.specs.BTreeSet.{contains}
 use Rattle.agreement.proofs.GatheringLemmas.{IsRest, rest_skips, rest_joins, rest_whole}
-use Rattle.agreement.proofs.agree.unreached.Goals.{then-not-contains+in_ok-push_remaining, else-not-contains}
-use Rattle.agreement.proofs.agree.unreached.Goals as goal
+use Rattle.agreement.proofs.gathering.unreached.Goals.{then-not-contains+in_ok-push_remaining, else-not-contains}
+use Rattle.agreement.proofs.gathering.unreached.Goals as goal
 
 pub loop-object-init : goal.loop-object-init
 loop-object-init c = λ q. ap (λ n. get n q) c.empty-rest.ensures ∙ get-empty nat_cmp q

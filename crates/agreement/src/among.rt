@@ -1,0 +1,64 @@
+//! What suspects alone tell of two heaps with the same roots.
+ghost use Rattle.std.specs.Prelude.{[], not, is_some, IfOk, IfSome, IsTrue};
+ghost use Rattle.ownership_model.specs.State.{IsSound};
+ghost use Rattle.ownership_model.specs.Reach.{has};
+ghost use Rattle.ownership_model.specs.Agrees.{HaveSameRoots};
+ghost use Rattle.ownership_model.specs.Touched.{AgreeOutside};
+ghost use Rattle.ownership_model.specs.Patch.{IsRemains};
+ghost use Rattle.agreement.specs.Agreement.{Agree};
+ghost use Rattle.agreement.specs.Meeting.{AgreeBut};
+
+use crate::gathering::standing;
+use crate::joining::joined;
+use crate::remains::Remains;
+use crate::trail::{Trail, refutes};
+use object_heap::Heap;
+use std::alloc::{AllocError, Global};
+
+/// A trail to a suspect that differs and is surely reached, if there is one.
+pub fn sure_difference(new: &Heap, old: &Heap, suspects: &[u32]) -> Option<Trail>
+    ensures { IsTrue (is_some result) → ¬ (Agree new.now old.now) }
+{
+    for object in suspects {
+        let trail = Trail::Object(*object);
+        if refutes(&trail, new, old) {
+            return Some(trail);
+        }
+    }
+    None
+}
+
+/// The remains, where the suspects and all that differs with them are an island of the new heap. The work is that of these objects and
+/// of their fields: the heaps are not walked.
+pub fn island_among(
+    alloc: Global,
+    new: &Heap,
+    old: &Heap,
+    suspects: &[u32],
+) -> Result<Option<Remains>, AllocError>
+    requires roots { HaveSameRoots new.now old.now }
+    requires outside { AgreeOutside suspects.now new.now old.now }
+    ensures { IfOk result (λ r. IfSome r (λ x. AgreeBut new.now old.now x)) }
+{
+    let Some(apart) = joined(alloc, new, old, suspects)? else {
+        return Ok(None);
+    };
+    let island = apart.as_slice();
+    if !new.is_island(alloc, island)? {
+        return Ok(None);
+    }
+    let remains = remains_at(alloc, new, old, island)?;
+    Ok(Some(remains))
+}
+
+// What stands for the objects in each heap.
+fn remains_at(alloc: Global, new: &Heap, old: &Heap, objects: &[u32]) -> Result<Remains, AllocError>
+    ensures remains { IfOk result (λ x. IsRemains (λ o. not (has o objects.now)) new.now old.now x) }
+    ensures sound { IsSound new.now [] × IsSound old.now [] }
+{
+    new.kept();
+    old.kept();
+    let removed = standing(alloc, old, objects)?;
+    let added = standing(alloc, new, objects)?;
+    Remains::new(alloc, removed, added)
+}
