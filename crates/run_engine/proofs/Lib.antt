@@ -30,3 +30,4 @@ mod AnsweredLemmas
 mod OnwardLemmas
 mod GoesOnLemmas
 mod LeftLemmas
+mod DivergenceLemmas

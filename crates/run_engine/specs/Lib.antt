@@ -22,3 +22,4 @@ pub mod Loaded
 pub mod Revision
 pub mod RevisionProps
 pub mod OldRun
+pub mod Divergence

@@ -1,6 +1,7 @@
 //! The replay of a trace, and that of an edited one beside an old run.
 pub mod ahead;
 pub mod converge;
+pub mod divergence;
 pub mod loading;
 pub mod piece;
 pub mod rejoin;

@@ -1,5 +1,5 @@
 //! A replay beside an old one, as far as the two come together.
-ghost use Rattle.std.specs.Prelude.{◌≡◌, ◌++◌, ◌+◌, ◌<◌, ◌≤◌, IfOk, length, slice_range};
+ghost use Rattle.std.specs.Prelude.{◌≡◌, ◌++◌, ◌+◌, ◌<◌, ◌≤◌, IfOk, length, take, slice_range};
 ghost use Rattle.std.specs.Ordering.{nat_cmp};
 ghost use Rattle.std.specs.BTreeSet.{contains};
 ghost use Rattle.run_engine.specs.Segments.{trace_of, marks_from, all_marks, IsRun, IsPiece};
@@ -13,6 +13,7 @@ ghost use Rattle.run_engine.specs.Steps.{AreTaken, AreStepped};
 ghost use Rattle.run_engine.specs.GoesOn.{MayGoOn, GoesOnBeside};
 
 use crate::replay::ahead::go_ahead;
+use crate::replay::divergence::Divergence;
 use crate::replay::piece::{Piece, STRIDE, found, joined, stepped};
 use crate::replay::rejoin::{Rest, rejoined};
 use crate::replay::revision::Revision;
@@ -183,6 +184,8 @@ pub fn converge(
 ) -> Result<Piece, AllocError>
     requires may { MayGoOn (new_trace revision.now) front seam.new }
     requires shared { ShareEnd (old_trace revision.now) (new_trace revision.now) seam.old seam.new }
+    requires begins { take front.len (new_trace revision.now)
+        ≡ take front.len (old_trace revision.now) }
     ensures run { IfOk result (λ r. IsRun r.segments r.end) }
     ensures trace { IfOk result (λ r. trace_of r.segments ≡ (new_trace revision.now)) }
     ensures marks { IfOk result (λ r.
@@ -200,7 +203,7 @@ pub fn converge(
     let old = revision.segments;
     let mut front = front;
     let (first, mut at) = old.last_from(seam.old);
-    let mut seen = None;
+    let mut divergence = Divergence::none(alloc, front.len);
     for i in first..old.len() {
         let segment = old.at(i);
         if at >= seam.old {
@@ -210,12 +213,13 @@ pub fn converge(
                     open: seam.new,
                 };
                 front = advance(alloc, revision, front, leg, shelf, meter)?;
+                divergence.catch_up(revision, &front, i, at)?;
                 let rest = Rest {
                     segments: old,
                     from: i,
                     end: revision.end,
                 };
-                let found = rejoined(alloc, &front.end, &mark, &rest, &mut seen)?;
+                let found = rejoined(alloc, &front.end, &mark, &rest, &mut divergence)?;
                 if let Some((rest, end)) = found {
                     touch_at(revision.ops, front.len, shelf, &mut front.gone)?;
                     let len = revision.ops.len();

@@ -10,7 +10,7 @@ use Rattle.run_engine.proofs.replay.rejoin.rejoined.Goals as goal
 pub patch-requires-clause-there : goal.patch-requires-clause-there
 patch-requires-clause-there c =
     let agree : AgreeBut c.args.heap.now c.args.mark.now c.in-Alike.remains =
-    subst (λ m. AgreeBut c.args.heap.now m c.in-Alike.remains) c.in_ok-kept.ensures (rw c.in-Alike.is at c.in_ok-meet.ensures) in
+    subst (λ m. AgreeBut c.args.heap.now m c.in-Alike.remains) c.in_ok-kept.ensures (rw c.in-Alike.is at c.in_ok-meet.ensures.meets) in
     let alike : GoOnAlike c.args.heap.now c.args.mark.now c.in-Alike.remains (trace_of (drop c.args.rest.now.from c.args.rest.now.segments.now)) =
     record { agree = agree; distinct = c.requires.distinct; unused = c.requires.unused; old_unused = c.requires.old_unused } in
     (end-exchangeable c.args.heap.now c.args.mark.now c.in-Alike.remains (drop c.args.rest.now.from c.args.rest.now.segments.now) c.args.rest.now.end.now alike c.requires.run).there
@@ -18,7 +18,7 @@ patch-requires-clause-there c =
 pub patch-requires-clause-sound : goal.patch-requires-clause-sound
 patch-requires-clause-sound c =
     let agree : AgreeBut c.args.heap.now c.args.mark.now c.in-Alike.remains =
-    subst (λ m. AgreeBut c.args.heap.now m c.in-Alike.remains) c.in_ok-kept.ensures (rw c.in-Alike.is at c.in_ok-meet.ensures) in
+    subst (λ m. AgreeBut c.args.heap.now m c.in-Alike.remains) c.in_ok-kept.ensures (rw c.in-Alike.is at c.in_ok-meet.ensures.meets) in
     let alike : GoOnAlike c.args.heap.now c.args.mark.now c.in-Alike.remains (trace_of (drop c.args.rest.now.from c.args.rest.now.segments.now)) =
     record { agree = agree; distinct = c.requires.distinct; unused = c.requires.unused; old_unused = c.requires.old_unused } in
     (end-exchangeable c.args.heap.now c.args.mark.now c.in-Alike.remains (drop c.args.rest.now.from c.args.rest.now.segments.now) c.args.rest.now.end.now alike c.requires.run).sound
@@ -26,7 +26,7 @@ patch-requires-clause-sound c =
 pub exchanged-requires : goal.exchanged-requires
 exchanged-requires c =
     let agree : AgreeBut c.args.heap.now c.args.mark.now c.in-Alike.remains =
-    subst (λ m. AgreeBut c.args.heap.now m c.in-Alike.remains) c.in_ok-kept.ensures (rw c.in-Alike.is at c.in_ok-meet.ensures) in
+    subst (λ m. AgreeBut c.args.heap.now m c.in-Alike.remains) c.in_ok-kept.ensures (rw c.in-Alike.is at c.in_ok-meet.ensures.meets) in
     let alike : GoOnAlike c.args.heap.now c.args.mark.now c.in-Alike.remains (trace_of (drop c.args.rest.now.from c.args.rest.now.segments.now)) =
     record { agree = agree; distinct = c.requires.distinct; unused = c.requires.unused; old_unused = c.requires.old_unused } in
     let behind : c.in_ok-behind-in-Alike.behind ≡ drop c.args.rest.now.from c.args.rest.now.segments.now = c.in_ok-behind-in-Alike.ensures ∙ ap (slice_range c.args.rest.now.segments.now c.args.rest.now.from) c.len-in-Alike.ensures ∙ take-rest c.args.rest.now.from c.args.rest.now.segments.now in
@@ -35,7 +35,7 @@ exchanged-requires c =
 pub returns-clause-run : goal.returns-clause-run
 returns-clause-run c =
     let agree : AgreeBut c.args.heap.now c.args.mark.now c.in-Alike.remains =
-    subst (λ m. AgreeBut c.args.heap.now m c.in-Alike.remains) c.in_ok-kept.ensures (rw c.in-Alike.is at c.in_ok-meet.ensures) in
+    subst (λ m. AgreeBut c.args.heap.now m c.in-Alike.remains) c.in_ok-kept.ensures (rw c.in-Alike.is at c.in_ok-meet.ensures.meets) in
     let alike : GoOnAlike c.args.heap.now c.args.mark.now c.in-Alike.remains (trace_of (drop c.args.rest.now.from c.args.rest.now.segments.now)) =
     record { agree = agree; distinct = c.requires.distinct; unused = c.requires.unused; old_unused = c.requires.old_unused } in
     let behind : c.in_ok-behind-in-Alike.behind ≡ drop c.args.rest.now.from c.args.rest.now.segments.now = c.in_ok-behind-in-Alike.ensures ∙ ap (slice_range c.args.rest.now.segments.now c.args.rest.now.from) c.len-in-Alike.ensures ∙ take-rest c.args.rest.now.from c.args.rest.now.segments.now in

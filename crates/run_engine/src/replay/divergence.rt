@@ -1,0 +1,110 @@
+//! Where a replay and the old run beside it may differ.
+ghost use Rattle.std.specs.Prelude.{◌≡◌, ◌≤◌, IfOk, OnOk, IsTrue, length, take};
+ghost use Rattle.ownership_model.specs.State.{State, nothing_held};
+ghost use Rattle.ownership_model.specs.Step.{end_from};
+ghost use Rattle.agreement.specs.Meeting.{Meets};
+ghost use Rattle.run_engine.specs.OldRun.{old_trace, new_trace};
+ghost use Rattle.run_engine.specs.Segments.{trace_of, AreReplayFrom, IsReached};
+ghost use Rattle.run_engine.specs.Divergence.{DifferWithin, IsDivergence, HasFollowed, HasCompared};
+
+use crate::replay::piece::Piece;
+use crate::replay::revision::Revision;
+use crate::segments::blocks::Segments;
+use agreement::{Meeting, Suspects, Trail, meet, meet_among};
+use object_heap::Heap;
+use std::alloc::{AllocError, Global};
+
+/// Where the heap of a replay and that of the old run beside it may differ, behind so many operations of the edited trace and so many
+/// of the base.
+#[derive(Drop)]
+pub struct Divergence {
+    // the objects at which the heaps may differ, where that is known
+    suspects: Option<Suspects>,
+    edited: usize,
+    base: usize,
+    // to where the heaps that were compared last were found to differ
+    trail: Option<Trail>,
+}
+
+impl Divergence {
+    /// Both stand behind as many operations, which are the same: nothing differs.
+    pub fn none(alloc: Global, at: usize) -> Self
+        ensures within { (m : State) → DifferWithin result m m }
+        ensures edited { result.edited ≡ at }
+        ensures base { result.base ≡ at }
+    {
+        Divergence {
+            suspects: Some(Suspects::none(alloc)),
+            edited: at,
+            base: at,
+            trail: None,
+        }
+    }
+
+    /// Goes on to the end of the front, and in the old run to where the segment at an index begins: the objects that outcomes on the
+    /// way tell of join the suspects.
+    pub fn catch_up(
+        &mut self,
+        revision: &Revision,
+        front: &Piece,
+        index: usize,
+        at: usize,
+    ) -> Result<(), AllocError>
+        requires known { IsDivergence revision.now self.old }
+        requires front { IsReached (new_trace revision.now)
+            front.now.len front.now.segments front.now.end }
+        requires within { index ≤ length revision.now.segments.now }
+        requires place { length (trace_of (take index revision.now.segments.now)) ≡ at }
+        ensures known { OnOk result (IsDivergence revision.now self.new) }
+        ensures edited { OnOk result (self.new.edited ≡ front.now.len) }
+        ensures base { OnOk result (self.new.base ≡ at) }
+    {
+        if let Some(suspects) = &mut self.suspects {
+            let new = &front.segments;
+            let old = revision.segments;
+            let is_known = follow(suspects, new, self.edited, new.len())?
+                && follow(suspects, old, self.base, index)?;
+            if !is_known {
+                self.suspects = None;
+            }
+        }
+        self.edited = front.len;
+        self.base = at;
+        Ok(())
+    }
+
+    /// Compares a heap with an old one, only at the suspects where those are known.
+    pub fn meet(&mut self, alloc: Global, new: &Heap, old: &Heap) -> Result<Meeting, AllocError>
+        requires { DifferWithin self.old new.now old.now }
+        ensures meets { IfOk result (Meets new.now old.now) }
+        ensures known { OnOk result (HasCompared self.old self.new new.now old.now) }
+    {
+        match &mut self.suspects {
+            None => meet(alloc, new, old, &mut self.trail),
+            Some(suspects) => meet_among(alloc, new, old, suspects, &mut self.trail),
+        }
+    }
+}
+
+// The objects that the outcomes of segments tell of join the suspects, from the segment at a position on and before the one at an index.
+// Whether a segment begins there: else nothing is known.
+fn follow(
+    suspects: &mut Suspects,
+    segments: &Segments,
+    from: usize,
+    index: usize,
+) -> Result<bool, AllocError>
+    requires replay { AreReplayFrom nothing_held segments.now }
+    requires within { index ≤ length segments.now }
+    ensures { IfOk result (λ is_known.
+        IsTrue is_known → HasFollowed segments.now from index suspects.old suspects.new) }
+{
+    let (first, at) = segments.last_from(from);
+    if at != from || index < first {
+        return Ok(false);
+    }
+    for i in first..index {
+        suspects.add(segments.at(i).outcomes())?;
+    }
+    Ok(true)
+}
