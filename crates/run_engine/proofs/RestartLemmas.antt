@@ -102,3 +102,7 @@ IsReached-restart segments kept end heap ops head i at run h is same within =
       begins = BeginsMarked-front (take i segments) (drop i segments) (subst BeginsMarked (sym parts) run.begins);
       state = h.heap_is ∙ ap (end_from nothing_held) front;
     })
+
+-- before the restart both traces have the same operations
+pub same-front : (old ops : List Operation) (head at : ℕ) → at ≤ head → take head old ≡ take head ops → take at ops ≡ take at old
+same-front old ops head at early same = sym (take-shorter at head ops early) ∙ ap (take at) (sym same) ∙ take-shorter at head old early

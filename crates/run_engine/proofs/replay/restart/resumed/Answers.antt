@@ -4,7 +4,7 @@ use Rattle.run_engine.specs.Bounds.{StepsAtMost}
 use Rattle.run_engine.specs.Steps.{AreStepped}
 use Rattle.run_engine.specs.HeadAndTail.{AreShared}
 use Rattle.run_engine.proofs.HeadAndTailLemmas.{ShareEnd-tail, from-greatest, bounded-none}
-use Rattle.run_engine.proofs.RestartLemmas.{IsReached-restart}
+use Rattle.run_engine.proofs.RestartLemmas.{IsReached-restart, same-front}
 use Rattle.run_engine.proofs.LeftLemmas.{AreMarksDue-restart}
 use Rattle.run_engine.proofs.replay.restart.resumed.Goals as goal
 
@@ -22,6 +22,12 @@ converge-requires-clause-may c =
 pub converge-requires-clause-shared : goal.converge-requires-clause-shared
 converge-requires-clause-shared c =
     rw (c.of-revision.ensures.segments, c.of-revision.ensures.ops, c.base_len.ensures, c.len.ensures, ← c.requires.base) (ShareEnd-tail c.args.ops.now.base c.args.ops.now.ops c.head-first.result c.tail-last.result c.tail-last.ensures)
+
+pub converge-requires-clause-begins : goal.converge-requires-clause-begins
+converge-requires-clause-begins c =
+    rw (c.of-revision.ensures.segments, c.of-revision.ensures.ops, ← c.requires.base)
+    (same-front c.args.ops.now.base c.args.ops.now.ops c.head-first.result c.in_ok-front.front.len
+    (rw c.of-revision.ensures.segments at c.in_ok-front.ensures.kept).greatest.early c.head-first.ensures.same)
 
 pub returns-in_err-front-clause-bound : goal.returns-in_err-front-clause-bound
 returns-in_err-front-clause-bound c = bounded-none c.args.ops.now.base c.args.ops.now.ops _ _
