@@ -6,13 +6,12 @@ use Rattle.trace_types.specs.Trace.{has_distinct_numbers}
 use Rattle.std.specs.FinMap.{get}
 use Rattle.ownership_model.specs.State.{State, IsSound, strong, weak}
 use Rattle.ownership_model.specs.Step.{end_from, AreUnused}
-use Rattle.ownership_model.specs.declared.link.Link.TheVariants.{StrongOrWeak}
-use Rattle.ownership_model.specs.Reach.{is_reached}
+use Rattle.ownership_model.specs.Agrees.{is_remaining}
 use Rattle.ownership_model.specs.Patch.{Remains, patched}
 use Rattle.ownership_model.specs.Laws.{StopsEarly, StopsLater}
 use Rattle.ownership_model.proofs.LawsHold.{appends, patches}
-use Rattle.agreement.specs.Agreement.{Agree, is_apart}
-use Rattle.agreement.specs.Meeting.{AgreeBut}
+use Rattle.agreement.specs.Agreement.{Agree}
+use Rattle.agreement.specs.Meeting.{AgreeBut, apart_from}
 use Rattle.run_engine.specs.SegmentView.{SegmentView}
 use Rattle.run_engine.specs.Segments.{ops_of, trace_of, mark_here, marks_from, AreReplayFrom, AreFull, BeginsMarked, IsRunFrom}
 use Rattle.run_engine.specs.Exchanged.{exchanged, CanExchange, IsExchangeable, AreExchangeable}
@@ -50,11 +49,11 @@ pub record IsExchangeOf (new old : State) (x : Remains) : Type 0 where
 
 pub exchange-behind : (new old : State) (x : Remains) (ops : List Operation) → GoOnAlike new old x ops → IsExchangeOf (end_from new ops) (end_from old ops) x
 exchange-behind new old x ops h =
-    let stop : StopsEarly (is_apart new old) new old x ops = h.agree.law ops h.distinct h.unused h.old_unused in
+    let stop : StopsEarly (is_remaining (apart_from x) new old) new old x ops = h.agree.law ops h.distinct h.unused h.old_unused in
     record {
       can = record {
         sound = subst (λ (m : State). IsSound m []) stop.end stop.sound;
-        there = patches.there (λ o. is_reached StrongOrWeak new o) new old (end_from old ops) x h.agree.remains stop.old_remains;
+        there = patches.there (apart_from x) new old (end_from old ops) x h.agree.remains stop.old_remains;
       };
       state = stop.end;
     }
@@ -88,7 +87,7 @@ replay-behind new old x p (s ∷ later) h replay =
     let here : IsExchangeOf (end_from new p) (end_from old p) x = exchange-behind new old x p (front-alike new old x p (trace_of (s ∷ later)) h) in
     let more : GoOnAlike new old x ((p ++ ops_of s) ++ trace_of later) = subst (GoOnAlike new old x) (sym (append_assoc p (ops_of s) (trace_of later))) h in
     let next : GoOnAlike new old x (p ++ ops_of s) = front-alike new old x (p ++ ops_of s) (trace_of later) more in
-    let stop : StopsLater new old x p (ops_of s) = patches.later (is_apart new old) new old x h.agree.law p (ops_of s) next.distinct next.unused next.old_unused in (
+    let stop : StopsLater new old x p (ops_of s) = patches.later (is_remaining (apart_from x) new old) new old x h.agree.law p (ops_of s) next.distinct next.unused next.old_unused in (
       record {
         mark = patched-mark x (end_from new p) (end_from old p) s.mark here.state replay.0.mark;
         outcomes = replay.0.outcomes ∙ sym stop.outcomes;
