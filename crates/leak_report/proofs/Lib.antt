@@ -1,5 +1,6 @@
 mod HolderLemmas
 mod LifeLemmas
 mod LineLemmas
+mod RisingLemmas
 mod ToldLemmas
 mod StretchLemmas

@@ -9,6 +9,7 @@ mod line_text;
 pub mod lives;
 mod made;
 pub mod report;
+mod rising;
 mod shown;
 mod text;
 mod write;

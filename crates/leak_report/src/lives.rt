@@ -1,5 +1,7 @@
 //! What became of each object that was made.
 ghost use Rattle.std.specs.Prelude.{◌≡◌, IfOk, map};
+ghost use Rattle.std.specs.Ordering.{nat_cmp};
+ghost use Rattle.std.specs.List.Sorted.{IsStrictlySortedBy};
 ghost use Rattle.trace_types.specs.Stretches.{outcomes_of};
 ghost use Rattle.leak_report.specs.Lives.{events_of, lives_of};
 ghost use Rattle.leak_report.specs.Told.{HasRisingObjects, begins, told_by_all};
@@ -7,7 +9,6 @@ ghost use Rattle.leak_report.specs.Told.{HasRisingObjects, begins, told_by_all};
 use crate::endings::note_events;
 use crate::made::made_by;
 use std::alloc::{AllocError, Global};
-use std::collections::BTreeSet;
 use trace_types::outcomes::Outcome;
 use trace_types::sequence::Sequence;
 use trace_types::stretches::Stretch;
@@ -38,7 +39,8 @@ pub struct Life {
 pub fn lives(alloc: Global, stretches: &[Stretch]) -> Result<Sequence<Life>, AllocError>
     ensures { IfOk result (λ ls. ls ≡ lives_of (outcomes_of stretches.now)) }
 {
-    let mut lives = begun(alloc, &made_by(alloc, stretches)?)?;
+    let made = made_by(alloc, stretches)?;
+    let mut lives = begun(alloc, &made)?;
     for stretch in stretches {
         note_outcomes(&mut lives, stretch.outcomes);
     }
@@ -46,12 +48,13 @@ pub fn lives(alloc: Global, stretches: &[Stretch]) -> Result<Sequence<Life>, All
 }
 
 // The lives of these objects, before any event.
-fn begun(alloc: Global, made: &BTreeSet<u32>) -> Result<Vec<Life>, AllocError>
-    ensures begun { IfOk result (λ v. v.items ≡ map begins made.now.keys) }
+fn begun(alloc: Global, made: &[u32]) -> Result<Vec<Life>, AllocError>
+    requires { IsStrictlySortedBy nat_cmp made.now }
+    ensures begun { IfOk result (λ v. v.items ≡ map begins made.now) }
     ensures rising { IfOk result (λ v. HasRisingObjects v.items) }
 {
     let mut lives = Vec::new(alloc);
-    for object in made.iter() {
+    for object in made {
         lives.push(Life {
             object: *object,
             ending: None,

@@ -1,10 +1,12 @@
-use Rattle.std.proofs.Common.{◌∙◌, ◌++◌, map, ap, subst, sym, append-nil}
+use Rattle.std.proofs.Common.{◌∙◌, map, ap, subst, sym, arith, List}
+use Rattle.std.proofs.lemmas.List.{take_all}
+use Rattle.leak_report.specs.declared.lives.Life.{Life}
 use Rattle.leak_report.specs.Told.{HasRisingObjects, begins}
 use Rattle.leak_report.proofs.ToldLemmas.{begin_rising}
 use Rattle.leak_report.proofs.lives.begun.Goals as goal
 
 pub returns-clause-rising : goal.returns-clause-rising
 returns-clause-rising c =
-    let items = c.loop-object.lives.items in
-    let all = sym (append-nil items) ∙ ap (λ os. items ++ map begins os) (sym c.in-None.ensures.steps.0) ∙ c.loop-object.invariant in
-    subst HasRisingObjects (sym all) (begin_rising c.args.made.now.keys c.iter-object-items.ensures.ordered)
+    let made = c.args.made.now in
+    let all = c.loop-object.invariant ∙ ap (map begins) (take_all c.loop-object.object-index made (omega (arith, c.loop-object-test.false))) in
+    subst (λ (ls : List Life). HasRisingObjects ls) (sym all) (begin_rising made c.requires)

@@ -11,11 +11,11 @@ use Rattle.leak_report.proofs.ToldLemmas.{all_told_none, all_told_both, told_ris
 use Rattle.leak_report.proofs.lives.lives.Goals as goal
 
 pub loop-stretch-init : goal.loop-stretch-init
-loop-stretch-init c = c.in_ok-lives.ensures.begun ∙ ap (map begins) c.in_ok-made_by.ensures ∙ sym (all_told_none (map begins (made_after [] (outcomes_of c.args.stretches.now))))
+loop-stretch-init c = c.in_ok-lives.ensures.begun ∙ ap (map begins) (c.deref.ensures.value ∙ c.in_ok-made.ensures.made) ∙ sym (all_told_none (map begins (made_after [] (outcomes_of c.args.stretches.now))))
 
 pub note_outcomes-requires : goal.note_outcomes-requires
 note_outcomes-requires c =
-    let first = subst HasRisingObjects (c.in_ok-lives.ensures.begun ∙ ap (map begins) c.in_ok-made_by.ensures) c.in_ok-lives.ensures.rising in
+    let first = subst HasRisingObjects (c.in_ok-lives.ensures.begun ∙ ap (map begins) (c.deref.ensures.value ∙ c.in_ok-made.ensures.made)) c.in_ok-lives.ensures.rising in
     subst HasRisingObjects (sym c.deref_mut.ensures.value)
     (told_rising (events_of (outcomes_of (take c.loop-stretch.stretch-index c.args.stretches.now))) (map begins (made_after [] (outcomes_of c.args.stretches.now))) _ c.loop-stretch.invariant first)
 
