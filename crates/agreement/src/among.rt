@@ -53,7 +53,8 @@ pub fn island_among(
 
 // What stands for the objects in each heap.
 fn remains_at(alloc: Global, new: &Heap, old: &Heap, objects: &[u32]) -> Result<Remains, AllocError>
-    ensures remains { IfOk result (λ x. IsRemains (λ o. not (has o objects.now)) new.now old.now x) }
+    ensures remains { IfOk result
+        (λ x. IsRemains (λ o. not (has o objects.now)) new.now old.now x) }
     ensures sound { IsSound new.now [] × IsSound old.now [] }
 {
     new.kept();

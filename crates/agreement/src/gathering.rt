@@ -19,7 +19,9 @@ pub fn unreached(
     heap: &Heap,
     reached: &BTreeSet<u32>,
 ) -> Result<ShareTree<Remaining>, AllocError>
-    ensures { IfOk result (λ t. (q : ℕ) → map.get t q ≡ (if contains nat_cmp reached.now q then None else remaining_at heap.now q (map.get heap.now.objects q))) }
+    ensures { IfOk result (λ t. (q : ℕ) → map.get t q ≡
+        (if contains nat_cmp reached.now q then None
+        else remaining_at heap.now q (map.get heap.now.objects q))) }
 {
     let mut rest = ShareTree::empty();
     let objects = heap.objects(alloc)?;
@@ -37,7 +39,9 @@ pub fn standing(
     heap: &Heap,
     objects: &[u32],
 ) -> Result<ShareTree<Remaining>, AllocError>
-    ensures { IfOk result (λ t. (q : ℕ) → map.get t q ≡ (if not (has q objects.now) then None else remaining_at heap.now q (map.get heap.now.objects q))) }
+    ensures { IfOk result (λ t. (q : ℕ) → map.get t q ≡
+        (if not (has q objects.now) then None
+        else remaining_at heap.now q (map.get heap.now.objects q))) }
 {
     let mut rest = ShareTree::empty();
     for object in objects {

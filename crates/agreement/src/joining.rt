@@ -49,7 +49,8 @@ fn join_entry(
     old: &Heap,
     entry: Option<&Entry>,
 ) -> Result<(), AllocError>
-    ensures { OnOk result (Compares new.now old.now (entry_names StrongOrWeak (option_copied entry.entry)) listed.old listed.new) }
+    ensures { OnOk result (Compares new.now old.now
+        (entry_names StrongOrWeak (option_copied entry.entry)) listed.old listed.new) }
 {
     match entry {
         Some(Entry::Alive(fields)) => join_slots(listed, new, old, fields.as_slice()),
@@ -58,7 +59,8 @@ fn join_entry(
 }
 
 fn join_slots(listed: &mut Listed, new: &Heap, old: &Heap, slots: &[Slot]) -> Result<(), AllocError>
-    ensures { OnOk result (Compares new.now old.now (slots_names StrongOrWeak slots.now) listed.old listed.new) }
+    ensures { OnOk result (Compares new.now old.now
+        (slots_names StrongOrWeak slots.now) listed.old listed.new) }
 {
     for slot in slots {
         join_slot(listed, new, old, *slot)?;
@@ -67,7 +69,8 @@ fn join_slots(listed: &mut Listed, new: &Heap, old: &Heap, slots: &[Slot]) -> Re
 }
 
 fn join_slot(listed: &mut Listed, new: &Heap, old: &Heap, slot: Slot) -> Result<(), AllocError>
-    ensures { OnOk result (Compares new.now old.now (named StrongOrWeak slot) listed.old listed.new) }
+    ensures { OnOk result (Compares new.now old.now
+        (named StrongOrWeak slot) listed.old listed.new) }
 {
     match slot {
         Slot::Strong(object) | Slot::Weak(object) => join_differing(listed, new, old, object),

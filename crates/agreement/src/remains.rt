@@ -14,7 +14,8 @@ use std::alloc::{AllocError, Global};
 use std::marker::Model;
 use std::sync::Arc;
 
-/// Objects that can't be reached: those of an old heap, which are to go, and those of a new one, which come.
+/// Objects that can't be reached: those of an old heap, which are to go, and those of a new one, which come. They need not be all that
+/// can't be reached, but those at which the two heaps differ are among them.
 ///
 /// Beside all of them they keep those that differ, over the same nodes: only these are exchanged, and a checkpoint shares these alone.
 #[derive(Drop)]
@@ -53,14 +54,14 @@ impl Remains {
         Ok(Remains { all, differing })
     }
 
-    /// The objects of the old heap that can't be reached, with their counts.
+    /// What is to go of the old heap, with its counts.
     pub fn removed(&self) -> &ShareTree<Remaining>
         ensures { result.now ≡ self.now.removed }
     {
         self.all.removed()
     }
 
-    /// The objects of the new heap that can't be reached, with their counts.
+    /// What comes of the new heap, with its counts.
     pub fn added(&self) -> &ShareTree<Remaining>
         ensures { result.now ≡ self.now.added }
     {

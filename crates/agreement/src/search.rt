@@ -1,4 +1,5 @@
-//! Heaps of one replay compared with those of another: the trail to a difference that was found before is followed first.
+//! Heaps of one replay compared with those of another: the trail to a difference that was found before is followed first, and then the
+//! objects are looked at where they may differ.
 ghost use Rattle.std.specs.Prelude.{IfOk, IfSome, OnOk, IsTrue};
 ghost use Rattle.ownership_model.specs.Agrees.{HaveSameRoots};
 ghost use Rattle.ownership_model.specs.Touched.{AgreeOutside};
@@ -21,11 +22,11 @@ pub enum Meeting {
     /// They don't agree on what can be reached.
     Apart,
     Same,
-    /// They agree on what can be reached; the remains are what else each has.
+    /// They agree on what can be reached, and differ at most at the remains.
     Alike(Remains),
 }
 
-/// Compares a new heap with an old one, of which nothing else is known: as `meet_among` where all objects are suspects.
+/// As `meet_among`, of heaps of which nothing is known: all objects are suspects, unless the trail still refutes an agreement.
 pub fn meet(
     alloc: Global,
     new: &Heap,
@@ -34,6 +35,9 @@ pub fn meet(
 ) -> Result<Meeting, AllocError>
     ensures { IfOk result (Meets new.now old.now) }
 {
+    if is_refuted(seen, new, old) {
+        return Ok(Meeting::Apart);
+    }
     let mut suspects = Suspects::of_both(alloc, new, old)?;
     meet_among(alloc, new, old, &mut suspects, seen)
 }
