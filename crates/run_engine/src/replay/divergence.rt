@@ -1,9 +1,8 @@
 //! Where a replay and the old run beside it may differ.
 ghost use Rattle.std.specs.Prelude.{◌≡◌, ◌≤◌, IfOk, OnOk, IsTrue, length, take};
 ghost use Rattle.ownership_model.specs.State.{State, nothing_held};
-ghost use Rattle.ownership_model.specs.Step.{end_from};
 ghost use Rattle.agreement.specs.Meeting.{Meets};
-ghost use Rattle.run_engine.specs.OldRun.{old_trace, new_trace};
+ghost use Rattle.run_engine.specs.OldRun.{new_trace};
 ghost use Rattle.run_engine.specs.Segments.{trace_of, AreReplayFrom, IsReached};
 ghost use Rattle.run_engine.specs.Divergence.{DifferWithin, IsDivergence, HasFollowed, HasCompared};
 

@@ -1,5 +1,4 @@
-use Rattle.std.proofs.Common.{◌+◌, length, subst, sym, arith}
-use Rattle.run_engine.specs.Divergence.{HasFollowed}
+use Rattle.std.proofs.Common.{arith}
 use Rattle.run_engine.proofs.DivergenceLemmas.{HasFollowed-none, HasFollowed-next}
 use Rattle.run_engine.proofs.replay.divergence.follow.Goals as goal
 
