@@ -13,15 +13,15 @@ use agreement::{Meeting, Suspects, Trail, meet, meet_among};
 use object_heap::Heap;
 use std::alloc::{AllocError, Global};
 
-/// Where the heap of a replay and that of the old run beside it may differ, behind so many operations of the edited trace and so many
-/// of the base.
+/// Where the heap of a replay and that of the old run beside it may differ: each stands behind so many operations of its trace.
 #[derive(Drop)]
 pub struct Divergence {
-    // the objects at which the heaps may differ, where that is known
+    // the objects at which they may differ, where that is known
     suspects: Option<Suspects>,
+    // how many operations of the edited trace, and of the old one
     edited: usize,
     base: usize,
-    // to where the heaps that were compared last were found to differ
+    // to where heaps that were compared were found to differ
     trail: Option<Trail>,
 }
 
