@@ -11,3 +11,5 @@ mod exchanges;
 mod shelves;
 #[cfg(test)]
 mod sums;
+#[cfg(test)]
+mod suspects;

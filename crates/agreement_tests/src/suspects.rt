@@ -1,0 +1,183 @@
+//! Heaps compared at suspects alone: what leaks apart from all else is told without a walk over the heaps.
+use crate::agreeing::{BREAK, CYCLE, LET_GO, heap_of};
+use agreement::{Meeting, Remains, Suspects, meet_among, refutes};
+use object_heap::Heap;
+use op_step::Meter;
+use op_step::replay::replay;
+use ownership_model::Remaining;
+use std::alloc::Global;
+use std::test::Fail;
+use trace_reader::read_trace;
+use trace_types::slots::{Entry, Slot};
+
+// What the comparison tells, where all objects are suspects at first, and which are left.
+fn meet_all(alloc: Global, new: &Heap, old: &Heap) -> Result<(Meeting, Suspects), Fail> {
+    let mut suspects = Suspects::of_both(alloc, new, old)?;
+    let meeting = meet_among(alloc, new, old, &mut suspects, &mut None)?;
+    Ok((meeting, suspects))
+}
+
+// The remains, where the heaps agree and are not the same.
+fn remains_of(alloc: Global, new: &Heap, old: &Heap) -> Result<Remains, Fail> {
+    let (meeting, _) = meet_all(alloc, new, old)?;
+    match meeting {
+        Meeting::Alike(remains) => Ok(remains),
+        Meeting::Apart | Meeting::Same => Err(Fail::from("they agree")),
+    }
+}
+
+// An object with one field, which names the other strongly, and with these counts.
+fn is_with(remaining: Option<&Remaining>, other: u32, strong: u64, weak: u64) -> bool {
+    match remaining {
+        None => false,
+        Some(remaining) => match &remaining.entry {
+            Entry::Husk => false,
+            Entry::Alive(fields) => {
+                fields.as_slice() == [Slot::Strong(other)].as_slice()
+                    && remaining.strong == strong
+                    && remaining.weak == weak
+            }
+        },
+    }
+}
+
+// An object that holds itself and leaks.
+const LEAK: &str = "\
+{\"fields\":[null],\"id\":21,\"op\":\"new\",\"t\":0,\"to\":7}
+{\"from\":7,\"id\":22,\"op\":\"clone\",\"t\":0,\"to\":8}
+{\"from\":8,\"h\":7,\"i\":0,\"id\":23,\"op\":\"set\",\"t\":0}
+{\"h\":7,\"id\":24,\"op\":\"drop\",\"t\":0}
+";
+
+// Of what leaks the objects that differ are told alone.
+#[test]
+fn differing_island_is_told_alone(rt: HostRuntime) -> Result<(), Fail> {
+    let alloc = rt.alloc();
+    let old = heap_of(alloc, &[CYCLE, BREAK, LET_GO, LEAK], 25, 64)?;
+    let new = heap_of(alloc, &[CYCLE, LET_GO, LEAK], 25, 64)?;
+    let remains = remains_of(alloc, &new, &old)?;
+    assert_eq!(rt; remains.removed().len(), 0);
+    assert_eq!(rt; remains.added().len(), 2);
+    assert!(rt; is_with(remains.added().get(1), 2, 1, 0));
+    assert!(rt; is_with(remains.added().get(2), 1, 1, 0));
+    let back = remains_of(alloc, &old, &new)?;
+    assert_eq!(rt; back.removed().len(), 2);
+    assert_eq!(rt; back.added().len(), 0);
+    Ok(())
+}
+
+// An object that holds itself and has a Weak, and another one that holds itself.
+const PAIR: &str = "\
+{\"fields\":[null],\"id\":1,\"op\":\"new\",\"t\":0,\"to\":0}
+{\"from\":0,\"id\":2,\"op\":\"clone\",\"t\":0,\"to\":1}
+{\"from\":1,\"h\":0,\"i\":0,\"id\":3,\"op\":\"set\",\"t\":0}
+{\"from\":0,\"id\":4,\"op\":\"downgrade\",\"t\":0,\"to\":1}
+{\"fields\":[null,null],\"id\":5,\"op\":\"new\",\"t\":0,\"to\":2}
+{\"from\":2,\"id\":6,\"op\":\"clone\",\"t\":0,\"to\":3}
+{\"from\":3,\"h\":2,\"i\":0,\"id\":7,\"op\":\"set\",\"t\":0}
+";
+
+// The second holds the Weak to the first, or it is dropped.
+const HOLD: &str = "{\"from\":1,\"h\":2,\"i\":1,\"id\":8,\"op\":\"set\",\"t\":0}\n";
+
+const DROP: &str = "{\"h\":1,\"id\":8,\"op\":\"drop\",\"t\":0}\n";
+
+const LEAK_BOTH: &str = "\
+{\"h\":0,\"id\":9,\"op\":\"drop\",\"t\":0}
+{\"h\":2,\"id\":10,\"op\":\"drop\",\"t\":0}
+";
+
+// The first is the same in both but for its weak count.
+#[test]
+fn object_joins_by_its_count(rt: HostRuntime) -> Result<(), Fail> {
+    let alloc = rt.alloc();
+    let new = heap_of(alloc, &[PAIR, HOLD, LEAK_BOTH], 11, 64)?;
+    let old = heap_of(alloc, &[PAIR, DROP, LEAK_BOTH], 11, 64)?;
+    let (meeting, suspects) = meet_all(alloc, &new, &old)?;
+    let Meeting::Alike(remains) = &meeting else {
+        return Err(Fail::from("they agree"));
+    };
+    assert_eq!(rt; suspects.as_slice(), [5].as_slice());
+    assert_eq!(rt; remains.removed().len(), 2);
+    assert_eq!(rt; remains.added().len(), 2);
+    assert!(rt; is_with(remains.removed().get(1), 1, 1, 0));
+    assert!(rt; is_with(remains.added().get(1), 1, 1, 1));
+    Ok(())
+}
+
+// Where the first is held yet, its count differs in what can be reached.
+#[test]
+fn count_of_a_held_object_parts(rt: HostRuntime) -> Result<(), Fail> {
+    let alloc = rt.alloc();
+    let leak = "{\"h\":2,\"id\":10,\"op\":\"drop\",\"t\":0}\n";
+    let new = heap_of(alloc, &[PAIR, HOLD, leak], 11, 64)?;
+    let old = heap_of(alloc, &[PAIR, DROP, leak], 11, 64)?;
+    let (meeting, suspects) = meet_all(alloc, &new, &old)?;
+    assert!(rt; matches!(meeting, Meeting::Apart));
+    assert_eq!(rt; suspects.as_slice(), [5].as_slice());
+    Ok(())
+}
+
+// Two objects, each held.
+const HELD: &str = "\
+{\"fields\":[null],\"id\":1,\"op\":\"new\",\"t\":0,\"to\":0}
+{\"fields\":[],\"id\":2,\"op\":\"new\",\"t\":0,\"to\":1}
+";
+
+// The first holds the second, or it is dropped.
+const PUT: &str = "{\"from\":1,\"h\":0,\"i\":0,\"id\":3,\"op\":\"set\",\"t\":0}\n";
+
+const END: &str = "{\"h\":1,\"id\":3,\"op\":\"drop\",\"t\":0}\n";
+
+// A suspect that is reached parts the heaps, and the trail leads to it.
+#[test]
+fn reached_suspect_parts(rt: HostRuntime) -> Result<(), Fail> {
+    let alloc = rt.alloc();
+    let put = heap_of(alloc, &[HELD, PUT], 4, 65)?;
+    let end = heap_of(alloc, &[HELD, END], 4, 65)?;
+    assert!(rt; end.same_roots(&put));
+    for (new, old) in &[(&end, &put), (&put, &end)] {
+        let mut suspects = Suspects::of_both(alloc, new, old)?;
+        let mut seen = None;
+        let meeting = meet_among(alloc, new, old, &mut suspects, &mut seen)?;
+        assert!(rt; matches!(meeting, Meeting::Apart));
+        let Some(trail) = &seen else {
+            return Err(Fail::from("a trail"));
+        };
+        assert!(rt; refutes(trail, new, old));
+    }
+    Ok(())
+}
+
+// What is the same again is no suspect any more.
+#[test]
+fn equal_suspects_are_dropped(rt: HostRuntime) -> Result<(), Fail> {
+    let alloc = rt.alloc();
+    let others = "\
+{\"from\":0,\"id\":31,\"op\":\"clone\",\"t\":0,\"to\":5}
+{\"h\":5,\"id\":32,\"op\":\"drop\",\"t\":0}
+";
+    let new = heap_of(alloc, &[CYCLE, others, LET_GO], 33, 64)?;
+    let old = heap_of(alloc, &[CYCLE, LET_GO], 33, 64)?;
+    let mut suspects = Suspects::of_both(alloc, &new, &old)?;
+    assert_eq!(rt; suspects.as_slice(), [1, 2, 1, 2].as_slice());
+    let meeting = meet_among(alloc, &new, &old, &mut suspects, &mut None)?;
+    assert!(rt; matches!(meeting, Meeting::Same));
+    assert_eq!(rt; suspects.as_slice().len(), 0);
+    Ok(())
+}
+
+// What outcomes tell of: their own numbers, those of their events and those of their counts.
+#[test]
+fn outcomes_make_suspects(rt: HostRuntime) -> Result<(), Fail> {
+    let alloc = rt.alloc();
+    let mut text = String::new(alloc);
+    text.push_str(HELD)?;
+    text.push_str(END)?;
+    let trace = read_trace(alloc, text.as_bytes()).map_err(|_| Fail::from("a fault"))?;
+    let (outcomes, _) = replay(alloc, &trace, &mut Meter::new())?;
+    let mut suspects = Suspects::none(alloc);
+    suspects.add(outcomes.as_slice())?;
+    assert_eq!(rt; suspects.as_slice(), [1, 1, 2, 2, 3, 2, 2, 2].as_slice());
+    Ok(())
+}
