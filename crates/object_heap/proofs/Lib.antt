@@ -8,6 +8,7 @@ pub mod ReleaseLemmas
 pub mod LinkLemmas
 pub mod ViewLemmas
 pub mod TableLemmas
+pub mod MoreLemmas
 pub mod EarlierLemmas
 pub mod EnterLemmas
 pub mod NeighbourLemmas

@@ -1,5 +1,5 @@
 -- The objects of a heap: what stands for each, and how often each is named (for private functions alone).
-use Rattle.std.specs.Prelude.{ℕ, ◌≡◌, ◌==◌, ◌&&◌, Bool, List, [], ◌∷◌, ◌++◌, Option, Some, None, unwrap_or, if◌then◌else◌, refl}
+use Rattle.std.specs.Prelude.{ℕ, ◌+◌, ◌^◌, ◌<◌, ◌≡◌, ◌==◌, ◌&&◌, Bool, List, [], ◌∷◌, ◌++◌, Option, Some, None, unwrap_or, if◌then◌else◌, refl}
 use Rattle.std.specs.Option.{option_map}
 use Rattle.std.specs.Ordering.{nat_cmp}
 use Rattle.std.specs.FinMap.{FinMap, get, insert, remove, from_sorted}
@@ -18,6 +18,14 @@ pub record TableView : Type 0 where
 -- the counters of an object; zeros, where none are kept
 abbrev pub counters_at : Option Counters → Counters
 counters_at kept = unwrap_or kept (record { strong = 0; weak = 0; ends = 0 })
+
+-- what two sets of counters count together
+abbrev pub plus : Counters → Counters → Counters
+plus c more = record { strong = c.strong + more.strong; weak = c.weak + more.weak; ends = c.ends + more.ends }
+
+-- that much can be counted in 64 bits
+abbrev pub HasRoomFor : Counters → Counters → Type 0
+HasRoomFor c more = (c.strong + more.strong < 2 ^ 64) × ((c.weak + more.weak < 2 ^ 64) × (c.ends + more.ends < 2 ^ 64))
 
 -- the same stands in both, and is named as often
 abbrev pub AreAlike : TableView → TableView → Type 0

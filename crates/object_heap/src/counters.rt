@@ -6,7 +6,7 @@ ghost use Rattle.ownership_model.specs.State.{slots_weight, holding_weight, entr
 ghost use Rattle.ownership_model.specs.Bounds.{HoldingFits, EntryFits};
 ghost use Rattle.object_heap.specs.Gains.{CountsMore, CountsItem, HasSlots, HasRoom};
 
-use crate::object::Counters;
+use crate::object::{Counters, NOTHING};
 use crate::objects::Objects;
 use std::alloc::{AllocError, Global};
 use trace_types::limits::MAX_FIELDS;
@@ -20,20 +20,15 @@ pub fn hold(alloc: Global, objects: &mut Objects, slot: Slot) -> Result<(), Allo
 {
     match slot {
         Slot::Strong(object) => {
-            let was = objects.counters(object);
-            let more = Counters {
-                strong: was.strong + 1,
-                ..was
+            let one = Counters {
+                strong: 1,
+                ..NOTHING
             };
-            objects.set_counters(alloc, object, more)
+            objects.count_more(alloc, object, one)
         }
         Slot::Weak(object) => {
-            let was = objects.counters(object);
-            let more = Counters {
-                weak: was.weak + 1,
-                ..was
-            };
-            objects.set_counters(alloc, object, more)
+            let one = Counters { weak: 1, ..NOTHING };
+            objects.count_more(alloc, object, one)
         }
         Slot::Nothing | Slot::Dangling => Ok(()),
     }
@@ -75,12 +70,8 @@ pub fn hold_item(alloc: Global, objects: &mut Objects, item: Item) -> Result<(),
     match item {
         Item::Slot(slot) => hold(alloc, objects, slot),
         Item::End(object) => {
-            let was = objects.counters(object);
-            let more = Counters {
-                ends: was.ends + 1,
-                ..was
-            };
-            objects.set_counters(alloc, object, more)
+            let one = Counters { ends: 1, ..NOTHING };
+            objects.count_more(alloc, object, one)
         }
     }
 }

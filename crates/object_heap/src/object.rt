@@ -3,7 +3,7 @@ ghost use Rattle.std.specs.Prelude.{◌≡◌, ◌↔◌, ⊤, IfOk, IsTrue, Som
 ghost use Rattle.std.specs.Option.{option_copied, option_map};
 ghost use Rattle.std.specs.Bool.{IsFalse};
 ghost use Rattle.std.specs.Arc.{arc_value};
-ghost use Rattle.object_heap.specs.TableView.{are_zero, kept_of};
+ghost use Rattle.object_heap.specs.TableView.{are_zero, kept_of, plus, HasRoomFor};
 
 use share_tree::Update;
 use std::alloc::{AllocError, Global};
@@ -20,7 +20,26 @@ pub struct Counters {
     pub ends: u64,
 }
 
+/// The counters of what is named nowhere.
+pub const NOTHING: Counters = Counters {
+    strong: 0,
+    weak: 0,
+    ends: 0,
+};
+
 impl Counters {
+    /// What these count and what others do.
+    pub fn plus(self, more: Counters) -> Counters
+        requires { HasRoomFor self more }
+        ensures { result ≡ plus self more }
+    {
+        Counters {
+            strong: self.strong + more.strong,
+            weak: self.weak + more.weak,
+            ends: self.ends + more.ends,
+        }
+    }
+
     /// Whether nothing is counted.
     pub fn are_zero(self) -> bool
         ensures { result ≡ are_zero self }
@@ -137,6 +156,24 @@ impl Update<Object> for Counters {
 
     fn updated(&self, object: &Object) -> Result<Object, AllocError> {
         Ok(object.share()?.with_counters(*self))
+    }
+}
+
+/// Counters that are added to an object's own.
+#[derive(Clone, Copy)]
+pub struct More(pub Counters);
+
+impl Update<Object> for More {
+    ghost can = { λ more object. HasRoomFor object.1 more.0 };
+
+    ghost to = { λ more object. (object.0, plus object.1 more.0) };
+
+    fn update(&self, object: &mut Object) {
+        object.counters = object.counters.plus(self.0);
+    }
+
+    fn updated(&self, object: &Object) -> Result<Object, AllocError> {
+        Ok(object.share()?.with_counters(object.counters.plus(self.0)))
     }
 }
 

@@ -1,9 +1,9 @@
 //! The objects of a heap with their counters, and from which rank on they are named by those of higher ranks alone.
-ghost use Rattle.std.specs.Prelude.{◌≡◌, ◌↔◌, true, IfOk, OnOk, OnErr, IsTrue};
+ghost use Rattle.std.specs.Prelude.{◌≡◌, ◌↔◌, true, false, IfOk, OnOk, OnErr, IsTrue};
 ghost use Rattle.std.specs.Option.{option_copied};
 ghost use Rattle.std.specs.FinMap as map;
 ghost use Rattle.trace_types.specs.declared.slots.Entry.TheVariants.{Husk};
-ghost use Rattle.object_heap.specs.TableView.{counters_at, AreAlike, AllStand};
+ghost use Rattle.object_heap.specs.TableView.{counters_at, are_zero, plus, HasRoomFor, AreAlike, AllStand};
 ghost use Rattle.object_heap.specs.Gains.{IsSetAt};
 ghost use Rattle.object_heap.specs.Descent.{DescendTo, IsUnnamed};
 
@@ -179,6 +179,21 @@ impl Objects {
         ensures entries { self.new.entries ≡ self.old.entries }
     {
         self.table.set_counters(alloc, object, counters)
+    }
+
+    /// An object has these counters besides its own, not all of them zero. What stands for it stays.
+    pub fn count_more(
+        &mut self,
+        alloc: Global,
+        object: u32,
+        more: Counters,
+    ) -> Result<(), AllocError>
+        requires any { are_zero more ≡ false }
+        requires room { HasRoomFor (counters_at (map.get self.old.counts object)) more }
+        ensures set { OnOk result (IsSetAt self.old.counts self.new.counts object (plus (counters_at (map.get self.old.counts object)) more)) }
+        ensures entries { self.new.entries ≡ self.old.entries }
+    {
+        self.table.count_more(alloc, object, more)
     }
 
     /// A rank over those of what the slots name.

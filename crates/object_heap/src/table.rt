@@ -1,23 +1,16 @@
 //! What stands for each object and how often each is named, in one tree.
-ghost use Rattle.std.specs.Prelude.{◌≡◌, ◌↔◌, ℕ, Some, None, IfOk, OnOk, OnErr, IsTrue, ◌==◌, if◌then◌else◌};
+ghost use Rattle.std.specs.Prelude.{◌≡◌, ◌↔◌, ℕ, false, Some, None, IfOk, OnOk, OnErr, IsTrue, ◌==◌, if◌then◌else◌};
 ghost use Rattle.std.specs.Option.{option_copied};
 ghost use Rattle.std.specs.FinMap as map;
-ghost use Rattle.object_heap.specs.TableView.{counters_at, kept_of, with_entry, AreAlike, AllStand};
+ghost use Rattle.object_heap.specs.TableView.{counters_at, are_zero, kept_of, with_entry, plus, HasRoomFor, AreAlike, AllStand};
 ghost use Rattle.object_heap.specs.Gains.{IsSetAt};
 
-use crate::object::{Counters, Object};
+use crate::object::{Counters, More, NOTHING, Object};
 use crate::weight::{Weigh, scattered};
 use share_tree::ShareTree;
 use std::alloc::{AllocError, Global};
 use std::marker::Model;
 use trace_types::slots::Entry;
-
-// The counters of what is named nowhere.
-const NOTHING: Counters = Counters {
-    strong: 0,
-    weak: 0,
-    ends: 0,
-};
 
 /// The objects by their numbers. Contracts see what stands for each, and the counters of each that is named, as two finite maps.
 ///
@@ -173,6 +166,24 @@ impl Table {
             return Ok(());
         }
         self.put_counters(alloc, object, counters)
+    }
+
+    /// An object has these counters besides its own, not all of them zero. What stands for it stays.
+    pub fn count_more(
+        &mut self,
+        alloc: Global,
+        object: u32,
+        more: Counters,
+    ) -> Result<(), AllocError>
+        requires any { are_zero more ≡ false }
+        requires room { HasRoomFor (counters_at (map.get self.old.counts object)) more }
+        ensures set { OnOk result (IsSetAt self.old.counts self.new.counts object (plus (counters_at (map.get self.old.counts object)) more)) }
+        ensures entries { self.new.entries ≡ self.old.entries }
+    {
+        if self.kept.update(alloc, object, &More(more))? {
+            return Ok(());
+        }
+        self.put_counters(alloc, object, more)
     }
 
     // As `set_counters`, where nothing is kept for the object, or where nothing may be from now on.

@@ -1,8 +1,8 @@
-use Rattle.std.proofs.Common.{◌≡◌, ◌+◌, arith, ap, sym, subst}
+use Rattle.std.proofs.Common.{arith, sym, subst}
 use Rattle.std.specs.FinMap.{get}
 use Rattle.trace_types.specs.declared.slots.Item.{Item}
 use Rattle.object_heap.specs.declared.object.Counters.{Counters}
-use Rattle.object_heap.specs.TableView.{counters_at}
+use Rattle.object_heap.specs.TableView.{counters_at, plus}
 use Rattle.object_heap.specs.Gains.{CountsItem}
 use Rattle.object_heap.proofs.GainLemmas.{on_ok}
 use Rattle.object_heap.proofs.PendingLemmas.{counts_slot, counts_end}
@@ -14,10 +14,7 @@ returns-in-Slot-clause-counts c = on_ok c.hold.result c.hold.ensures.counts (λ 
 
 pub returns-in-End-clause-counts : goal.returns-in-End-clause-counts
 returns-in-End-clause-counts c =
-    let was = c.counters-was.result in
-    let is : was ≡ counters_at (get c.args.objects.now.counts c.in-End.object) = c.counters-was.ensures in
-    let more : Counters = record { strong = was.strong; weak = was.weak; ends = was.ends + 1 } in
-    on_ok c.set_counters.result c.set_counters.ensures.set (λ set.
-    subst (λ (x : Item). CountsItem c.args.objects.now.counts c.set_counters.new.self.counts x) (sym c.in-End.is)
-    (counts_end c.args.objects.now.counts c.set_counters.new.self.counts c.in-End.object more set
-    (ap (λ (v : Counters). v.strong) is) (ap (λ (v : Counters). v.weak) is) (omega (arith, ap (λ (v : Counters). v.ends) is))))
+    let more : Counters = plus (counters_at (get c.args.objects.now.counts c.in-End.object)) (record { strong = 0; weak = 0; ends = 1 }) in
+    on_ok c.count_more.result c.count_more.ensures.set (λ set.
+    subst (λ (x : Item). CountsItem c.args.objects.now.counts c.count_more.new.self.counts x) (sym c.in-End.is)
+    (counts_end c.args.objects.now.counts c.count_more.new.self.counts c.in-End.object more set (omega arith) (omega arith) (omega arith)))
