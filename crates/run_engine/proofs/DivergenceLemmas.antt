@@ -1,8 +1,9 @@
 -- Where a replay and the old run beside it may differ.
 use Rattle.std.proofs.Common.{◌≡◌, ℕ, ◌+◌, ◌<◌, ◌≤◌, List, ◌++◌, length, take, get_or, Bool, true, false, refl, ap, sym, subst, ◌∙◌, arith}
-use Rattle.std.specs.Prelude.{◌||◌, Some}
+use Rattle.std.specs.Prelude.{◌||◌, ◌==◌, Some}
 use Rattle.std.proofs.Math.Seq.{take-length}
 use Rattle.std.proofs.lemmas.List.{length-take}
+use Rattle.std.proofs.lemmas.List.Folds.{list_any-append}
 use Rattle.trace_types.specs.Operation.{Operation}
 use Rattle.trace_types.specs.declared.outcomes.Outcome.{Outcome}
 use Rattle.ownership_model.specs.State.{State, nothing_held}
@@ -10,7 +11,6 @@ use Rattle.ownership_model.specs.Step.{end_from, outcomes_from}
 use Rattle.ownership_model.specs.Reach.{has}
 use Rattle.ownership_model.specs.Touched.{touched_in, AgreeOutside}
 use Rattle.ownership_model.proofs.LawsHold.{appends, touched}
-use Rattle.ownership_model.proofs.Searching.{has-append}
 use Rattle.run_engine.specs.SegmentView.{SegmentView}
 use Rattle.run_engine.specs.Segments.{ops_of, trace_of, AreReplayFrom, IsReached}
 use Rattle.run_engine.specs.OldRun.{old_trace, new_trace}
@@ -34,7 +34,7 @@ neither false b e = (refl, e)
 outside-next : (os : List ℕ) (m other : State) (ops : List Operation) (outcomes : List Outcome) → AgreeOutside os m other → outcomes ≡ outcomes_from m ops
     → AgreeOutside (os ++ touched_in outcomes) (end_from m ops) other
 outside-next os m other ops outcomes h is q none =
-    let parts = neither (has q os) (has q (touched_in outcomes)) (sym (has-append q os (touched_in outcomes)) ∙ none) in
+    let parts = neither (has q os) (has q (touched_in outcomes)) (sym (list_any-append (λ p. p == q) os (touched_in outcomes)) ∙ none) in
     let stays : has q (touched_in (outcomes_from m ops)) ≡ false = sym (ap (λ xs. has q (touched_in xs)) is) ∙ parts.1 in
     sym (touched m ops q stays) ∙ h q parts.0
 
