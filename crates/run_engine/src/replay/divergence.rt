@@ -72,7 +72,7 @@ impl Divergence {
         Ok(())
     }
 
-    /// Compares a heap with an old one, only at the suspects where those are known.
+    /// Compares a heap with an old one, by the suspects where those are known.
     pub fn meet(&mut self, alloc: Global, new: &Heap, old: &Heap) -> Result<Meeting, AllocError>
         requires { DifferWithin self.old new.now old.now }
         ensures meets { IfOk result (Meets new.now old.now) }
