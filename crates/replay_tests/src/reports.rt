@@ -2,6 +2,7 @@
 ghost use Rattle.std.specs.Prelude.{Some};
 
 use crate::replayed::{Replayed, counts};
+use leak_report::lives::lives;
 use leak_report::report::report;
 use leak_report::{WriteFault, find_leaks, write_report};
 use object_heap::Heap;
@@ -9,8 +10,9 @@ use std::alloc::Global;
 use std::test::Fail;
 use trace_types::devices::{Failed, Sink, StdSink};
 use trace_types::kinds::Kind;
-use trace_types::outcomes::{Answer, Event};
+use trace_types::outcomes::{Answer, Event, Outcome, Verdict};
 use trace_types::sequence::Sequence;
+use trace_types::stretches::Stretch;
 
 // One object, made and dropped.
 fn made_and_dropped(alloc: Global) -> Result<Replayed, Fail> {
@@ -118,6 +120,31 @@ fn nothing_leaks_where_nothing_is_held(rt: HostRuntime) -> Result<(), Fail> {
     let leaks = find_leaks(rt.alloc(), &Heap::empty())?;
     assert_eq!(rt; leaks.leaked.len(), 0);
     assert_eq!(rt; leaks.husks.len(), 0);
+    Ok(())
+}
+
+#[test]
+fn lives_rise_where_numbers_do_not(rt: HostRuntime) -> Result<(), Fail> {
+    let alloc = rt.alloc();
+    let mut outcomes = Vec::new(alloc);
+    for id in [5, 7, 2, 7, 6, 9] {
+        outcomes.push(Outcome {
+            id,
+            verdict: Verdict::Did(Answer::Made),
+            events: Sequence::empty(alloc),
+            counts: None,
+        })?;
+    }
+    let mut stretches = Vec::new(alloc);
+    stretches.push(Stretch {
+        ops: &[],
+        outcomes: &outcomes,
+    })?;
+    let lives = lives(alloc, &stretches)?;
+    assert_eq!(rt; lives.len(), 5);
+    for (life, object) in lives.as_slice().iter().zip([2, 5, 6, 7, 9]) {
+        assert_eq!(rt; life.object, object);
+    }
     Ok(())
 }
 
