@@ -24,6 +24,11 @@ impl Replayed {
         }
     }
 
+    // The next operation has this number.
+    pub fn number_next(&mut self, id: u32) {
+        self.last = id.saturating_sub(1);
+    }
+
     fn add(
         &mut self,
         alloc: Global,

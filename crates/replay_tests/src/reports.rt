@@ -2,7 +2,6 @@
 ghost use Rattle.std.specs.Prelude.{Some};
 
 use crate::replayed::{Replayed, counts};
-use leak_report::lives::lives;
 use leak_report::report::report;
 use leak_report::{WriteFault, find_leaks, write_report};
 use object_heap::Heap;
@@ -10,9 +9,8 @@ use std::alloc::Global;
 use std::test::Fail;
 use trace_types::devices::{Failed, Sink, StdSink};
 use trace_types::kinds::Kind;
-use trace_types::outcomes::{Answer, Event, Outcome, Verdict};
+use trace_types::outcomes::{Answer, Event};
 use trace_types::sequence::Sequence;
-use trace_types::stretches::Stretch;
 
 // One object, made and dropped.
 fn made_and_dropped(alloc: Global) -> Result<Replayed, Fail> {
@@ -126,23 +124,24 @@ fn nothing_leaks_where_nothing_is_held(rt: HostRuntime) -> Result<(), Fail> {
 #[test]
 fn lives_rise_where_numbers_do_not(rt: HostRuntime) -> Result<(), Fail> {
     let alloc = rt.alloc();
-    let mut outcomes = Vec::new(alloc);
-    for id in [5, 7, 2, 7, 6, 9] {
-        outcomes.push(Outcome {
-            id,
-            verdict: Verdict::Did(Answer::Made),
-            events: Sequence::empty(alloc),
-            counts: None,
-        })?;
+    let mut all = Replayed::nothing(alloc);
+    for id in [5, 7, 2, 6, 9] {
+        let fields = Sequence::empty(alloc);
+        all.number_next(id);
+        all.did(
+            alloc,
+            Kind::New { to: id, fields },
+            Answer::Made,
+            counts(id, 1, 0),
+            &[],
+        )?;
     }
-    let mut stretches = Vec::new(alloc);
-    stretches.push(Stretch {
-        ops: &[],
-        outcomes: &outcomes,
-    })?;
-    let lives = lives(alloc, &stretches)?;
-    assert_eq!(rt; lives.len(), 5);
-    for (life, object) in lives.as_slice().iter().zip([2, 5, 6, 7, 9]) {
+    if all.outcomes.len() != all.trace.len() {
+        return Err(Fail::from("as many outcomes as operations"));
+    }
+    let shown = report(alloc, &all.trace, &all.outcomes, &Heap::empty())?;
+    assert_eq!(rt; shown.lives().len(), 5);
+    for (life, object) in shown.lives().iter().zip([2, 5, 6, 7, 9]) {
         assert_eq!(rt; life.object, object);
     }
     Ok(())
