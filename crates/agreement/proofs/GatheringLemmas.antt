@@ -101,6 +101,15 @@ turned_round false x = refl
 pub rest_listed : (m : State) (xs : List ℕ) (rest : FinMap nat_cmp Remaining) → IsRest m (λ o. false) xs rest → (q : ℕ) → get rest q ≡ (if not (has q xs) then None else remaining_at m q (get m.objects q))
 rest_listed m xs rest all q = all q ∙ turned_round (has q xs) (remaining_at m q (get m.objects q))
 
+-- where neither of two holds
+pub neither_left : (a b : Bool) → (a || b) ≡ false → a ≡ false
+neither_left true b h = h
+neither_left false b h = refl
+
+pub neither_right : (a b : Bool) → (a || b) ≡ false → b ≡ false
+neither_right true b h = absurd cc
+neither_right false b h = h
+
 -- what a call that succeeded gives
 pub on_ok : {T E : Type 0} (r : Result T E) {P Q : Type 0} → OnOk r P → (P → Q) → OnOk r Q
 on_ok (Ok x) p f = f p

@@ -24,6 +24,7 @@ use Rattle.agreement.specs.Agreement.{Agree}
 use Rattle.agreement.specs.Gathering.{AgreeAt}
 use Rattle.agreement.specs.Joining.{IsJoined}
 use Rattle.agreement.specs.Meeting.{AgreeBut}
+use Rattle.agreement.proofs.GatheringLemmas.{neither_left, neither_right}
 use Rattle.agreement.proofs.MeetingLemmas.{agree_but}
 
 -- a map without some numbers
@@ -69,14 +70,6 @@ total-without w (p ∷ ps) m zero =
     let rest : total w (without ps (remove m p)) ≡ total w (remove m p) = total-without w ps (remove m p) (λ q h.
     ap (weight_at w) (get_removed m p q) ∙ cut_weight w (p == q) (get m q) (zero q (later_too p ps q h))) in
     omega (arith, here, one, rest)
-
-neither_left : (a b : Bool) → (a || b) ≡ false → a ≡ false
-neither_left true b h = h
-neither_left false b h = refl
-
-neither_right : (a b : Bool) → (a || b) ≡ false → b ≡ false
-neither_right true b h = absurd cc
-neither_right false b h = h
 
 -- a slot that doesn't name the object has no weight for its counts
 slots_unnamed : (w : Slot → ℕ) (q : ℕ) → ((s : Slot) → has q (named StrongOrWeak s) ≡ false → w s ≡ 0) → (ss : List Slot) → has q (slots_names StrongOrWeak ss) ≡ false → slots_weight w ss ≡ 0

@@ -1,5 +1,5 @@
 -- Heaps that differ at no object, and those that differ at most at the objects that stand in one of them.
-use Rattle.std.proofs.Common.{◌≡◌, ℕ, List, [], ◌++◌, refl, ap, ◌∙◌, sym, Bool, true, false}
+use Rattle.std.proofs.Common.{◌≡◌, ℕ, List, [], ◌++◌, refl, ap, ◌∙◌, sym, false}
 use Rattle.std.specs.Prelude.{◌||◌, Option, Some, None, is_some}
 use Rattle.std.specs.Cmp.{nat_cmp_total}
 use Rattle.std.specs.FinMap.{get, keys, same_map, nat_cmp-IsAntisymmetric, contains_key-keys}
@@ -9,6 +9,7 @@ use Rattle.ownership_model.specs.Reach.{has}
 use Rattle.ownership_model.specs.Agrees.{HaveSameRoots}
 use Rattle.ownership_model.specs.Touched.{AgreeOutside}
 use Rattle.ownership_model.proofs.Searching.{has-append, has_as_any}
+use Rattle.agreement.proofs.GatheringLemmas.{neither_left, neither_right}
 
 -- with the same roots and no suspect two states are one
 pub no_suspects : (new old : State) (xs : List ℕ) → xs ≡ [] → HaveSameRoots new old → AgreeOutside xs new old → new ≡ old
@@ -27,12 +28,4 @@ nothing_there m q n = none (get m.objects q) (contains_key-keys m.objects q ∙ 
 pub all_suspects : (new old : State) (xs ys zs : List ℕ) → xs ≡ keys new.objects → ys ≡ keys old.objects → zs ≡ xs ++ ys → AgreeOutside zs new old
 all_suspects new old xs ys zs in_new in_old both q n =
     let apart : (has q xs || has q ys) ≡ false = sym (has-append q xs ys) ∙ ap (has q) (sym both) ∙ n in
-    nothing_there new q (ap (has q) (sym in_new) ∙ left (has q xs) (has q ys) apart) ∙ sym (nothing_there old q (ap (has q) (sym in_old) ∙ right (has q xs) (has q ys) apart))
-  where
-    left : (a b : Bool) → (a || b) ≡ false → a ≡ false
-    left true b h = h
-    left false b h = refl
-
-    right : (a b : Bool) → (a || b) ≡ false → b ≡ false
-    right true b h = absurd cc
-    right false b h = h
+    nothing_there new q (ap (has q) (sym in_new) ∙ neither_left (has q xs) (has q ys) apart) ∙ sym (nothing_there old q (ap (has q) (sym in_old) ∙ neither_right (has q xs) (has q ys) apart))

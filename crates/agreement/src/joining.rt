@@ -15,7 +15,7 @@ use trace_types::slots::{Entry, Slot};
 /// The objects, and those that differ among what they and others that join name in either heap. An object differs by what stands for
 /// it or by a count.
 ///
-/// The work is that of these objects and of their fields.
+/// The work is that of these objects and of their fields. There is no answer only where more of them would join than there are numbers.
 pub fn joined(
     alloc: Global,
     new: &Heap,
