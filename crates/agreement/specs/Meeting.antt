@@ -13,8 +13,8 @@ use Rattle.agreement.specs.Agreement.{Agree}
 abbrev pub apart_from : Remains → ℕ → Bool
 apart_from x q = not (is_some (get x.removed q) || is_some (get x.added q))
 
--- The two agree, these objects are all at which they differ, each as it is with its counts, and whatever operations follow are
--- replayed alike. They need not be all that can't be reached
+-- The two agree; these objects are all at which they differ (by the law, at no operations), each as it is with its counts; and
+-- whatever operations follow are replayed alike. They need not be all that can't be reached
 pub record AgreeBut (new old : State) (x : Remains) : Type 0 where
   pub agree : Agree new old
   pub remains : IsRemains (apart_from x) new old x

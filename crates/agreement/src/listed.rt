@@ -39,6 +39,7 @@ impl Listed {
         }
     }
 
+    /// The objects, where they stand.
     pub fn as_slice(&self) -> &[u32]
         ensures { result.now ≡ self.now }
     {

@@ -46,9 +46,9 @@ pub fn meet(
 ///
 /// Where the trail still leads to a difference nothing else is looked at. Where the roots are the same the suspects are settled: those
 /// that are the same in both are dropped. With none left the heaps are the same; with one that is surely reached they don't agree, and
-/// it is the trail from now on; and where those left, with all that differs with them, are an island, they agree but for it. Up to here
-/// the work is that of the suspects. Else the trail is replaced by one to a difference, if any is found: then they don't agree. Only
-/// where none is found all that can be reached is compared.
+/// it is the trail from now on; and where those left, with all that differs with them, are an island, they agree but for it. Beside
+/// comparing the roots the work is, up to here, that of the suspects and of their fields. Else the trail is replaced by one to a
+/// difference, if any is found: then they don't agree. Only where none is found all that can be reached is compared.
 pub fn meet_among(
     alloc: Global,
     new: &Heap,

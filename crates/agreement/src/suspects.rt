@@ -45,6 +45,7 @@ impl Suspects {
         Ok(Suspects { objects })
     }
 
+    /// The suspects, in the order in which they joined. One may be listed twice.
     pub fn as_slice(&self) -> &[u32]
         ensures { result.now ≡ self.now }
     {
@@ -61,7 +62,8 @@ impl Suspects {
         Ok(())
     }
 
-    /// Those at which the same stands in both heaps are suspects no more, and each of the others is listed once.
+    /// Those at which the same stands in both heaps are suspects no more, and each of the others is listed once. It is a help for
+    /// speed: no clause says that any is dropped.
     pub fn settle(&mut self, alloc: Global, new: &Heap, old: &Heap) -> Result<(), AllocError>
         requires { AgreeOutside self.old new.now old.now }
         ensures { OnOk result (AgreeOutside self.new new.now old.now) }

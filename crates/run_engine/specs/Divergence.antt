@@ -20,13 +20,13 @@ IsDivergence r d =
 
 -- the objects that outcomes tell of have joined the suspects, from the segment at a position on and before the one at an index
 pub record HasFollowed (segments : List SegmentView) (from index : ℕ) (os more : List ℕ) : Type 0 where
-  -- the operations are as many
+  -- there are that many operations
   pub within : from ≤ length (trace_of segments)
   -- a state that was the same but for the suspects is so again
   pub outside : (other : State) → AgreeOutside os (end_from nothing_held (take from (trace_of segments))) other
       → AgreeOutside more (end_from nothing_held (trace_of (take index segments))) other
 
--- two heaps were compared: the replays stand where they stood, and it is known as before where the heaps may differ
+-- two heaps were compared: the replays stand where they stood, and what is known of where they may differ holds
 pub record HasCompared (before after : Divergence) (new old : State) : Type 0 where
   pub edited : after.edited ≡ before.edited
   pub base : after.base ≡ before.base
