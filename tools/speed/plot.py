@@ -3,7 +3,7 @@
 import math
 
 WIDTH, HEIGHT, LEFT, TOP, RIGHT, BOTTOM = 760, 420, 60, 30, 150, 40
-COLORS = ["#1b6ca8", "#c0392b", "#2e8b57", "#8e44ad", "#b9770e", "#566573", "#111111", "#7f6000", "#d81b60"]
+COLORS = ["#1b6ca8", "#c0392b", "#2e8b57", "#8e44ad", "#b9770e", "#566573", "#111111", "#7f6000", "#d81b60", "#00838f"]
 
 
 def scale(values, low, high):
