@@ -42,9 +42,6 @@ module _ (new old : State) where
   pub compares_none : (xs : List ℕ) → Compares new old [] xs xs
   compares_none xs = compares_now [] xs (λ o h. absurd cc)
 
-  pub compares_had : (object : ℕ) (xs : List ℕ) → has object xs ≡ true → Compares new old (object ∷ []) xs xs
-  compares_had object xs had = compares_now (object ∷ []) xs (λ o h n. contrary (AgreeAt new old o) (has o xs) (the_one (λ q. has q xs ≡ true) object o h had) n)
-
   pub compares_same : (object : ℕ) (xs : List ℕ) → AgreeAt new old object → Compares new old (object ∷ []) xs xs
   compares_same object xs same = compares_now (object ∷ []) xs (λ o h n. the_one (λ q. AgreeAt new old q) object o h same)
 

@@ -28,8 +28,12 @@ pub fn sure_difference(new: &Heap, old: &Heap, suspects: &[u32]) -> Option<Trail
     None
 }
 
-/// The remains, where the suspects and all that differs with them are an island of the new heap. The work is that of these objects and
-/// of their fields: the heaps are not walked.
+// How many objects an island may have where others join than those that differ.
+const NEAR: usize = 256;
+
+/// The remains, where the suspects and all that differs with them are an island of the new heap, or are one with the objects that they
+/// lead to, while these are few: as in a cycle that leaks, of which one member differs. The work is that of these objects and of their
+/// fields: the heaps are not walked.
 pub fn island_among(
     alloc: Global,
     new: &Heap,
@@ -40,7 +44,26 @@ pub fn island_among(
     requires outside { AgreeOutside suspects.now new.now old.now }
     ensures { IfOk result (λ r. IfSome r (λ x. AgreeBut new.now old.now x)) }
 {
-    let Some(apart) = joined(alloc, new, old, suspects)? else {
+    let alone = island_near(alloc, new, old, suspects, 0)?;
+    if alone.is_some() {
+        return Ok(alone);
+    }
+    island_near(alloc, new, old, suspects, NEAR)
+}
+
+// The remains, where the suspects are an island with what joins them.
+fn island_near(
+    alloc: Global,
+    new: &Heap,
+    old: &Heap,
+    suspects: &[u32],
+    near: usize,
+) -> Result<Option<Remains>, AllocError>
+    requires roots { HaveSameRoots new.now old.now }
+    requires outside { AgreeOutside suspects.now new.now old.now }
+    ensures { IfOk result (λ r. IfSome r (λ x. AgreeBut new.now old.now x)) }
+{
+    let Some(apart) = joined(alloc, new, old, suspects, near)? else {
         return Ok(None);
     };
     let island = apart.as_slice();

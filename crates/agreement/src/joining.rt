@@ -13,7 +13,7 @@ use trace_types::limits::MAX_ID;
 use trace_types::slots::{Entry, Slot};
 
 /// The objects, and those that differ among what they and others that join name in either heap. An object differs by what stands for
-/// it or by a count.
+/// it or by a count. While fewer than `near` are listed, one that is the same in both joins, too: so the other members of a cycle do.
 ///
 /// The work is that of these objects and of their fields. There is no answer only where more of them would join than there are numbers.
 pub fn joined(
@@ -21,10 +21,11 @@ pub fn joined(
     new: &Heap,
     old: &Heap,
     objects: &[u32],
+    near: usize,
 ) -> Result<Option<Vec<u32>>, AllocError>
     ensures { IfOk result (λ r. IfSome r (λ v. IsJoined new.now old.now objects.now v.items)) }
 {
-    let mut listed = Listed::none(alloc);
+    let mut listed = Listed::none(alloc, near);
     for object in objects {
         listed.join(*object)?;
     }
@@ -78,7 +79,7 @@ fn join_slot(listed: &mut Listed, new: &Heap, old: &Heap, slot: Slot) -> Result<
     }
 }
 
-// The object joins, unless it is listed or the same in both heaps.
+// The object joins, unless it is listed, or is the same in both heaps and not near.
 fn join_differing(
     listed: &mut Listed,
     new: &Heap,
@@ -87,7 +88,13 @@ fn join_differing(
 ) -> Result<(), AllocError>
     ensures { OnOk result (Compares new.now old.now (object ∷ []) listed.old listed.new) }
 {
-    if listed.has(object) || agree_at(new, old, object) {
+    if listed.has(object) {
+        return Ok(());
+    }
+    if listed.is_near() {
+        return listed.join(object);
+    }
+    if agree_at(new, old, object) {
         return Ok(());
     }
     listed.join(object)

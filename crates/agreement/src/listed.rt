@@ -12,6 +12,8 @@ use std::marker::Model;
 pub struct Listed {
     objects: Vec<u32>,
     members: BTreeSet<u32>,
+    // among so many an object that is the same in both heaps joins, too
+    near: usize,
 }
 
 impl Model for Listed {
@@ -29,14 +31,20 @@ impl Model for Listed {
 }
 
 impl Listed {
-    /// Takes no memory.
-    pub fn none(alloc: Global) -> Listed
+    /// No object. While fewer than `near` are listed others are near them. Takes no memory.
+    pub fn none(alloc: Global, near: usize) -> Listed
         ensures { result ≡ [] }
     {
         Listed {
             objects: Vec::new(alloc),
             members: BTreeSet::new(alloc),
+            near,
         }
+    }
+
+    /// Whether few objects are listed.
+    pub fn is_near(&self) -> bool {
+        self.objects.len() < self.near
     }
 
     /// The objects, where they stand.
@@ -53,6 +61,7 @@ impl Listed {
         let Listed {
             objects,
             members: _,
+            near: _,
         } = self;
         objects
     }

@@ -68,7 +68,7 @@ impl Suspects {
         requires { AgreeOutside self.old new.now old.now }
         ensures { OnOk result (AgreeOutside self.new new.now old.now) }
     {
-        let mut left = Listed::none(alloc);
+        let mut left = Listed::none(alloc, 0);
         for object in &self.objects {
             if !is_same_entry(new, old, *object) {
                 left.join(*object)?;

@@ -1,7 +1,7 @@
 use Rattle.std.proofs.Common.{List, ℕ, sym, subst}
 use Rattle.agreement.specs.Joining.{IsJoined}
 use Rattle.agreement.proofs.IslandLemmas.{agree_but_island}
-use Rattle.agreement.proofs.among.island_among.Goals as goal
+use Rattle.agreement.proofs.among.island_near.Goals as goal
 
 pub returns : goal.returns
 returns c =
