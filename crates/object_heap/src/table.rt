@@ -6,6 +6,7 @@ ghost use Rattle.object_heap.specs.TableView.{counters_at, are_zero, kept_of, wi
 ghost use Rattle.object_heap.specs.Gains.{IsSetAt};
 
 use crate::object::{Counters, More, NOTHING, Object};
+use crate::summed::added;
 use crate::weight::{Weigh, scattered};
 use share_tree::ShareTree;
 use std::alloc::{AllocError, Global};
@@ -145,8 +146,8 @@ impl Table {
         ensures set { OnOk result (IsSetAt self.old.counts self.new.counts object kept.1) }
         ensures err { OnErr result (self.new ≡ self.old) }
     {
-        let rest = self.sum.wrapping_sub(share_of(object, was.entry()));
-        let sum = rest.wrapping_add(share_of(object, kept.entry()));
+        let rest = self.sum.wrapping_sub(added(object, was.entry()));
+        let sum = rest.wrapping_add(added(object, kept.entry()));
         store(alloc, &mut self.kept, object, kept)?;
         self.sum = sum;
         Ok(())
@@ -207,19 +208,11 @@ impl Table {
     {
         match self.kept.get(object) {
             Some(kept) => (
-                self.sum.wrapping_sub(share_of(object, kept.entry())),
+                self.sum.wrapping_sub(added(object, kept.entry())),
                 kept.counters(),
             ),
             None => (self.sum, NOTHING),
         }
-    }
-}
-
-// What an object adds to the sum.
-fn share_of(object: u32, entry: Option<&Entry>) -> u64 {
-    match entry {
-        Some(entry) => scattered(object, entry.weight()),
-        None => 0,
     }
 }
 
