@@ -210,6 +210,7 @@ fn enter_scope(
 }
 
 // What a handle held, if it held anything, is counted no more.
+#[inline(always)]
 fn let_go_held(
     alloc: Global,
     objects: &mut Objects,

@@ -188,6 +188,7 @@ fn unlink(
 }
 
 // The handle, if there is one, has another neighbour after it.
+#[inline(always)]
 fn set_later(
     alloc: Global,
     places: &mut ShareTree<Place>,
