@@ -9,7 +9,7 @@ use Rattle.share_tree.specs.Updates.{set_at}
 use Rattle.object_heap.specs.declared.object.Counters.{Counters}
 use Rattle.object_heap.specs.TableView.{TableView, Kept, counters_at, are_zero, plus, HasRoomFor, table_of, IsLean}
 use Rattle.object_heap.specs.Gains.{IsSetAt}
-use Rattle.object_heap.proofs.TableLemmas.{counters_found, recounted}
+use Rattle.object_heap.proofs.TableLemmas.{counters_found, kept_counted, recounted}
 
 -- where anything is added, the counters are not all zero
 some_more : (c more : Counters) → are_zero more ≡ false → are_zero (plus c more) ≡ false
@@ -49,7 +49,7 @@ module _ (old : FinMap nat_cmp Kept) (t : TableView) (view : table_of old ≡ t)
   pub counted_more : (new : FinMap nat_cmp Kept) → IsLean old → are_zero more ≡ false → new ≡ set_at old o (option_map {U = Kept} (λ (k : Kept). (k.0, plus k.1 more)) (get old o)) → is_some (get old o) ≡ true
       → IsLean new × (IsSetAt t.counts (table_of new).counts o (plus (counters_at (get t.counts o)) more) × ((table_of new).entries ≡ t.entries))
   counted_more new lean any is there =
-      recounted old new t view lean o (plus (counters_at (get t.counts o)) more) (some_more (counters_at (get t.counts o)) more any)
+      recounted old new t view lean o (plus (counters_at (get t.counts o)) more) (λ x _. kept_counted x.0 (plus (counters_at (get t.counts o)) more) (some_more (counters_at (get t.counts o)) more any))
       (is ∙ ap (set_at old o) (of (get old o) (counters_found old t view o (get old o) refl))) there
     where
       of : (z : Option Kept) → counters_at (option_map (λ (k : Kept). k.1) z) ≡ counters_at (get t.counts o)

@@ -13,7 +13,7 @@ use Rattle.trace_types.specs.declared.slots.Entry.{Entry}
 use Rattle.ownership_model.proofs.Counting.{get_inserted, get_removed, same_number}
 use Rattle.ownership_model.proofs.Scoping.{itself}
 use Rattle.object_heap.specs.declared.object.Counters.{Counters}
-use Rattle.object_heap.specs.TableView.{TableView, Kept, counters_at, are_zero, if_any, kept_of, picked, part, table_of, with_entry, IsLean, AreAlike, AllStand}
+use Rattle.object_heap.specs.TableView.{TableView, Kept, counters_at, are_zero, if_any, kept_at, kept_of, picked, part, table_of, with_entry, IsLean, AreAlike, AllStand}
 use Rattle.object_heap.specs.Gains.{IsSetAt}
 use Rattle.object_heap.proofs.ViewLemmas.{first, second, same_key, find_below}
 
@@ -209,6 +209,10 @@ kept_found m t view q x e c =
     let counters = sym c ∙ counters_found m t view q (get m q) refl in
     λ i. (entry i, counters i)
 
+pub found_at : (m : FinMap nat_cmp Kept) (t : TableView) → table_of m ≡ t → (q : ℕ) (x : Option Kept) → get m q ≡ x → kept_at x ≡ (get t.entries q, counters_at (get t.counts q))
+found_at m t view q None is = λ i. (entry_found m t view q None is i, counters_found m t view q None is i)
+found_at m t view q (Some x) is = λ i. (entry_found m t view q (Some x) is i, counters_found m t view q (Some x) is i)
+
 pub keys_found : (m : FinMap nat_cmp Kept) (t : TableView) → table_of m ≡ t → IsLean m → AllStand t → keys m ≡ keys t.entries
 keys_found m t view lean stand = keys_seen m lean (subst (λ (s : TableView). AllStand s) (sym view) stand) ∙ ap (λ (s : TableView). keys s.entries) view
 
@@ -262,23 +266,23 @@ module _ (old new : FinMap nat_cmp Kept) (t : TableView) (view : table_of old �
       ]
 
 -- ---- nothing is kept
--- other counters, not all of them zero, in the place of those that are kept
-kept_counted : (e : Option Entry) (c : Counters) → are_zero c ≡ false → kept_of e c ≡ Some (e, c)
+-- other counters in the place of those that are kept, where not all of them are zero or something stands
+pub kept_counted : (e : Option Entry) (c : Counters) → are_zero c ≡ false → kept_of e c ≡ Some (e, c)
 kept_counted None c any = ap (λ b. option_map (λ (n : Counters). (None, n)) (if b then None else Some c)) any
 kept_counted (Some e) c any = refl
 
-module _ (old new : FinMap nat_cmp Kept) (t : TableView) (view : table_of old ≡ t) (lean : IsLean old) (o : ℕ) (c : Counters) (any : are_zero c ≡ false) (is : new ≡ set_at old o (option_map (λ (k : Kept). (k.0, c)) (get old o))) where
+module _ (old new : FinMap nat_cmp Kept) (t : TableView) (view : table_of old ≡ t) (lean : IsLean old) (o : ℕ) (c : Counters) (keeps : (x : Kept) → get old o ≡ Some x → kept_of x.0 c ≡ Some (x.0, c)) (is : new ≡ set_at old o (option_map (λ (k : Kept). (k.0, c)) (get old o))) where
   recounted_at : (x : Kept) → get old o ≡ Some x → (q : ℕ) → get new q ≡ (if o == q then kept_of x.0 c else get old q)
   recounted_at x there q =
       ap (λ m. get m q) is
       ∙ ap (λ z. get (set_at old o (option_map (λ (k : Kept). (k.0, c)) z)) q) there
       ∙ get_inserted old o (x.0, c) q
-      ∙ ap (λ z. if o == q then z else get old q) (sym (kept_counted x.0 c any))
+      ∙ ap (λ z. if o == q then z else get old q) (sym (keeps x there))
 
   recounted_lean : (x : Kept) → get old o ≡ Some x → IsLean new
   recounted_lean x there q y found =
       elim (o == q) as (λ b. (if b then kept_of x.0 c else get old q) ≡ Some y → kept_of y.0 y.1 ≡ Some y) [
-        | true ↦ λ e. subst (λ (z : Kept). kept_of z.0 z.1 ≡ Some z) (same_some (x.0, c) y (sym (kept_counted x.0 c any) ∙ e)) (kept_counted x.0 c any)
+        | true ↦ λ e. subst (λ (z : Kept). kept_of z.0 z.1 ≡ Some z) (same_some (x.0, c) y (sym (keeps x there) ∙ e)) (keeps x there)
         | false ↦ λ e. lean q y e
       ] (sym (recounted_at x there q) ∙ found)
 
@@ -289,6 +293,23 @@ module _ (old new : FinMap nat_cmp Kept) (t : TableView) (view : table_of old �
         let is = recounted_at x e in
         (recounted_lean x e, (counters_set old new t view o (x.0, c) is c refl, entries_stay old new t view o (x.0, c) is (entry_found old t view o (Some x) e)))
   ] refl
+
+module _ (old : FinMap nat_cmp Kept) (t : TableView) (view : table_of old ≡ t) (o : ℕ) (stands : is_some (get t.entries o) ≡ true) where
+  stands_at : (x : Option Kept) → get old o ≡ x → is_some (option_and_then (λ (k : Kept). k.0) x) ≡ true
+  stands_at x is = ap is_some (entry_found old t view o x is) ∙ stands
+
+  pub standing_kept : is_some (get old o) ≡ true
+  standing_kept = elim (get old o) as (λ z. get old o ≡ z → is_some z ≡ true) [
+    | None ↦ λ e. absurd (not_there (stands_at None e))
+    | Some x ↦ λ e. refl
+  ] refl
+
+  pub standing_keeps : (c : Counters) (x : Kept) → get old o ≡ Some x → kept_of x.0 c ≡ Some (x.0, c)
+  standing_keeps c x is = of x.0 (stands_at (Some x) is)
+    where
+      of : (e : Option Entry) → is_some e ≡ true → kept_of e c ≡ Some (e, c)
+      of None none = absurd (not_there none)
+      of (Some e) some = refl
 
 pub lean_empty : (m : FinMap nat_cmp Kept) → m ≡ empty → IsLean m
 lean_empty m none o x is = absurd (not_some x (sym (ap (λ n. get n o) none ∙ get-empty nat_cmp o) ∙ is))

@@ -1,5 +1,5 @@
 -- The objects of a heap: what stands for each, and how often each is named (for private functions alone).
-use Rattle.std.specs.Prelude.{ℕ, ◌+◌, ◌^◌, ◌<◌, ◌≡◌, ◌==◌, ◌&&◌, Bool, List, [], ◌∷◌, ◌++◌, Option, Some, None, unwrap_or, if◌then◌else◌, refl}
+use Rattle.std.specs.Prelude.{ℕ, ◌+◌, ◌-◌, ◌^◌, ◌<◌, ◌≤◌, ◌≡◌, ◌==◌, ◌&&◌, Bool, List, [], ◌∷◌, ◌++◌, Option, Some, None, unwrap_or, if◌then◌else◌, refl}
 use Rattle.std.specs.Option.{option_map}
 use Rattle.std.specs.Ordering.{nat_cmp}
 use Rattle.std.specs.FinMap.{FinMap, get, insert, remove, from_sorted}
@@ -27,6 +27,14 @@ plus c more = record { strong = c.strong + more.strong; weak = c.weak + more.wea
 abbrev pub HasRoomFor : Counters → Counters → Type 0
 HasRoomFor c more = (c.strong + more.strong < 2 ^ 64) × ((c.weak + more.weak < 2 ^ 64) × (c.ends + more.ends < 2 ^ 64))
 
+-- what two sets of counters differ by
+abbrev pub minus : Counters → Counters → Counters
+minus c less = record { strong = c.strong - less.strong; weak = c.weak - less.weak; ends = c.ends - less.ends }
+
+-- these are among those
+abbrev pub AreAmong : Counters → Counters → Type 0
+AreAmong less c = (less.strong ≤ c.strong) × ((less.weak ≤ c.weak) × (less.ends ≤ c.ends))
+
 -- the same stands in both, and is named as often
 abbrev pub AreAlike : TableView → TableView → Type 0
 AreAlike a b = (a.entries ≡ b.entries) × ((o : ℕ) → counters_at (get a.counts o) ≡ counters_at (get b.counts o))
@@ -43,6 +51,10 @@ with_entry entries o (Some e) = insert entries o e
 -- what is kept for one: what stands for it, if anything does, and its counters
 abbrev pub Kept : Type 0
 Kept = Option Entry × Counters
+
+-- the same, where nothing may be kept: then nothing stands, and nothing is counted
+abbrev pub kept_at : Option Kept → Kept
+kept_at kept = unwrap_or kept (None, counters_at None)
 
 -- whether nothing is counted
 abbrev pub are_zero : Counters → Bool

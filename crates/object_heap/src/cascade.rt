@@ -14,7 +14,8 @@ ghost use Rattle.object_heap.specs.Gains.{IsSetAt, ended};
 
 use crate::counters::hold_item;
 use crate::draft::Draft;
-use crate::object::Counters;
+use crate::object::{Counters, Object, counters_of, entry_of, share_of};
+use crate::summed::added;
 use std::alloc::{AllocError, Global};
 use std::collections::VecDeque;
 use trace_types::outcomes::Event;
@@ -135,13 +136,15 @@ impl Draft {
         requires counted { IsCounted self.old.objects.counts (drafted self.old) (item.Slot (slot.Strong object) ∷ pending.old.items) }
         ensures { OnOk result (DropsFirst self.old self.new (item.Slot (slot.Strong object)) pending.old.items pending.new.items events.old.items events.new.items) }
     {
-        let was = self.objects.counters(object);
+        let kept = self.objects.kept(object);
+        let was = counters_of(kept);
         let less = Counters {
             strong: was.strong - 1,
             ..was
         };
         if less.strong == 0 {
-            return self.destroy(alloc, object, pending, events);
+            let last = share_of(kept)?;
+            return self.destroy(alloc, object, &last, pending, events);
         }
         self.objects.set_counters(alloc, object, less)
     }
@@ -158,10 +161,12 @@ impl Draft {
         requires counted { IsCounted self.old.objects.counts (drafted self.old) pending.old.items }
         ensures { OnOk result (DropsFirst self.old self.new (item.Slot (slot.Strong object)) pending.old.items pending.new.items events.old.items events.new.items) }
     {
-        if self.objects.counters(object).strong != 0 {
+        let kept = self.objects.kept(object);
+        if counters_of(kept).strong != 0 {
             return Ok(());
         }
-        self.destroy(alloc, object, pending, events)
+        let last = share_of(kept)?;
+        self.destroy(alloc, object, &last, pending, events)
     }
 
     // Drops a weak slot: it is counted no more, and the allocation goes with the last one, where the value is gone.
@@ -176,13 +181,15 @@ impl Draft {
         requires counted { IsCounted self.old.objects.counts (drafted self.old) (item.Slot (slot.Weak object) ∷ rest.now.items) }
         ensures { OnOk result (DropsFirst self.old self.new (item.Slot (slot.Weak object)) rest.now.items rest.now.items events.old.items events.new.items) }
     {
-        let was = self.objects.counters(object);
+        let kept = self.objects.kept(object);
+        let was = counters_of(kept);
         let less = Counters {
             weak: was.weak - 1,
             ..was
         };
-        if is_last(self.objects.get(object), less) {
-            return self.free(alloc, object, less, events);
+        if is_last(entry_of(kept), less) {
+            let part = added(object, entry_of(kept));
+            return self.free(alloc, object, part, less, events);
         }
         self.objects.set_counters(alloc, object, less)
     }
@@ -199,30 +206,34 @@ impl Draft {
         requires counted { IsCounted self.old.objects.counts (drafted self.old) (item.End object ∷ rest.now.items) }
         ensures { OnOk result (DropsFirst self.old self.new (item.End object) rest.now.items rest.now.items events.old.items events.new.items) }
     {
-        let was = self.objects.counters(object);
+        let kept = self.objects.kept(object);
+        let was = counters_of(kept);
         let less = Counters {
             ends: was.ends - 1,
             ..was
         };
         if less.weak == 0 {
-            return self.free(alloc, object, less, events);
+            let part = added(object, entry_of(kept));
+            return self.free(alloc, object, part, less, events);
         }
         self.objects.set_counters(alloc, object, less)
     }
 
-    // No strong slot names the object any more, and so its value is gone, where it was there: its fields, and then its end, are dropped next.
+    // No strong slot names the object any more, for which this is kept, and so its value is gone, where it was there: its fields, and
+    // then its end, are dropped next.
     fn destroy(
         &mut self,
         alloc: Global,
         object: u32,
+        kept: &Object,
         pending: &mut VecDeque<Item>,
         events: &mut Vec<Event>,
     ) -> Result<(), AllocError>
-        requires { (counters_at (map.get self.old.objects.counts object)).ends + 1 < 2 ^ 64 }
+        requires kept { kept.now ≡ (map.get self.old.objects.entries object, counters_at (map.get self.old.objects.counts object)) }
+        requires room { (counters_at (map.get self.old.objects.counts object)).ends + 1 < 2 ^ 64 }
         ensures step { OnOk result (Becomes (drafted self.new) pending.new.items events.old.items events.new.items (left_by (drafted self.old) pending.old.items (fall object (map.get self.old.objects.entries object)))) }
         ensures set { OnOk result (IsSetAt self.old.objects.counts self.new.objects.counts object (ended (counters_at (map.get self.old.objects.counts object)))) }
     {
-        let kept = self.objects.at(object)?;
         let was = kept.counters();
         let counters = Counters {
             strong: 0,
@@ -232,16 +243,19 @@ impl Draft {
         if let Some(Entry::Alive(fields)) = kept.entry() {
             push_fields(fields.as_slice(), object, pending)?;
             events.push(Event::Destroyed(object))?;
-            return self.objects.set_husk(alloc, object, &kept, counters);
+            let part = added(object, kept.entry());
+            return self.objects.set_husk(alloc, object, part, counters);
         }
         self.objects.set_counters(alloc, object, counters)
     }
 
-    // The allocation of the object is gone: neither a weak slot nor its value holds it (`std::sync::Weak`). It has these counters.
+    // The allocation of the object is gone: neither a weak slot nor its value holds it (`std::sync::Weak`). It has these counters, and
+    // what stood there added this part to the sum.
     fn free(
         &mut self,
         alloc: Global,
         object: u32,
+        part: u64,
         counters: Counters,
         events: &mut Vec<Event>,
     ) -> Result<(), AllocError>
@@ -249,8 +263,7 @@ impl Draft {
         ensures set { OnOk result (IsSetAt self.old.objects.counts self.new.objects.counts object counters) }
     {
         events.push(Event::Freed(object))?;
-        let was = self.objects.at(object)?;
-        self.objects.free(alloc, object, &was, counters)
+        self.objects.free(alloc, object, part, counters)
     }
 }
 

@@ -1,10 +1,10 @@
 //! The changes of a state, with the counts of its slots.
 ghost use Rattle.std.specs.Prelude.{◌≡◌, ◌<◌, OnOk, IfOk, [], length, slice_set};
-ghost use Rattle.std.specs.Option.{option_map_or};
+ghost use Rattle.std.specs.Option.{option_copied, option_map_or};
 ghost use Rattle.std.specs.FinMap as map;
 ghost use Rattle.trace_types.specs.declared.slots.Change.TheVariants as change;
 ghost use Rattle.ownership_model.specs.State.{holding_weight, entry_weight, IsScoped};
-ghost use Rattle.ownership_model.specs.Scopes.{kept_or_entered};
+ghost use Rattle.ownership_model.specs.Scopes.{kept_or_entered, times_held, times_in};
 ghost use Rattle.ownership_model.specs.Changes.{HasField, CanBeDone, CanChange, changed};
 ghost use Rattle.ownership_model.specs.Bounds.{IsBounded, HoldingFits, AreFew, ChangeFits, ChangesFit};
 ghost use Rattle.object_heap.specs.Counted.{drafted, IsCounted};
@@ -14,7 +14,8 @@ ghost use Rattle.object_heap.specs.Gains.{Changes, CountsMore, HasRoom, HasSlots
 use crate::counters::{hold, hold_all, hold_holding, let_go, let_go_holding, let_go_object};
 use crate::draft::Draft;
 use crate::objects::Objects;
-use crate::summed::Summed;
+use crate::scopes::Scopes;
+use crate::summed::added;
 use std::alloc::{AllocError, Global};
 use trace_types::sequence::Sequence;
 use trace_types::slots::{Change, Entry, Holding, Slot};
@@ -76,21 +77,12 @@ impl Draft {
         ensures { OnOk result (Changes self.old self.new (change.SetHandle label handle holding.now)) }
     {
         hold_holding(alloc, &mut self.objects, holding)?;
-        let_go_handle(alloc, &mut self.objects, &self.handles, handle)?;
-        self.enter_scope(alloc, label, handle)?;
+        let held = self.handles.get(handle);
+        let was = added(handle, held);
+        let_go_held(alloc, &mut self.objects, held)?;
+        enter_scope(alloc, &mut self.scopes, label, handle, held)?;
         let copy = holding.clone()?;
-        self.handles.insert(alloc, handle, copy)
-    }
-
-    // A handle that is not held enters the scope of the label.
-    fn enter_scope(&mut self, alloc: Global, label: u32, handle: u32) -> Result<(), AllocError>
-        requires scoped { IsScoped self.old.handles self.old.scopes }
-        ensures { OnOk result (self.new ≡ record self.old { scopes = kept_or_entered (map.get self.old.handles handle) label handle self.old.scopes }) }
-    {
-        if self.handles.get(handle).is_none() {
-            self.scopes.enter(alloc, label, handle)?;
-        }
-        Ok(())
+        self.handles.replace(alloc, handle, was, copy)
     }
 
     fn end_handle(&mut self, alloc: Global, handle: u32) -> Result<(), AllocError>
@@ -98,9 +90,11 @@ impl Draft {
         requires can { CanBeDone (drafted self.old) (change.EndHandle handle) }
         ensures { OnOk result (Changes self.old self.new (change.EndHandle handle)) }
     {
-        let_go_handle(alloc, &mut self.objects, &self.handles, handle)?;
+        let held = self.handles.get(handle);
+        let was = added(handle, held);
+        let_go_held(alloc, &mut self.objects, held)?;
         self.scopes.leave(alloc, handle)?;
-        self.handles.remove(alloc, handle)
+        self.handles.take(alloc, handle, was)
     }
 
     fn set_cell(&mut self, alloc: Global, cell: u32, slot: Slot) -> Result<(), AllocError>
@@ -110,8 +104,10 @@ impl Draft {
         ensures { OnOk result (Changes self.old self.new (change.SetCell cell slot)) }
     {
         hold(alloc, &mut self.objects, slot)?;
-        let_go_cell(alloc, &mut self.objects, &self.cells, cell)?;
-        self.cells.insert(alloc, cell, slot)
+        let held = self.cells.get(cell);
+        let was = added(cell, held);
+        let_go_cell(alloc, &mut self.objects, held)?;
+        self.cells.replace(alloc, cell, was, slot)
     }
 
     fn end_cell(&mut self, alloc: Global, cell: u32) -> Result<(), AllocError>
@@ -119,8 +115,10 @@ impl Draft {
         requires can { CanBeDone (drafted self.old) (change.EndCell cell) }
         ensures { OnOk result (Changes self.old self.new (change.EndCell cell)) }
     {
-        let_go_cell(alloc, &mut self.objects, &self.cells, cell)?;
-        self.cells.remove(alloc, cell)
+        let held = self.cells.get(cell);
+        let was = added(cell, held);
+        let_go_cell(alloc, &mut self.objects, held)?;
+        self.cells.take(alloc, cell, was)
     }
 
     fn set_field(
@@ -194,35 +192,47 @@ fn rank_new(
     Ok(())
 }
 
-// What the handle holds, if it holds anything, is counted no more.
-fn let_go_handle(
+// A handle that held nothing enters the scope of the label.
+fn enter_scope(
+    alloc: Global,
+    scopes: &mut Scopes,
+    label: u32,
+    handle: u32,
+    held: Option<&Holding>,
+) -> Result<(), AllocError>
+    requires { times_in handle scopes.old ≡ times_held (option_copied held) }
+    ensures { OnOk result (scopes.new ≡ kept_or_entered (option_copied held.entry) label handle scopes.old) }
+{
+    match held {
+        Some(_) => Ok(()),
+        None => scopes.enter(alloc, label, handle),
+    }
+}
+
+// What a handle held, if it held anything, is counted no more.
+#[inline(always)]
+fn let_go_held(
     alloc: Global,
     objects: &mut Objects,
-    handles: &Summed<Holding>,
-    handle: u32,
+    held: Option<&Holding>,
 ) -> Result<(), AllocError>
-    requires { HasSlots objects.old.counts (λ w. option_map_or (holding_weight w) (map.get handles.now handle) 0) }
-    ensures counts { OnOk result (CountsMore objects.new.counts objects.old.counts (λ w. option_map_or (holding_weight w) (map.get handles.now handle) 0)) }
+    requires { HasSlots objects.old.counts (λ w. option_map_or (holding_weight w) (option_copied held) 0) }
+    ensures counts { OnOk result (CountsMore objects.new.counts objects.old.counts (λ w. option_map_or (holding_weight w) (option_copied held.entry) 0)) }
     ensures entries { OnOk result (objects.new.entries ≡ objects.old.entries) }
 {
-    match handles.get(handle) {
+    match held {
         Some(holding) => let_go_holding(alloc, objects, holding),
         None => Ok(()),
     }
 }
 
-// What the cell holds, if there is one, is counted no more.
-fn let_go_cell(
-    alloc: Global,
-    objects: &mut Objects,
-    cells: &Summed<Slot>,
-    cell: u32,
-) -> Result<(), AllocError>
-    requires { HasSlots objects.old.counts (λ w. option_map_or w (map.get cells.now cell) 0) }
-    ensures counts { OnOk result (CountsMore objects.new.counts objects.old.counts (λ w. option_map_or w (map.get cells.now cell) 0)) }
+// What a cell held, if there was one, is counted no more.
+fn let_go_cell(alloc: Global, objects: &mut Objects, held: Option<&Slot>) -> Result<(), AllocError>
+    requires { HasSlots objects.old.counts (λ w. option_map_or w (option_copied held) 0) }
+    ensures counts { OnOk result (CountsMore objects.new.counts objects.old.counts (λ w. option_map_or w (option_copied held.entry) 0)) }
     ensures entries { OnOk result (objects.new.entries ≡ objects.old.entries) }
 {
-    match cells.get(cell) {
+    match held {
         Some(slot) => let_go(alloc, objects, *slot),
         None => Ok(()),
     }

@@ -42,20 +42,15 @@ pub fn let_go(alloc: Global, objects: &mut Objects, slot: Slot) -> Result<(), Al
 {
     match slot {
         Slot::Strong(object) => {
-            let was = objects.counters(object);
-            let less = Counters {
-                strong: was.strong - 1,
-                ..was
+            let one = Counters {
+                strong: 1,
+                ..NOTHING
             };
-            objects.set_counters(alloc, object, less)
+            objects.count_less(alloc, object, one)
         }
         Slot::Weak(object) => {
-            let was = objects.counters(object);
-            let less = Counters {
-                weak: was.weak - 1,
-                ..was
-            };
-            objects.set_counters(alloc, object, less)
+            let one = Counters { weak: 1, ..NOTHING };
+            objects.count_less(alloc, object, one)
         }
         Slot::Nothing | Slot::Dangling => Ok(()),
     }

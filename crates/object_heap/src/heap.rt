@@ -16,12 +16,13 @@ ghost use Rattle.object_heap.specs.Exchange.{AreWithinLimits};
 ghost use Rattle.object_heap.specs.Links.{first_of, earlier_in};
 
 use crate::draft::Draft;
+use crate::object::Counters;
 use ownership_model::remaining::Remaining;
 use share_tree::ShareTree;
 use std::alloc::{AllocError, Global};
 use std::collections::VecDeque;
 use std::marker::Model;
-use trace_types::outcomes::Event;
+use trace_types::outcomes::{Counts, Event};
 use trace_types::sequence::Sequence;
 use trace_types::slots::{Change, Entry, Holding, Item, Slot};
 
@@ -152,6 +153,18 @@ impl Heap {
         ensures { result ≡ weak self.now [] object }
     {
         self.draft.objects.counters(object).weak
+    }
+
+    /// How many slots name the object, strongly and weakly. It is looked up once.
+    pub fn counts(&self, object: u32) -> Counts
+        ensures { result ≡ record { object = object; strong = strong self.now [] object; weak = weak self.now [] object } }
+    {
+        let Counters { strong, weak, .. } = self.draft.objects.counters(object);
+        Counts {
+            object,
+            strong,
+            weak,
+        }
     }
 
     /// A number that equal heaps have in common. Others have different ones, but for a rare chance, so that they are told apart without a

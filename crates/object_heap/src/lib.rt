@@ -8,6 +8,7 @@ mod draft;
 mod exchange;
 pub mod heap;
 mod island;
+mod neighbours;
 mod object;
 mod objects;
 pub mod place;

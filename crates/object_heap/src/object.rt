@@ -3,7 +3,7 @@ ghost use Rattle.std.specs.Prelude.{◌≡◌, ◌↔◌, ⊤, IfOk, IsTrue, Som
 ghost use Rattle.std.specs.Option.{option_copied, option_map};
 ghost use Rattle.std.specs.Bool.{IsFalse};
 ghost use Rattle.std.specs.Arc.{arc_value};
-ghost use Rattle.object_heap.specs.TableView.{are_zero, kept_of, plus, HasRoomFor};
+ghost use Rattle.object_heap.specs.TableView.{are_zero, kept_at, kept_of, minus, plus, AreAmong, HasRoomFor};
 
 use share_tree::Update;
 use std::alloc::{AllocError, Global};
@@ -37,6 +37,18 @@ impl Counters {
             strong: self.strong + more.strong,
             weak: self.weak + more.weak,
             ends: self.ends + more.ends,
+        }
+    }
+
+    /// What these count without what others do.
+    pub fn minus(self, less: Counters) -> Counters
+        requires { AreAmong less self }
+        ensures { result ≡ minus self less }
+    {
+        Counters {
+            strong: self.strong - less.strong,
+            weak: self.weak - less.weak,
+            ends: self.ends - less.ends,
         }
     }
 
@@ -141,6 +153,33 @@ impl Object {
         ensures { result ≡ self.now.1 }
     {
         self.counters
+    }
+}
+
+/// The counters of an object; zeros where nothing is kept for it.
+pub fn counters_of(kept: Option<&Object>) -> Counters
+    ensures { result ≡ (kept_at (option_copied kept.entry)).1 }
+{
+    match kept {
+        Some(kept) => kept.counters(),
+        None => NOTHING,
+    }
+}
+
+/// What stands for an object, if anything is kept for it.
+pub fn entry_of(kept: Option<&Object>) -> Option<&Entry>
+    ensures { option_copied result ≡ (kept_at (option_copied kept.entry)).0 }
+{
+    kept?.entry()
+}
+
+/// What is kept for an object once more, and nothing where nothing is.
+pub fn share_of(kept: Option<&Object>) -> Result<Object, AllocError>
+    ensures { IfOk result (λ x. x ≡ kept_at (option_copied kept.entry)) }
+{
+    match kept {
+        Some(kept) => kept.share(),
+        None => Ok(Object::named(NOTHING)),
     }
 }
 

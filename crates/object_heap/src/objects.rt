@@ -3,7 +3,7 @@ ghost use Rattle.std.specs.Prelude.{◌≡◌, ◌↔◌, true, false, IfOk, OnO
 ghost use Rattle.std.specs.Option.{option_copied};
 ghost use Rattle.std.specs.FinMap as map;
 ghost use Rattle.trace_types.specs.declared.slots.Entry.TheVariants.{Husk};
-ghost use Rattle.object_heap.specs.TableView.{counters_at, are_zero, plus, HasRoomFor, AreAlike, AllStand};
+ghost use Rattle.object_heap.specs.TableView.{counters_at, are_zero, kept_at, minus, plus, AreAmong, HasRoomFor, AreAlike, AllStand};
 ghost use Rattle.object_heap.specs.Gains.{IsSetAt};
 ghost use Rattle.object_heap.specs.Descent.{DescendTo, IsUnnamed};
 
@@ -86,6 +86,13 @@ impl Objects {
         self.table.get(object)
     }
 
+    /// What is kept for an object, if anything is.
+    pub fn kept(&self, object: u32) -> Option<&Object>
+        ensures { kept_at (option_copied result) ≡ (map.get self.now.entries object, counters_at (map.get self.now.counts object)) }
+    {
+        self.table.kept(object)
+    }
+
     /// What is kept for an object. It shares what stands, which is there while others change, and takes no memory.
     pub fn at(&self, object: u32) -> Result<Object, AllocError>
         ensures { IfOk result (λ x. x ≡ (map.get self.now.entries object, counters_at (map.get self.now.counts object))) }
@@ -143,7 +150,7 @@ impl Objects {
         &mut self,
         alloc: Global,
         object: u32,
-        was: &Object,
+        was: u64,
         counters: Counters,
     ) -> Result<(), AllocError>
         ensures entries { OnOk result (self.new.entries ≡ map.insert self.old.entries object Husk) }
@@ -158,7 +165,7 @@ impl Objects {
         &mut self,
         alloc: Global,
         object: u32,
-        was: &Object,
+        was: u64,
         counters: Counters,
     ) -> Result<(), AllocError>
         ensures entries { OnOk result (self.new.entries ≡ map.remove self.old.entries object) }
@@ -194,6 +201,20 @@ impl Objects {
         ensures entries { self.new.entries ≡ self.old.entries }
     {
         self.table.count_more(alloc, object, more)
+    }
+
+    /// These counters are taken off an object's own. What stands for it stays.
+    pub fn count_less(
+        &mut self,
+        alloc: Global,
+        object: u32,
+        less: Counters,
+    ) -> Result<(), AllocError>
+        requires { AreAmong less (counters_at (map.get self.old.counts object)) }
+        ensures set { OnOk result (IsSetAt self.old.counts self.new.counts object (minus (counters_at (map.get self.old.counts object)) less)) }
+        ensures entries { self.new.entries ≡ self.old.entries }
+    {
+        self.table.count_less(alloc, object, less)
     }
 
     /// A rank over those of what the slots name.

@@ -4,6 +4,7 @@ ghost use Rattle.std.specs.FinMap as map;
 ghost use Rattle.ownership_model.specs.Scopes.{scope_of, entered, left, times_in};
 ghost use Rattle.object_heap.specs.Links.{first_of, earlier_in, relinked_later, relinked_earlier, last_without};
 
+use crate::neighbours::{Earlier, Later};
 use crate::place::Place;
 use crate::weight::placed;
 use share_tree::ShareTree;
@@ -187,6 +188,7 @@ fn unlink(
 }
 
 // The handle, if there is one, has another neighbour after it.
+#[inline(always)]
 fn set_later(
     alloc: Global,
     places: &mut ShareTree<Place>,
@@ -198,10 +200,8 @@ fn set_later(
     let Some(handle) = handle else {
         return Ok(());
     };
-    let Some(place) = places.get(handle).copied() else {
-        return Ok(());
-    };
-    places.insert(alloc, handle, Place { later, ..place })
+    places.update(alloc, handle, &Later(later))?;
+    Ok(())
 }
 
 // The handle, if there is one, has another neighbour before it.
@@ -216,10 +216,8 @@ fn set_earlier(
     let Some(handle) = handle else {
         return Ok(());
     };
-    let Some(place) = places.get(handle).copied() else {
-        return Ok(());
-    };
-    places.insert(alloc, handle, Place { earlier, ..place })
+    places.update(alloc, handle, &Earlier(earlier))?;
+    Ok(())
 }
 
 // Where the handle of this place was the last of its label's scope, the one before it is.

@@ -71,24 +71,24 @@ impl<V: Drop + Weigh> Summed<V> {
         self.entries.keys(alloc)
     }
 
-    /// Adds an entry, or replaces the value of its key.
-    pub fn insert(&mut self, alloc: Global, key: u32, value: V) -> Result<(), AllocError>
+    /// Adds an entry, or replaces the value of its key. It is told what the key's entry added to the sum.
+    pub fn replace(&mut self, alloc: Global, key: u32, was: u64, value: V) -> Result<(), AllocError>
         ensures ok { OnOk result (self.new ≡ map.insert self.old key value) }
         ensures err { OnErr result (self.new ≡ self.old) }
     {
-        let rest = self.sum.wrapping_sub(self.share_of(key));
+        let rest = self.sum.wrapping_sub(was);
         let sum = rest.wrapping_add(scattered(key, value.weight()));
         self.entries.insert(alloc, key, value)?;
         self.sum = sum;
         Ok(())
     }
 
-    /// Takes out the entry of a key, if there is one.
-    pub fn remove(&mut self, alloc: Global, key: u32) -> Result<(), AllocError>
+    /// Takes out the entry of a key, if there is one. It is told what it added to the sum.
+    pub fn take(&mut self, alloc: Global, key: u32, was: u64) -> Result<(), AllocError>
         ensures ok { OnOk result (self.new ≡ map.remove self.old key) }
         ensures err { OnErr result (self.new ≡ self.old) }
     {
-        let rest = self.sum.wrapping_sub(self.share_of(key));
+        let rest = self.sum.wrapping_sub(was);
         self.entries.remove(alloc, key)?;
         self.sum = rest;
         Ok(())
@@ -107,12 +107,12 @@ impl<V: Drop + Weigh> Summed<V> {
     pub fn sum(&self) -> u64 {
         self.sum
     }
+}
 
-    // What the entry of a key adds to the sum.
-    fn share_of(&self, key: u32) -> u64 {
-        match self.entries.get(key) {
-            Some(value) => scattered(key, value.weight()),
-            None => 0,
-        }
+/// What the entry of a key adds to the sum, if there is one.
+pub fn added<V: Weigh>(key: u32, value: Option<&V>) -> u64 {
+    match value {
+        Some(value) => scattered(key, value.weight()),
+        None => 0,
     }
 }

@@ -1,11 +1,12 @@
 //! What stands for each object and how often each is named, in one tree.
-ghost use Rattle.std.specs.Prelude.{◌≡◌, ◌↔◌, ℕ, false, Some, None, IfOk, OnOk, OnErr, IsTrue, ◌==◌, if◌then◌else◌};
+ghost use Rattle.std.specs.Prelude.{◌≡◌, ◌↔◌, ℕ, true, false, is_some, Some, None, IfOk, OnOk, OnErr, IsTrue, ◌==◌, if◌then◌else◌};
 ghost use Rattle.std.specs.Option.{option_copied};
 ghost use Rattle.std.specs.FinMap as map;
-ghost use Rattle.object_heap.specs.TableView.{counters_at, are_zero, kept_of, with_entry, plus, HasRoomFor, AreAlike, AllStand};
+ghost use Rattle.object_heap.specs.TableView.{counters_at, are_zero, kept_at, kept_of, with_entry, minus, plus, AreAmong, HasRoomFor, AreAlike, AllStand};
 ghost use Rattle.object_heap.specs.Gains.{IsSetAt};
 
-use crate::object::{Counters, More, NOTHING, Object};
+use crate::object::{Counters, More, NOTHING, Object, counters_of, entry_of};
+use crate::summed::added;
 use crate::weight::{Weigh, scattered};
 use share_tree::ShareTree;
 use std::alloc::{AllocError, Global};
@@ -67,6 +68,13 @@ impl Table {
             Some(kept) => kept.entry(),
             None => None,
         }
+    }
+
+    /// What is kept for an object, if anything is.
+    pub fn kept(&self, object: u32) -> Option<&Object>
+        ensures { kept_at (option_copied result) ≡ (map.get self.now.entries object, counters_at (map.get self.now.counts object)) }
+    {
+        self.kept.get(object)
     }
 
     /// What is kept for an object. It shares what stands, which is there while others change, and takes no memory.
@@ -133,20 +141,20 @@ impl Table {
         Ok(())
     }
 
-    /// This stands for an object from now on, or nothing, and it has these counters. What was kept for it tells what goes from the sum.
+    /// This stands for an object from now on, or nothing, and it has these counters. It is told what stood there added to the sum.
     pub fn replace(
         &mut self,
         alloc: Global,
         object: u32,
-        was: &Object,
+        was: u64,
         kept: Object,
     ) -> Result<(), AllocError>
         ensures entries { OnOk result (self.new.entries ≡ with_entry self.old.entries object kept.0) }
         ensures set { OnOk result (IsSetAt self.old.counts self.new.counts object kept.1) }
         ensures err { OnErr result (self.new ≡ self.old) }
     {
-        let rest = self.sum.wrapping_sub(share_of(object, was.entry()));
-        let sum = rest.wrapping_add(share_of(object, kept.entry()));
+        let rest = self.sum.wrapping_sub(was);
+        let sum = rest.wrapping_add(added(object, kept.entry()));
         store(alloc, &mut self.kept, object, kept)?;
         self.sum = sum;
         Ok(())
@@ -186,6 +194,35 @@ impl Table {
         self.put_counters(alloc, object, more)
     }
 
+    /// These counters are taken off an object's own. What stands for it stays.
+    pub fn count_less(
+        &mut self,
+        alloc: Global,
+        object: u32,
+        less: Counters,
+    ) -> Result<(), AllocError>
+        requires { AreAmong less (counters_at (map.get self.old.counts object)) }
+        ensures set { OnOk result (IsSetAt self.old.counts self.new.counts object (minus (counters_at (map.get self.old.counts object)) less)) }
+        ensures entries { self.new.entries ≡ self.old.entries }
+    {
+        let kept = self.kept(object);
+        let counters = counters_of(kept).minus(less);
+        match entry_of(kept) {
+            Some(_) => self.recount(alloc, object, counters),
+            None => self.set_counters(alloc, object, counters),
+        }
+    }
+
+    // As `set_counters`, of an object that stands: it is kept, whatever is counted.
+    fn recount(&mut self, alloc: Global, object: u32, counters: Counters) -> Result<(), AllocError>
+        requires { is_some (map.get self.old.entries object) ≡ true }
+        ensures set { OnOk result (IsSetAt self.old.counts self.new.counts object counters) }
+        ensures entries { self.new.entries ≡ self.old.entries }
+    {
+        self.kept.update(alloc, object, &counters)?;
+        Ok(())
+    }
+
     // As `set_counters`, where nothing is kept for the object, or where nothing may be from now on.
     #[inline(never)]
     fn put_counters(
@@ -207,19 +244,11 @@ impl Table {
     {
         match self.kept.get(object) {
             Some(kept) => (
-                self.sum.wrapping_sub(share_of(object, kept.entry())),
+                self.sum.wrapping_sub(added(object, kept.entry())),
                 kept.counters(),
             ),
             None => (self.sum, NOTHING),
         }
-    }
-}
-
-// What an object adds to the sum.
-fn share_of(object: u32, entry: Option<&Entry>) -> u64 {
-    match entry {
-        Some(entry) => scattered(object, entry.weight()),
-        None => 0,
     }
 }
 

@@ -61,10 +61,11 @@ pub fn placed(handle: u32, label: u32, earlier: Option<u32>) -> u64 {
     scattered(handle, scope.wrapping_add(of_handle(earlier)))
 }
 
-/// What a value of this weight adds to a sum from its place.
+/// What a value of this weight adds to a sum from its place. A place is multiplied by another number than fields are, so that one isn't
+/// taken for the other.
 pub fn scattered(place: u32, weight: u64) -> u64 {
-    let seed = (place as u64 + 1).wrapping_mul(0x9E37_79B9_7F4A_7C15);
-    finalized(seed.wrapping_add(finalized(weight)))
+    let seed = (place as u64 + 1).wrapping_mul(0xD1B5_4A32_D192_ED03);
+    finalized(seed.wrapping_add(weight))
 }
 
 // Each bit of a number depends on all of another, and no two numbers become one (the finalizer of SplitMix64: Steele, Lea and Flood, Fast

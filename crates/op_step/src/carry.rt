@@ -179,10 +179,6 @@ fn counts_of(heap: &Heap, object: Option<u32>) -> Option<Counts>
 {
     match object {
         None => None,
-        Some(object) => Some(Counts {
-            object,
-            strong: heap.strong(object),
-            weak: heap.weak(object),
-        }),
+        Some(object) => Some(heap.counts(object)),
     }
 }

@@ -54,7 +54,8 @@ impl Room {
     pub fn both(&mut self, first: Change, second: Change) -> Result<Vec<Change>, AllocError>
         ensures { IfOk result (λ v. v.items ≡ first ∷ second ∷ []) }
     {
-        let mut changes = self.change(first)?;
+        let mut changes = self.changes();
+        changes.push(first)?;
         changes.push(second)?;
         Ok(changes)
     }

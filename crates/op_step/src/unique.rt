@@ -48,7 +48,8 @@ pub fn get_mut(alloc: Global, heap: &Heap, h: u32) -> Result<Plan, Stop>
     ensures { Tells result (row_in heap.now 0 0 (kind.GetMut h)) }
 {
     let object = strong_in(h, held(heap, h)?)?;
-    let is_only = heap.strong(object) == 1 && heap.weak(object) == 0;
+    let counts = heap.counts(object);
+    let is_only = counts.strong == 1 && counts.weak == 0;
     Ok(Plan::say(alloc, yes_if(is_only), Some(object)))
 }
 
@@ -57,10 +58,11 @@ pub fn make_mut(room: &mut Room, heap: &Heap, label: u32, id: u32, h: u32) -> Re
     ensures { Tells result (row_in heap.now label id (kind.MakeMut h)) }
 {
     let object = strong_in(h, held(heap, h)?)?;
-    if heap.strong(object) != 1 {
+    let counts = heap.counts(object);
+    if counts.strong != 1 {
         return Ok(cloned(room, label, id, h, object, fields_of(heap, object))?);
     }
-    if heap.weak(object) != 0 {
+    if counts.weak != 0 {
         return Ok(moved(room, label, id, h, object, fields_of(heap, object))?);
     }
     Ok(Plan::say(room.alloc(), Answer::Unique, Some(object)))
