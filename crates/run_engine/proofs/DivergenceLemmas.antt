@@ -1,6 +1,6 @@
 -- Where a replay and the old run beside it may differ.
 use Rattle.std.proofs.Common.{◌≡◌, ℕ, ◌+◌, ◌<◌, ◌≤◌, List, ◌++◌, length, take, get_or, Bool, true, false, refl, ap, sym, subst, ◌∙◌, arith}
-use Rattle.std.specs.Prelude.{◌||◌, ◌==◌, Some}
+use Rattle.std.specs.Prelude.{◌||◌, ◌==◌}
 use Rattle.std.proofs.Math.Seq.{take-length}
 use Rattle.std.proofs.lemmas.List.{length-take}
 use Rattle.std.proofs.lemmas.List.Folds.{list_any-append}
@@ -19,7 +19,7 @@ use Rattle.run_engine.specs.declared.replay.revision.Revision.{Revision}
 use Rattle.run_engine.specs.Divergence.{DifferWithin, IsDivergence, HasFollowed, HasCompared}
 use Rattle.run_engine.proofs.ListingLemmas.{take-shorter}
 use Rattle.run_engine.proofs.SegmentLemmas.{trace_of-next}
-use Rattle.run_engine.proofs.PieceLemmas.{segment-at, mark-is}
+use Rattle.run_engine.proofs.PieceLemmas.{segment-at}
 use Rattle.run_engine.proofs.PlaceLemmas.{trace_of-front, place-within}
 
 -- the same from the other side
@@ -91,13 +91,12 @@ pub record StandAt (r : Revision) (d : Divergence) (heap mark : State) : Type 0 
   pub heap_is : heap ≡ end_from nothing_held (take d.edited (new_trace r))
   pub mark_is : mark ≡ end_from nothing_held (take d.base (old_trace r))
 
--- so it is behind the front, and at the checkpoint of the segment i
-pub stand-there : (r : Revision) (d : Divergence) (x : ℕ) (segments : List SegmentView) (heap mark : State) (i at : ℕ) (s : SegmentView) → IsReached (new_trace r) x segments heap
-    → length (trace_of (take i r.segments.now)) ≡ at → i < length r.segments.now → s ≡ get_or r.segments.now i s → Some mark ≡ s.mark → d.edited ≡ x → d.base ≡ at → StandAt r d heap mark
-stand-there r d x segments heap mark i at s reached place lt is marked edited base = record {
+-- so it is behind the front, and at an old checkpoint
+pub stand-there : (r : Revision) (d : Divergence) (x at : ℕ) (segments : List SegmentView) (heap mark : State) → IsReached (new_trace r) x segments heap
+    → mark ≡ end_from nothing_held (take at (old_trace r)) → d.edited ≡ x → d.base ≡ at → StandAt r d heap mark
+stand-there r d x at segments heap mark reached is edited base = record {
   heap_is = reached.state ∙ ap (λ n. end_from nothing_held (take n (new_trace r))) (sym edited);
-  mark_is = mark-is r.segments.now i s mark r.holds.kept.run.replay lt is marked
-      ∙ ap (end_from nothing_held) (trace_of-front r.segments.now i at place ∙ ap (λ n. take n (old_trace r)) (sym base));
+  mark_is = is ∙ ap (λ n. end_from nothing_held (take n (old_trace r))) (sym base);
 }
 
 pub differ-here : (r : Revision) (d : Divergence) (heap mark : State) → StandAt r d heap mark → IsDivergence r d → DifferWithin d heap mark

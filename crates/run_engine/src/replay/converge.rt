@@ -15,7 +15,7 @@ ghost use Rattle.run_engine.specs.GoesOn.{MayGoOn, GoesOnBeside};
 use crate::replay::ahead::go_ahead;
 use crate::replay::divergence::Divergence;
 use crate::replay::piece::{Piece, STRIDE, found, joined, stepped};
-use crate::replay::rejoin::{Rest, rejoined};
+use crate::replay::rejoin::{OldMark, rejoined_at};
 use crate::replay::revision::Revision;
 use crate::replay::stretch::{may_begin, old_stretch};
 use crate::replay::touching::touch_at;
@@ -213,13 +213,8 @@ pub fn converge(
                     open: seam.new,
                 };
                 front = advance(alloc, revision, front, leg, shelf, meter)?;
-                divergence.catch_up(revision, &front, i, at)?;
-                let rest = Rest {
-                    segments: old,
-                    from: i,
-                    end: revision.end,
-                };
-                let found = rejoined(alloc, &front.end, &mark, &rest, &mut divergence)?;
+                let place = OldMark { index: i, at, mark };
+                let found = rejoined_at(alloc, revision, &front, &place, &mut divergence)?;
                 if let Some((rest, end)) = found {
                     touch_at(revision.ops, front.len, shelf, &mut front.gone)?;
                     let len = revision.ops.len();

@@ -1,6 +1,7 @@
 //! Where a replay and the old run beside it may differ.
 ghost use Rattle.std.specs.Prelude.{◌≡◌, ◌≤◌, IfOk, OnOk, IsTrue, length, take};
 ghost use Rattle.ownership_model.specs.State.{State, nothing_held};
+ghost use Rattle.agreement.specs.Agreement.{Agree};
 ghost use Rattle.agreement.specs.Meeting.{Meets};
 ghost use Rattle.run_engine.specs.OldRun.{new_trace};
 ghost use Rattle.run_engine.specs.Segments.{trace_of, AreReplayFrom, IsReached};
@@ -9,7 +10,7 @@ ghost use Rattle.run_engine.specs.Divergence.{DifferWithin, IsDivergence, HasFol
 use crate::replay::piece::Piece;
 use crate::replay::revision::Revision;
 use crate::segments::blocks::Segments;
-use agreement::{Meeting, Suspects, Trail, meet, meet_among};
+use agreement::{Meeting, Suspects, Trail, is_refuted, meet, meet_among};
 use object_heap::Heap;
 use std::alloc::{AllocError, Global};
 
@@ -70,6 +71,13 @@ impl Divergence {
         self.edited = front.len;
         self.base = at;
         Ok(())
+    }
+
+    /// Whether the trail to a difference that was found still leads to one: then the heaps don't agree, wherever else they differ.
+    pub fn is_refuted(&self, new: &Heap, old: &Heap) -> bool
+        ensures { IsTrue result → ¬ (Agree new.now old.now) }
+    {
+        is_refuted(&self.trail, new, old)
     }
 
     /// Compares a heap with an old one, by the suspects where those are known.

@@ -13,10 +13,10 @@ use Rattle.run_engine.proofs.SegmentLemmas.{length-trace_of-next, trace_of-appen
 use Rattle.run_engine.proofs.PieceLemmas.{mark-is}
 use Rattle.run_engine.proofs.PlaceLemmas.{mark-there, place-within, trace_of-front}
 use Rattle.run_engine.proofs.ConvergeLemmas.{IsBeside-first, IsBeside-next, least-agreeing, bounded, ShareEnd-length, IsRunFrom-back, rest-shared, distinct-back, old-unused, new-unused, AgreesAt-here, AgreesAt-there, IsSpliced, IsSpliced-rest, IsSpliced-end}
-use Rattle.run_engine.proofs.replay.converge.converge.Goals.{then-at-seam+in-Some+in_ok-front+in_ok-catch_up+in_ok-found+in_default-found, then-at-seam+in_default, else-at-seam}
+use Rattle.run_engine.proofs.replay.converge.converge.Goals.{then-at-seam+in-Some+in_ok-front+in_ok-found+in_default-found, then-at-seam+in_default, else-at-seam}
 use Rattle.run_engine.proofs.MarksLemmas.{all_marks-stop, all_marks-rest, IsReached-length}
 use Rattle.run_engine.proofs.LeftLemmas.{left-at-stop, left-at-end}
-use Rattle.run_engine.proofs.DivergenceLemmas.{StandAt, stand-there, differ-here, IsDivergence-none, IsDivergence-compared}
+use Rattle.run_engine.proofs.DivergenceLemmas.{IsDivergence-none}
 use Rattle.run_engine.proofs.GoesOnLemmas.{GoesOn-none, GoesOn-next, GoesOn-steps}
 use Rattle.run_engine.specs.Bounds.{AgreesAt}
 use Rattle.run_engine.proofs.SteppedLemmas.{AreStepped-stop, AreStepped-end}
@@ -67,47 +67,39 @@ pub returns-in-Some-found-clause-bound : goal.returns-in-Some-found-clause-bound
 returns-in-Some-found-clause-bound c =
     bounded _ _ _ _ _ _ _ _ _ _ _ _ _ c.loop-i.invariant.place c.requires.shared c.if-at-seam.true (omega (arith, c.loop-i.invariant.place.rise, c.advance.ensures.rise))
 
-pub returns-in_err-catch_up-clause-bound : goal.returns-in_err-catch_up-clause-bound
-returns-in_err-catch_up-clause-bound c =
-    bounded _ _ _ _ _ _ _ _ _ _ _ _ _ c.loop-i.invariant.place c.requires.shared c.if-at-seam.true (omega (arith, c.loop-i.invariant.place.rise, c.advance.ensures.rise))
+pub rejoined_at-requires-clause-place : goal.rejoined_at-requires-clause-place
+rejoined_at-requires-clause-place c = c.loop-i.invariant.place.place
 
-pub catch_up-requires-clause-place : goal.catch_up-requires-clause-place
-catch_up-requires-clause-place c = c.loop-i.invariant.place.place
+pub rejoined_at-requires-clause-mark : goal.rejoined_at-requires-clause-mark
+rejoined_at-requires-clause-mark c =
+    mark-is c.args.revision.now.segments.now c.loop-i.i c.at-segment.result c.in-Some.mark c.args.revision.now.holds.kept.run.replay (omega (arith, c.loop-i-test.true, c.len-i-end.ensures)) c.at-segment.ensures c.in-Some.ensures
+    ∙ ap (end_from nothing_held) (trace_of-front c.args.revision.now.segments.now c.loop-i.i c.loop-i.at c.loop-i.invariant.place.place)
 
--- the heaps that are compared stand where the divergence has caught up
-stand : (c : goal.After-divergence-in-Some-1) → StandAt c.args.revision.now c.catch_up.new.self c.in_ok-front.front.end c.in-Some.mark
-stand c = stand-there c.args.revision.now c.catch_up.new.self c.in_ok-front.front.len c.in_ok-front.front.segments c.in_ok-front.front.end c.in-Some.mark c.loop-i.i c.loop-i.at c.at-segment.result
-    c.in_ok-front.ensures.beside.reached c.loop-i.invariant.place.place (omega (arith, c.loop-i-test.true, c.len-i-end.ensures)) c.at-segment.ensures c.in-Some.ensures c.in_ok-catch_up.ensures.edited c.in_ok-catch_up.ensures.base
-
-pub rejoined-requires-clause-known : goal.rejoined-requires-clause-known
-rejoined-requires-clause-known c =
-    differ-here c.args.revision.now c.catch_up.new.self c.in_ok-front.front.end c.in-Some.mark (stand c) c.in_ok-catch_up.ensures.known
-
-pub rejoined-requires-clause-run : goal.rejoined-requires-clause-run
-rejoined-requires-clause-run c =
+pub rejoined_at-requires-clause-run : goal.rejoined_at-requires-clause-run
+rejoined_at-requires-clause-run c =
     (IsRunFrom-back c.args.revision.now.segments.now c.args.revision.now.end.now c.in-Some.mark c.loop-i.i c.at-segment.result c.args.revision.now.holds.kept.run (omega (arith, c.loop-i-test.true, c.len-i-end.ensures)) c.at-segment.ensures c.in-Some.ensures)
 
-pub rejoined-requires-clause-distinct : goal.rejoined-requires-clause-distinct
-rejoined-requires-clause-distinct c = (distinct-back c.args.revision.now.segments.now c.loop-i.i c.args.revision.now.holds.kept.trace.distinct)
+pub rejoined_at-requires-clause-distinct : goal.rejoined_at-requires-clause-distinct
+rejoined_at-requires-clause-distinct c = (distinct-back c.args.revision.now.segments.now c.loop-i.i c.args.revision.now.holds.kept.trace.distinct)
 
-pub rejoined-requires-clause-old_unused : goal.rejoined-requires-clause-old_unused
-rejoined-requires-clause-old_unused c =
+pub rejoined_at-requires-clause-old_unused : goal.rejoined_at-requires-clause-old_unused
+rejoined_at-requires-clause-old_unused c =
     (old-unused c.args.revision.now.segments.now c.args.revision.now.end.now c.in-Some.mark c.loop-i.i c.at-segment.result c.args.revision.now.holds.kept.run c.args.revision.now.holds.kept.trace.distinct (omega (arith, c.loop-i-test.true, c.len-i-end.ensures)) c.at-segment.ensures c.in-Some.ensures)
 
 -- the edited trace ends with the operations of the rest of the old run
 back : (old : List SegmentView) (ops : List Operation) (a b i at x : ℕ) → ShareEnd (trace_of old) ops a b → length (trace_of (take i old)) ≡ at → a ≤ at → x ≡ at - a + b → trace_of (drop i old) ≡ drop x ops
 back old ops a b i at x shared place behind there = rest-shared old ops a b i at shared place behind ∙ ap (λ n. drop n ops) (sym there)
 
-pub rejoined-requires-clause-unused : goal.rejoined-requires-clause-unused
-rejoined-requires-clause-unused c =
+pub rejoined_at-requires-clause-unused : goal.rejoined_at-requires-clause-unused
+rejoined_at-requires-clause-unused c =
     (new-unused c.args.revision.now.ops.now.ops c.in_ok-front.front.len c.in_ok-front.front.segments (drop c.loop-i.i c.args.revision.now.segments.now) c.in_ok-front.front.end c.in_ok-front.ensures.beside.reached c.args.revision.now.holds.trace.distinct
     (back c.args.revision.now.segments.now c.args.revision.now.ops.now.ops c.args.seam.old c.args.seam.new c.loop-i.i c.loop-i.at c.in_ok-front.front.len c.requires.shared c.loop-i.invariant.place.place c.if-at-seam.true c.in_ok-front.ensures.there))
 
 -- where the old run goes on it has the operations that are left
-rest-is : (c : goal.Joined-divergence-17) → trace_of c.in-Some-found.rest ≡ trace_of (drop c.loop-i.i c.args.revision.now.segments.now)
+rest-is : (c : goal.Joined-divergence-14) → trace_of c.in-Some-found.rest ≡ trace_of (drop c.loop-i.i c.args.revision.now.segments.now)
 rest-is c = rw c.in-Some-found.is at c.in_ok-found.ensures.trace
 
-spliced : (c : goal.Joined-divergence-17) → IsSpliced c.args.revision.now.ops.now.ops (c.in_ok-front.front.segments ++ c.in-Some-found.rest) c.in-Some-found.end
+spliced : (c : goal.Joined-divergence-14) → IsSpliced c.args.revision.now.ops.now.ops (c.in_ok-front.front.segments ++ c.in-Some-found.rest) c.in-Some-found.end
 spliced c =
     let run : IsRunFrom c.in_ok-front.front.end c.in-Some-found.rest c.in-Some-found.end = rw c.in-Some-found.is at c.in_ok-found.ensures.run in
     IsSpliced-rest c.args.revision.now.ops.now.ops c.in_ok-front.front.len c.in_ok-front.front.segments c.in-Some-found.rest c.in_ok-front.front.end c.in-Some-found.end c.in_ok-front.ensures.beside.reached
@@ -115,7 +107,7 @@ spliced c =
     run
 
 -- the heaps agree where the replay stops
-agreed : (c : goal.Joined-divergence-17) → AgreesAt (trace_of c.args.revision.now.segments.now) c.args.revision.now.ops.now.ops c.args.seam.old c.args.seam.new c.loop-i.at
+agreed : (c : goal.Joined-divergence-14) → AgreesAt (trace_of c.args.revision.now.segments.now) c.args.revision.now.ops.now.ops c.args.seam.old c.args.seam.new c.loop-i.at
 agreed c =
     let m : c.in-Some.mark ≡ end_from nothing_held (trace_of (take c.loop-i.i c.args.revision.now.segments.now)) = mark-is c.args.revision.now.segments.now c.loop-i.i c.at-segment.result c.in-Some.mark c.args.revision.now.holds.kept.run.replay (omega (arith, c.loop-i-test.true, c.len-i-end.ensures)) c.at-segment.ensures c.in-Some.ensures in
     let there : c.in_ok-front.front.len ≡ c.loop-i.at - c.args.seam.old + c.args.seam.new = c.in_ok-front.ensures.there in
@@ -200,7 +192,7 @@ pub loop-i-preserved : goal.loop-i-preserved
 loop-i-preserved c =
     let old = c.args.revision.now.segments.now in
     elim c.if-at-seam.branch [
-      | then-at-seam+in-Some+in_ok-front+in_ok-catch_up+in_ok-found+in_default-found w ↦
+      | then-at-seam+in-Some+in_ok-front+in_ok-found+in_default-found w ↦
           let m : w.in-Some.mark ≡ end_from nothing_held (trace_of (take c.loop-i.i c.args.revision.now.segments.now)) = mark-is c.args.revision.now.segments.now c.loop-i.i c.at-segment.result w.in-Some.mark c.args.revision.now.holds.kept.run.replay (omega (arith, c.loop-i-test.true, c.len-i-end.ensures)) c.at-segment.ensures w.in-Some.ensures in
           let there : w.in_ok-front.front.len ≡ c.loop-i.at - c.args.seam.old + c.args.seam.new = w.in_ok-front.ensures.there in
           let front = w.in_ok-front.ensures.beside.reached in
@@ -215,10 +207,7 @@ loop-i-preserved c =
                 let f : is_some w.in_ok-found.found ≡ false = ap is_some w.in_default-found.is in
                 cc);
             beside = GoesOn-next _ _ _ _ _ _ _ _ _ _ _ _ c.loop-i.invariant.beside w.in_ok-front.ensures.beside;
-            known = IsDivergence-compared c.args.revision.now w.catch_up.new.self w.rejoined.new.divergence w.in_ok-front.front.end w.in-Some.mark
-                (stand-there c.args.revision.now w.catch_up.new.self w.in_ok-front.front.len w.in_ok-front.front.segments w.in_ok-front.front.end w.in-Some.mark c.loop-i.i c.loop-i.at c.at-segment.result
-                front c.loop-i.invariant.place.place (omega (arith, c.loop-i-test.true, c.len-i-end.ensures)) c.at-segment.ensures w.in-Some.ensures w.in_ok-catch_up.ensures.edited w.in_ok-catch_up.ensures.base)
-                w.in_ok-found.ensures.known;
+            known = w.in_ok-found.ensures.known;
             never_less = omega (arith, c.loop-i.invariant.never_less, w.advance.ensures.never_less);
           })
       | then-at-seam+in_default w ↦
