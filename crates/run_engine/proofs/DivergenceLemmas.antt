@@ -15,8 +15,9 @@ use Rattle.run_engine.specs.SegmentView.{SegmentView}
 use Rattle.run_engine.specs.Segments.{ops_of, trace_of, AreReplayFrom, IsReached}
 use Rattle.run_engine.specs.OldRun.{old_trace, new_trace}
 use Rattle.run_engine.specs.declared.replay.divergence.Divergence.{Divergence}
+use Rattle.run_engine.specs.declared.replay.progress.Joint.{Joint}
 use Rattle.run_engine.specs.declared.replay.revision.Revision.{Revision}
-use Rattle.run_engine.specs.Divergence.{DifferWithin, IsDivergence, HasFollowed, HasCompared}
+use Rattle.run_engine.specs.Divergence.{IsJoint, DifferWithin, IsDivergence, HasFollowed, HasCompared}
 use Rattle.run_engine.proofs.ListingLemmas.{take-shorter}
 use Rattle.run_engine.proofs.SegmentLemmas.{trace_of-next}
 use Rattle.run_engine.proofs.PieceLemmas.{segment-at}
@@ -78,13 +79,12 @@ caught-up ops old segments edited base x index at os more all heap h reached new
     (subst (λ t. AgreeOutside all (end_from nothing_held t) (end_from nothing_held (take x ops))) (trace_of-front old index at place)
     (then.outside (end_from nothing_held (take x ops)) (outside-sym more (end_from nothing_held (take x ops)) base_state here)))
 
--- where both begin with the same operations nothing differs
-pub IsDivergence-none : (r : Revision) (d : Divergence) (at : ℕ) → ((m : State) → DifferWithin d m m) → d.edited ≡ at → d.base ≡ at → take at (new_trace r) ≡ take at (old_trace r) → IsDivergence r d
-IsDivergence-none r d at h edited base same =
-    let there : take d.edited (new_trace r) ≡ take d.base (old_trace r) =
-    ap (λ n. take n (new_trace r)) edited ∙ same ∙ sym (ap (λ n. take n (old_trace r)) base) in
-    subst (λ ops. DifferWithin d (end_from nothing_held (take d.edited (new_trace r))) (end_from nothing_held ops)) there
-    (h (end_from nothing_held (take d.edited (new_trace r))))
+-- where both stand at one heap nothing differs
+pub IsDivergence-joint : (r : Revision) (d : Divergence) (joint : Joint) → ((m : State) → DifferWithin d m m) → d.edited ≡ joint.edited → d.base ≡ joint.base → IsJoint r joint → IsDivergence r d
+IsDivergence-joint r d joint h edited base same =
+    let there : end_from nothing_held (take d.edited (new_trace r)) ≡ end_from nothing_held (take d.base (old_trace r)) =
+    ap (λ n. end_from nothing_held (take n (new_trace r))) edited ∙ same ∙ sym (ap (λ n. end_from nothing_held (take n (old_trace r))) base) in
+    subst (DifferWithin d (end_from nothing_held (take d.edited (new_trace r)))) there (h (end_from nothing_held (take d.edited (new_trace r))))
 
 -- the heaps where both stand
 pub record StandAt (r : Revision) (d : Divergence) (heap mark : State) : Type 0 where

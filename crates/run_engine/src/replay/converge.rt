@@ -228,7 +228,7 @@ pub fn converge(
     };
     let mut progress = Progress { front, joint };
     let (first, mut at) = old.last_from(seam.old);
-    let mut divergence = Divergence::none(alloc, joint.edited);
+    let mut divergence = Divergence::none(alloc, joint);
     for i in first..old.len() {
         let segment = old.at(i);
         if at >= seam.old {
@@ -239,7 +239,7 @@ pub fn converge(
                 };
                 progress = advance(alloc, revision, progress, leg, shelf, meter)?;
                 let place = OldMark { index: i, at, mark };
-                let found = rejoined_at(alloc, revision, &progress.front, &place, &mut divergence)?;
+                let found = rejoined_at(alloc, revision, &progress, &place, &mut divergence)?;
                 if let Some((rest, end)) = found {
                     let mut front = progress.front;
                     touch_at(revision.ops, front.len, shelf, &mut front.gone)?;

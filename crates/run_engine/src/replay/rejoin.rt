@@ -4,12 +4,12 @@ ghost use Rattle.trace_types.specs.Trace.{has_distinct_numbers};
 ghost use Rattle.ownership_model.specs.State.{nothing_held};
 ghost use Rattle.ownership_model.specs.Step.{end_from, AreUnused};
 ghost use Rattle.agreement.specs.Agreement.{Agree};
-ghost use Rattle.run_engine.specs.Divergence.{DifferWithin, IsDivergence, HasCompared};
+ghost use Rattle.run_engine.specs.Divergence.{IsJoint, DifferWithin, IsDivergence, HasCompared};
 ghost use Rattle.run_engine.specs.OldRun.{old_trace, new_trace, rest_of};
 ghost use Rattle.run_engine.specs.Segments.{trace_of, marks_from, IsReached, IsRunFrom};
 
 use crate::replay::divergence::Divergence;
-use crate::replay::piece::Piece;
+use crate::replay::progress::Progress;
 use crate::replay::revision::Revision;
 use crate::segments::blocks::Segments;
 use agreement::{Checkpoint, Meeting, patch};
@@ -40,12 +40,13 @@ pub struct OldMark<'a> {
 pub fn rejoined_at(
     alloc: Global,
     revision: &Revision,
-    front: &Piece,
+    progress: &Progress,
     old: &OldMark,
     divergence: &mut Divergence,
 ) -> Result<Option<(Segments, Heap)>, AllocError>
     requires front { IsReached (new_trace revision.now)
-        front.now.len front.now.segments front.now.end }
+        progress.now.front.len progress.now.front.segments progress.now.front.end }
+    requires joint { IsJoint revision.now progress.now.joint }
     requires within { old.now.index ≤ length revision.now.segments.now }
     requires place { length (trace_of (take old.now.index revision.now.segments.now)) ≡ old.now.at }
     requires mark { old.now.mark
@@ -54,13 +55,13 @@ pub fn rejoined_at(
         revision.now.end.now }
     requires distinct { IsTrue (has_distinct_numbers
         (trace_of (drop old.now.index revision.now.segments.now))) }
-    requires unused { AreUnused front.now.end
+    requires unused { AreUnused progress.now.front.end
         (trace_of (drop old.now.index revision.now.segments.now)) }
     requires old_unused { AreUnused old.now.mark
         (trace_of (drop old.now.index revision.now.segments.now)) }
     requires known { IsDivergence revision.now divergence.old }
-    ensures answer { IfOk result (λ o. IsTrue (is_some o) ↔ Agree front.now.end old.now.mark) }
-    ensures run { IfOk result (λ o. IfSome o (λ r. IsRunFrom front.now.end r.0 r.1)) }
+    ensures answer { IfOk result (λ o. IsTrue (is_some o) ↔ Agree progress.now.front.end old.now.mark) }
+    ensures run { IfOk result (λ o. IfSome o (λ r. IsRunFrom progress.now.front.end r.0 r.1)) }
     ensures trace { IfOk result (λ o. IfSome o (λ r.
         trace_of r.0 ≡ trace_of (drop old.now.index revision.now.segments.now))) }
     ensures marks { IfOk result (λ o. IfSome o (λ r. (at : ℕ) →
@@ -68,16 +69,16 @@ pub fn rejoined_at(
     ensures known { OnOk result (IsDivergence revision.now divergence.new) }
 {
     let kept = old.mark.heap(alloc)?;
-    if divergence.is_refuted(&front.end, &kept) {
+    if divergence.is_refuted(&progress.front.end, &kept) {
         return Ok(None);
     }
-    divergence.catch_up(revision, front, old.index, old.at)?;
+    divergence.catch_up(alloc, revision, progress, old.index, old.at)?;
     let rest = Rest {
         segments: revision.segments,
         from: old.index,
         end: revision.end,
     };
-    let found = rejoined(alloc, &front.end, &kept, &rest, divergence)?;
+    let found = rejoined(alloc, &progress.front.end, &kept, &rest, divergence)?;
     Ok(found)
 }
 

@@ -16,7 +16,7 @@ use Rattle.run_engine.proofs.ConvergeLemmas.{IsBeside-first, IsBeside-next, leas
 use Rattle.run_engine.proofs.replay.converge.converge.Goals.{then-at-seam+in-Some+in_ok-progress+in_ok-found+in_default-found, then-at-seam+in_default, else-at-seam}
 use Rattle.run_engine.proofs.MarksLemmas.{all_marks-stop, all_marks-rest, IsReached-length}
 use Rattle.run_engine.proofs.LeftLemmas.{left-at-stop, left-at-end}
-use Rattle.run_engine.proofs.DivergenceLemmas.{IsDivergence-none}
+use Rattle.run_engine.proofs.DivergenceLemmas.{IsDivergence-joint}
 use Rattle.run_engine.proofs.GoesOnLemmas.{GoesOn-none, GoesOn-next, GoesOn-steps}
 use Rattle.run_engine.specs.Bounds.{AgreesAt}
 use Rattle.run_engine.proofs.SteppedLemmas.{AreStepped-stop, AreStepped-end}
@@ -172,7 +172,7 @@ loop-i-init c = record {
       c.args.revision.now.holds.kept.run.full c.last_from-first.ensures.last.within c.last_from-first.ensures.last.place c.last_from-first.ensures.last.before c.requires.may.reached c.requires.may.order;
   beside = GoesOn-none (trace_of c.args.revision.now.segments.now) c.args.revision.now.ops.now.ops (all_marks c.args.revision.now.segments.now) c.args.front c.args.shelf.now c.args.meter.now c.requires.may.reached;
   joint = ap (end_from nothing_held) c.requires.begins;
-  known = IsDivergence-none c.args.revision.now c.none-divergence.result c.args.front.len c.none-divergence.ensures.within c.none-divergence.ensures.edited c.none-divergence.ensures.base c.requires.begins;
+  known = IsDivergence-joint c.args.revision.now c.none-divergence.result (record { edited = c.args.front.len; base = c.args.front.len }) c.none-divergence.ensures.within c.none-divergence.ensures.edited c.none-divergence.ensures.base (ap (end_from nothing_held) c.requires.begins);
   never_less = omega arith;
 }
 
