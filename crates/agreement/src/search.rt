@@ -26,6 +26,18 @@ pub enum Meeting {
     Alike(Remains),
 }
 
+/// Whether a trail is kept that still leads to a difference: then the heaps don't agree, and no comparison is needed.
+///
+/// Looks at no more objects than the trail has, and takes no memory.
+pub fn is_refuted(seen: &Option<Trail>, new: &Heap, old: &Heap) -> bool
+    ensures { IsTrue result → ¬ (Agree new.now old.now) }
+{
+    match seen {
+        None => false,
+        Some(trail) => refutes(trail, new, old),
+    }
+}
+
 /// As `meet_among`, of heaps of which nothing is known: all objects are suspects, unless the trail still refutes an agreement.
 pub fn meet(
     alloc: Global,
@@ -113,15 +125,6 @@ fn meet_by_search(
     match agree(alloc, new, old)? {
         Some(remains) => Ok(Meeting::Alike(remains)),
         None => Ok(Meeting::Apart),
-    }
-}
-
-fn is_refuted(seen: &Option<Trail>, new: &Heap, old: &Heap) -> bool
-    ensures { IsTrue result → ¬ (Agree new.now old.now) }
-{
-    match seen {
-        None => false,
-        Some(trail) => refutes(trail, new, old),
     }
 }
 

@@ -1,6 +1,6 @@
 -- Where a replay and the old run beside it may differ.
 use Rattle.std.proofs.Common.{◌≡◌, ℕ, ◌+◌, ◌<◌, ◌≤◌, List, ◌++◌, length, take, get_or, Bool, true, false, refl, ap, sym, subst, ◌∙◌, arith}
-use Rattle.std.specs.Prelude.{◌||◌, ◌==◌, Some}
+use Rattle.std.specs.Prelude.{◌||◌, ◌==◌}
 use Rattle.std.proofs.Math.Seq.{take-length}
 use Rattle.std.proofs.lemmas.List.{length-take}
 use Rattle.std.proofs.lemmas.List.Folds.{list_any-append}
@@ -15,11 +15,12 @@ use Rattle.run_engine.specs.SegmentView.{SegmentView}
 use Rattle.run_engine.specs.Segments.{ops_of, trace_of, AreReplayFrom, IsReached}
 use Rattle.run_engine.specs.OldRun.{old_trace, new_trace}
 use Rattle.run_engine.specs.declared.replay.divergence.Divergence.{Divergence}
+use Rattle.run_engine.specs.declared.replay.progress.Joint.{Joint}
 use Rattle.run_engine.specs.declared.replay.revision.Revision.{Revision}
-use Rattle.run_engine.specs.Divergence.{DifferWithin, IsDivergence, HasFollowed, HasCompared}
+use Rattle.run_engine.specs.Divergence.{IsJoint, DifferWithin, IsDivergence, HasFollowed, HasCompared}
 use Rattle.run_engine.proofs.ListingLemmas.{take-shorter}
 use Rattle.run_engine.proofs.SegmentLemmas.{trace_of-next}
-use Rattle.run_engine.proofs.PieceLemmas.{segment-at, mark-is}
+use Rattle.run_engine.proofs.PieceLemmas.{segment-at}
 use Rattle.run_engine.proofs.PlaceLemmas.{trace_of-front, place-within}
 
 -- the same from the other side
@@ -78,26 +79,24 @@ caught-up ops old segments edited base x index at os more all heap h reached new
     (subst (λ t. AgreeOutside all (end_from nothing_held t) (end_from nothing_held (take x ops))) (trace_of-front old index at place)
     (then.outside (end_from nothing_held (take x ops)) (outside-sym more (end_from nothing_held (take x ops)) base_state here)))
 
--- where both begin with the same operations nothing differs
-pub IsDivergence-none : (r : Revision) (d : Divergence) (at : ℕ) → ((m : State) → DifferWithin d m m) → d.edited ≡ at → d.base ≡ at → take at (new_trace r) ≡ take at (old_trace r) → IsDivergence r d
-IsDivergence-none r d at h edited base same =
-    let there : take d.edited (new_trace r) ≡ take d.base (old_trace r) =
-    ap (λ n. take n (new_trace r)) edited ∙ same ∙ sym (ap (λ n. take n (old_trace r)) base) in
-    subst (λ ops. DifferWithin d (end_from nothing_held (take d.edited (new_trace r))) (end_from nothing_held ops)) there
-    (h (end_from nothing_held (take d.edited (new_trace r))))
+-- where both stand at one heap nothing differs
+pub IsDivergence-joint : (r : Revision) (d : Divergence) (joint : Joint) → ((m : State) → DifferWithin d m m) → d.edited ≡ joint.edited → d.base ≡ joint.base → IsJoint r joint → IsDivergence r d
+IsDivergence-joint r d joint h edited base same =
+    let there : end_from nothing_held (take d.edited (new_trace r)) ≡ end_from nothing_held (take d.base (old_trace r)) =
+    ap (λ n. end_from nothing_held (take n (new_trace r))) edited ∙ same ∙ sym (ap (λ n. end_from nothing_held (take n (old_trace r))) base) in
+    subst (DifferWithin d (end_from nothing_held (take d.edited (new_trace r)))) there (h (end_from nothing_held (take d.edited (new_trace r))))
 
 -- the heaps where both stand
 pub record StandAt (r : Revision) (d : Divergence) (heap mark : State) : Type 0 where
   pub heap_is : heap ≡ end_from nothing_held (take d.edited (new_trace r))
   pub mark_is : mark ≡ end_from nothing_held (take d.base (old_trace r))
 
--- so it is behind the front, and at the checkpoint of the segment i
-pub stand-there : (r : Revision) (d : Divergence) (x : ℕ) (segments : List SegmentView) (heap mark : State) (i at : ℕ) (s : SegmentView) → IsReached (new_trace r) x segments heap
-    → length (trace_of (take i r.segments.now)) ≡ at → i < length r.segments.now → s ≡ get_or r.segments.now i s → Some mark ≡ s.mark → d.edited ≡ x → d.base ≡ at → StandAt r d heap mark
-stand-there r d x segments heap mark i at s reached place lt is marked edited base = record {
+-- so it is behind the front, and at an old checkpoint
+pub stand-there : (r : Revision) (d : Divergence) (x at : ℕ) (segments : List SegmentView) (heap mark : State) → IsReached (new_trace r) x segments heap
+    → mark ≡ end_from nothing_held (take at (old_trace r)) → d.edited ≡ x → d.base ≡ at → StandAt r d heap mark
+stand-there r d x at segments heap mark reached is edited base = record {
   heap_is = reached.state ∙ ap (λ n. end_from nothing_held (take n (new_trace r))) (sym edited);
-  mark_is = mark-is r.segments.now i s mark r.holds.kept.run.replay lt is marked
-      ∙ ap (end_from nothing_held) (trace_of-front r.segments.now i at place ∙ ap (λ n. take n (old_trace r)) (sym base));
+  mark_is = is ∙ ap (λ n. end_from nothing_held (take n (old_trace r))) (sym base);
 }
 
 pub differ-here : (r : Revision) (d : Divergence) (heap mark : State) → StandAt r d heap mark → IsDivergence r d → DifferWithin d heap mark

@@ -1,12 +1,21 @@
 -- Operations of an edited trace that come from a stretch of the old one.
-use Rattle.std.proofs.Common.{◌≡◌, ℕ, ◌+◌, ◌-◌, ◌≤◌, List, length, take, drop, refl, ap, sym, ◌∙◌, arith, length-append}
-use Rattle.std.specs.Prelude.{slice_range}
+use Rattle.std.proofs.Common.{◌≡◌, ℕ, ◌+◌, ◌-◌, ◌<◌, ◌≤◌, List, ◌++◌, length, take, drop, get_or, refl, ap, sym, ◌∙◌, arith, length-append}
+use Rattle.std.specs.Prelude.{slice_range, Some}
+use Rattle.std.proofs.Math.Seq.{take-add}
 use Rattle.std.proofs.lemmas.List.{take_at}
 use Rattle.trace_types.specs.Operation.{Operation}
+use Rattle.ownership_model.specs.State.{State, nothing_held}
+use Rattle.ownership_model.specs.Step.{end_from}
+use Rattle.run_engine.specs.declared.replay.progress.Joint.{Joint}
+use Rattle.run_engine.specs.declared.replay.revision.Revision.{Revision}
 use Rattle.run_engine.specs.SegmentView.{SegmentView}
+use Rattle.run_engine.specs.OldRun.{old_trace, new_trace}
+use Rattle.run_engine.specs.Divergence.{IsJoint}
 use Rattle.run_engine.specs.Segments.{trace_of}
 use Rattle.run_engine.specs.HeadAndTail.{AreAlike}
-use Rattle.run_engine.proofs.PlaceLemmas.{trace_of-parted, trace_of-back}
+use Rattle.run_engine.proofs.SegmentLemmas.{trace_of-append}
+use Rattle.run_engine.proofs.PieceLemmas.{mark-is}
+use Rattle.run_engine.proofs.PlaceLemmas.{trace_of-parted, trace_of-front, trace_of-back}
 use Rattle.run_engine.proofs.ListingLemmas.{take-shorter}
 use Rattle.run_engine.proofs.HeadAndTailLemmas.{alike-part}
 
@@ -29,3 +38,22 @@ stretch-ops old ops i n from here len at to h place few short =
     sym (take_at s (trace_of (drop n (drop i old))) (length s) refl) ∙ ap (take (length s)) (trace_of-parted (drop i old) n ∙ trace_of-back old i (from + (at - here)) place)
     ∙ alike-part (trace_of old) ops at from here len (at - here) (length s) h (omega arith) ∙ ap (λ m. take (length s) (drop m ops)) there
     ∙ sym (take-shorter (length s) (to - at) (drop at ops) short)
+
+-- where the old run stands behind a stretch
+pub stretch-behind : (old stretch : List SegmentView) (i j at len : ℕ) → i ≤ j → stretch ≡ slice_range old i j → length (trace_of (take i old)) ≡ at → len ≡ length (trace_of stretch)
+    → length (trace_of (take j old)) ≡ at + len
+stretch-behind old stretch i j at len order is place long =
+    let n : j ≡ i + (j - i) = omega arith in
+    ap (λ m. length (trace_of (take m old))) n
+    ∙ ap (λ ss. length (trace_of ss)) (take-add i (j - i) old ∙ ap (λ ss. take i old ++ ss) (sym is))
+    ∙ ap length (trace_of-append (take i old) stretch)
+    ∙ length-append (trace_of (take i old)) (trace_of stretch)
+    ∙ ap (λ m. m + length (trace_of stretch)) place ∙ ap (λ m. at + m) (sym long)
+
+-- where both replays have one heap, it is that of the old checkpoint there
+pub joint-mark : (r : Revision) (joint : Joint) (i at base : ℕ) (s : SegmentView) (heap mark : State) → IsJoint r joint → (joint.edited ≡ at) × (joint.base ≡ base) → heap ≡ end_from nothing_held (take at (new_trace r))
+    → length (trace_of (take i r.segments.now)) ≡ base → i < length r.segments.now → s ≡ get_or r.segments.now i s → Some mark ≡ s.mark → mark ≡ heap
+joint-mark r joint i at base s heap mark same there is place lt segment marked =
+    mark-is r.segments.now i s mark r.holds.kept.run.replay lt segment marked
+    ∙ ap (end_from nothing_held) (trace_of-front r.segments.now i base place ∙ ap (λ n. take n (old_trace r)) (sym there.1))
+    ∙ sym same ∙ ap (λ n. end_from nothing_held (take n (new_trace r))) there.0 ∙ sym is

@@ -4,6 +4,7 @@ pub mod converge;
 pub mod divergence;
 pub mod loading;
 pub mod piece;
+pub mod progress;
 pub mod rejoin;
 pub mod restart;
 pub mod revision;

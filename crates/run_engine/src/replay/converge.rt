@@ -11,11 +11,13 @@ ghost use Rattle.run_engine.specs.Onward.{AreMarksLeft};
 ghost use Rattle.run_engine.specs.Memo.{IsSearched};
 ghost use Rattle.run_engine.specs.Steps.{AreTaken, AreStepped};
 ghost use Rattle.run_engine.specs.GoesOn.{MayGoOn, GoesOnBeside};
+ghost use Rattle.run_engine.specs.Divergence.{IsJoint};
 
 use crate::replay::ahead::go_ahead;
 use crate::replay::divergence::Divergence;
 use crate::replay::piece::{Piece, STRIDE, found, joined, stepped};
-use crate::replay::rejoin::{Rest, rejoined};
+use crate::replay::progress::{Joint, Progress};
+use crate::replay::rejoin::{OldMark, rejoined_at};
 use crate::replay::revision::Revision;
 use crate::replay::stretch::{may_begin, old_stretch};
 use crate::replay::touching::touch_at;
@@ -40,41 +42,48 @@ struct Leg {
 }
 
 // What a replay goes on with: a chunk that the shelf has of the operations up to the next cut, an old stretch, or else those
-// operations, which are stepped.
+// operations, which are stepped; and the last place that is known then where the replay has the old run's heap.
 fn next_piece(
     alloc: Global,
     revision: &Revision,
-    front: &Piece,
+    progress: &Progress,
     to: usize,
     shelf: &mut MarkShelf,
     meter: &mut Meter,
-) -> Result<Piece, AllocError>
-    requires may { MayGoOn (new_trace revision.now) front.now to }
-    requires some { front.now.len < to }
+) -> Result<(Piece, Joint), AllocError>
+    requires may { MayGoOn (new_trace revision.now) progress.now.front to }
+    requires some { progress.now.front.len < to }
+    requires joint { IsJoint revision.now progress.now.joint }
     ensures piece { IfOk result (λ p.
-        IsPiece front.now.end (slice_range (new_trace revision.now) front.now.len to)
-        p.segments p.end p.len) }
-    ensures gap { IfOk result (λ p. IsGap (old_marks revision.now) p.len) }
-    ensures steps { IfOk result (λ p. meter.new ≤ meter.old + p.len) }
+        IsPiece progress.now.front.end
+        (slice_range (new_trace revision.now) progress.now.front.len to)
+        p.0.segments p.0.end p.0.len) }
+    ensures joint { IfOk result (λ p. IsJoint revision.now p.1) }
+    ensures gap { IfOk result (λ p. IsGap (old_marks revision.now) p.0.len) }
+    ensures steps { IfOk result (λ p. meter.new ≤ meter.old + p.0.len) }
     ensures taken { IfOk result (λ p.
-        AreTaken (old_trace revision.now) (old_marks revision.now) shelf.old.chunks front.now.end
-        (slice_range (new_trace revision.now) front.now.len to) p.len meter.old meter.new) }
+        AreTaken (old_trace revision.now) (old_marks revision.now) shelf.old.chunks
+        progress.now.front.end (slice_range (new_trace revision.now) progress.now.front.len to)
+        p.0.len meter.old meter.new) }
     ensures searched { IsSearched shelf.old shelf.new }
     ensures never_less { meter.old ≤ meter.new }
-    ensures rise { meter.new + front.now.len ≤ meter.old + to }
+    ensures rise { meter.new + progress.now.front.len ≤ meter.old + to }
 {
+    let front = &progress.front;
+    let joint = progress.joint;
     let len = (to - front.len).min(STRIDE);
     let next = revision.ops.copies(alloc, front.len, front.len + len)?;
     let known = found(alloc, &front.end, &next, shelf)?;
     if let Some(piece) = known {
-        return Ok(piece);
+        return Ok((piece, joint));
     }
-    let stretch = old_stretch(alloc, revision, &front.end, front.len, to)?;
-    if let Some(piece) = stretch {
-        return Ok(piece);
+    let stretch = old_stretch(alloc, revision, &front.end, front.len, to, joint)?;
+    if let Some((piece, base)) = stretch {
+        let edited = front.len + piece.len;
+        return Ok((piece, Joint { edited, base }));
     }
     let piece = stepped(alloc, &front.end, next, meter)?;
-    Ok(piece)
+    Ok((piece, joint))
 }
 
 // The next cut from a position on where an old stretch may begin: one where an old checkpoint stood. Where none does before the leg is
@@ -101,52 +110,64 @@ fn next_start(revision: &Revision, at: usize, leg: Leg) -> usize
 fn serve(
     alloc: Global,
     revision: &Revision,
-    front: Piece,
+    progress: Progress,
     leg: Leg,
     shelf: &mut MarkShelf,
     meter: &mut Meter,
-) -> Result<Piece, AllocError>
-    requires may { MayGoOn (new_trace revision.now) front leg.to }
-    ensures beside { IfOk result (λ f.
-        GoesOnBeside revision.now front f shelf.old shelf.new meter.old meter.new) }
-    ensures order { IfOk result (λ f. f.len ≤ leg.to) }
-    ensures steps { IfOk result (λ f. meter.new + front.len ≤ meter.old + f.len) }
+) -> Result<Progress, AllocError>
+    requires may { MayGoOn (new_trace revision.now) progress.front leg.to }
+    requires joint { IsJoint revision.now progress.joint }
+    ensures beside { IfOk result (λ p.
+        GoesOnBeside revision.now progress.front p.front shelf.old shelf.new
+        meter.old meter.new) }
+    ensures joint { IfOk result (λ p. IsJoint revision.now p.joint) }
+    ensures order { IfOk result (λ p. p.front.len ≤ leg.to) }
+    ensures steps { IfOk result
+        (λ p. meter.new + progress.front.len ≤ meter.old + p.front.len) }
     ensures never_less { meter.old ≤ meter.new }
-    ensures rise { meter.new + front.len ≤ meter.old + leg.to }
+    ensures rise { meter.new + progress.front.len ≤ meter.old + leg.to }
 {
-    let mut front = front;
-    while front.len < leg.open.min(leg.to) {
-        let next = next_start(revision, front.len, leg);
-        if front.len < next {
-            front = go_ahead(alloc, revision.ops, front, next, shelf, meter)?;
+    let mut progress = progress;
+    while progress.front.len < leg.open.min(leg.to) {
+        let at = progress.front.len;
+        let next = next_start(revision, at, leg);
+        if at < next {
+            let joint = progress.joint;
+            let front = go_ahead(alloc, revision.ops, progress.front, next, shelf, meter)?;
+            progress = Progress { front, joint };
         } else {
-            touch_at(revision.ops, front.len, shelf, &mut front.gone)?;
-            let piece = next_piece(alloc, revision, &front, leg.to, shelf, meter)?;
-            front = joined(alloc, front, piece)?;
+            touch_at(revision.ops, at, shelf, &mut progress.front.gone)?;
+            let (piece, joint) = next_piece(alloc, revision, &progress, leg.to, shelf, meter)?;
+            let front = joined(alloc, progress.front, piece)?;
+            progress = Progress { front, joint };
         }
     }
-    Ok(front)
+    Ok(progress)
 }
 
 // Goes on with the replay to the end of the leg.
 fn advance(
     alloc: Global,
     revision: &Revision,
-    front: Piece,
+    progress: Progress,
     leg: Leg,
     shelf: &mut MarkShelf,
     meter: &mut Meter,
-) -> Result<Piece, AllocError>
-    requires may { MayGoOn (new_trace revision.now) front leg.to }
-    ensures beside { IfOk result (λ f.
-        GoesOnBeside revision.now front f shelf.old shelf.new meter.old meter.new) }
-    ensures there { IfOk result (λ f. f.len ≡ leg.to) }
+) -> Result<Progress, AllocError>
+    requires may { MayGoOn (new_trace revision.now) progress.front leg.to }
+    requires joint { IsJoint revision.now progress.joint }
+    ensures beside { IfOk result (λ p.
+        GoesOnBeside revision.now progress.front p.front shelf.old shelf.new
+        meter.old meter.new) }
+    ensures joint { IfOk result (λ p. IsJoint revision.now p.joint) }
+    ensures there { IfOk result (λ p. p.front.len ≡ leg.to) }
     ensures never_less { meter.old ≤ meter.new }
-    ensures rise { meter.new + front.len ≤ meter.old + leg.to }
+    ensures rise { meter.new + progress.front.len ≤ meter.old + leg.to }
 {
-    let front = serve(alloc, revision, front, leg, shelf, meter)?;
-    let front = go_ahead(alloc, revision.ops, front, leg.to, shelf, meter)?;
-    Ok(front)
+    let progress = serve(alloc, revision, progress, leg, shelf, meter)?;
+    let joint = progress.joint;
+    let front = go_ahead(alloc, revision.ops, progress.front, leg.to, shelf, meter)?;
+    Ok(Progress { front, joint })
 }
 
 // The segments of the front, and then others.
@@ -201,9 +222,13 @@ pub fn converge(
     ensures never_less { meter.old ≤ meter.new }
 {
     let old = revision.segments;
-    let mut front = front;
+    let joint = Joint {
+        edited: front.len,
+        base: front.len,
+    };
+    let mut progress = Progress { front, joint };
     let (first, mut at) = old.last_from(seam.old);
-    let mut divergence = Divergence::none(alloc, front.len);
+    let mut divergence = Divergence::none(alloc, joint);
     for i in first..old.len() {
         let segment = old.at(i);
         if at >= seam.old {
@@ -212,15 +237,11 @@ pub fn converge(
                     to: at - seam.old + seam.new,
                     open: seam.new,
                 };
-                front = advance(alloc, revision, front, leg, shelf, meter)?;
-                divergence.catch_up(revision, &front, i, at)?;
-                let rest = Rest {
-                    segments: old,
-                    from: i,
-                    end: revision.end,
-                };
-                let found = rejoined(alloc, &front.end, &mark, &rest, &mut divergence)?;
+                progress = advance(alloc, revision, progress, leg, shelf, meter)?;
+                let place = OldMark { index: i, at, mark };
+                let found = rejoined_at(alloc, revision, &progress, &place, &mut divergence)?;
                 if let Some((rest, end)) = found {
+                    let mut front = progress.front;
                     touch_at(revision.ops, front.len, shelf, &mut front.gone)?;
                     let len = revision.ops.len();
                     return Ok(spliced(alloc, front, rest, end, len)?);
@@ -233,6 +254,6 @@ pub fn converge(
         to: revision.ops.len(),
         open: seam.new,
     };
-    front = advance(alloc, revision, front, leg, shelf, meter)?;
-    Ok(front)
+    let progress = advance(alloc, revision, progress, leg, shelf, meter)?;
+    Ok(progress.front)
 }

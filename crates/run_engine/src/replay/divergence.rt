@@ -1,15 +1,17 @@
 //! Where a replay and the old run beside it may differ.
 ghost use Rattle.std.specs.Prelude.{◌≡◌, ◌≤◌, IfOk, OnOk, IsTrue, length, take};
 ghost use Rattle.ownership_model.specs.State.{State, nothing_held};
+ghost use Rattle.agreement.specs.Agreement.{Agree};
 ghost use Rattle.agreement.specs.Meeting.{Meets};
 ghost use Rattle.run_engine.specs.OldRun.{new_trace};
 ghost use Rattle.run_engine.specs.Segments.{trace_of, AreReplayFrom, IsReached};
-ghost use Rattle.run_engine.specs.Divergence.{DifferWithin, IsDivergence, HasFollowed, HasCompared};
+ghost use Rattle.run_engine.specs.Divergence.{IsJoint, DifferWithin, IsDivergence, HasFollowed, HasCompared};
+ghost use Rattle.run_engine.specs.declared.replay.revision.Revision.{Revision};
 
-use crate::replay::piece::Piece;
+use crate::replay::progress::{Joint, Progress};
 use crate::replay::revision::Revision;
 use crate::segments::blocks::Segments;
-use agreement::{Meeting, Suspects, Trail, meet, meet_among};
+use agreement::{Meeting, Suspects, Trail, is_refuted, meet, meet_among};
 use object_heap::Heap;
 use std::alloc::{AllocError, Global};
 
@@ -26,38 +28,56 @@ pub struct Divergence {
 }
 
 impl Divergence {
-    /// Both stand behind as many operations, which are the same: nothing differs.
-    pub fn none(alloc: Global, at: usize) -> Self
+    /// Both stand where they have one heap: nothing differs.
+    pub fn none(alloc: Global, joint: Joint) -> Self
         ensures within { (m : State) → DifferWithin result m m }
-        ensures edited { result.edited ≡ at }
-        ensures base { result.base ≡ at }
+        ensures edited { result.edited ≡ joint.edited }
+        ensures base { result.base ≡ joint.base }
     {
         Divergence {
             suspects: Some(Suspects::none(alloc)),
-            edited: at,
-            base: at,
+            edited: joint.edited,
+            base: joint.base,
             trail: None,
         }
     }
 
+    // Goes on to where both are known to have one heap, if that is further on: what was passed up to there needs no look.
+    fn begin_anew(&mut self, alloc: Global, joint: Joint)
+        ensures known { (r : Revision) → IsDivergence r self.old → IsJoint r joint →
+            IsDivergence r self.new }
+        ensures no_earlier { joint.edited ≤ self.new.edited }
+    {
+        if joint.edited <= self.edited {
+            return;
+        }
+        self.suspects = Some(Suspects::none(alloc));
+        self.edited = joint.edited;
+        self.base = joint.base;
+    }
+
     /// Goes on to the end of the front, and in the old run to where the segment at an index begins: the objects that outcomes on the
-    /// way tell of join the suspects.
+    /// way tell of join the suspects. The way begins where both had one heap last, or where it ended before, if that is further on.
     pub fn catch_up(
         &mut self,
+        alloc: Global,
         revision: &Revision,
-        front: &Piece,
+        progress: &Progress,
         index: usize,
         at: usize,
     ) -> Result<(), AllocError>
         requires known { IsDivergence revision.now self.old }
+        requires joint { IsJoint revision.now progress.now.joint }
         requires front { IsReached (new_trace revision.now)
-            front.now.len front.now.segments front.now.end }
+            progress.now.front.len progress.now.front.segments progress.now.front.end }
         requires within { index ≤ length revision.now.segments.now }
         requires place { length (trace_of (take index revision.now.segments.now)) ≡ at }
         ensures known { OnOk result (IsDivergence revision.now self.new) }
-        ensures edited { OnOk result (self.new.edited ≡ front.now.len) }
+        ensures edited { OnOk result (self.new.edited ≡ progress.now.front.len) }
         ensures base { OnOk result (self.new.base ≡ at) }
     {
+        self.begin_anew(alloc, progress.joint);
+        let front = &progress.front;
         if let Some(suspects) = &mut self.suspects {
             let new = &front.segments;
             let old = revision.segments;
@@ -70,6 +90,13 @@ impl Divergence {
         self.edited = front.len;
         self.base = at;
         Ok(())
+    }
+
+    /// Whether the trail to a difference that was found still leads to one: then the heaps don't agree, wherever else they differ.
+    pub fn is_refuted(&self, new: &Heap, old: &Heap) -> bool
+        ensures { IsTrue result → ¬ (Agree new.now old.now) }
+    {
+        is_refuted(&self.trail, new, old)
     }
 
     /// Compares a heap with an old one, by the suspects where those are known.

@@ -1,13 +1,16 @@
 //! What an old run becomes behind a checkpoint, where a replay comes together with it.
-ghost use Rattle.std.specs.Prelude.{◌≡◌, ◌↔◌, ◌≤◌, ℕ, length, is_some, IfOk, OnOk, IfSome, IsTrue};
+ghost use Rattle.std.specs.Prelude.{◌≡◌, ◌↔◌, ◌≤◌, ℕ, length, take, drop, is_some, IfOk, OnOk, IfSome, IsTrue};
 ghost use Rattle.trace_types.specs.Trace.{has_distinct_numbers};
-ghost use Rattle.ownership_model.specs.Step.{AreUnused};
+ghost use Rattle.ownership_model.specs.State.{nothing_held};
+ghost use Rattle.ownership_model.specs.Step.{end_from, AreUnused};
 ghost use Rattle.agreement.specs.Agreement.{Agree};
-ghost use Rattle.run_engine.specs.Divergence.{DifferWithin, HasCompared};
-ghost use Rattle.run_engine.specs.OldRun.{rest_of};
-ghost use Rattle.run_engine.specs.Segments.{trace_of, marks_from, IsRunFrom};
+ghost use Rattle.run_engine.specs.Divergence.{IsJoint, DifferWithin, IsDivergence, HasCompared};
+ghost use Rattle.run_engine.specs.OldRun.{old_trace, new_trace, rest_of};
+ghost use Rattle.run_engine.specs.Segments.{trace_of, marks_from, IsReached, IsRunFrom};
 
 use crate::replay::divergence::Divergence;
+use crate::replay::progress::Progress;
+use crate::replay::revision::Revision;
 use crate::segments::blocks::Segments;
 use agreement::{Checkpoint, Meeting, patch};
 use object_heap::Heap;
@@ -21,34 +24,91 @@ pub struct Rest<'a> {
     pub end: &'a Heap,
 }
 
-/// The rest of an old run and its end, as they follow the heap of a replay, where it agrees with the checkpoint that the rest begins with.
+/// An old checkpoint: that of the segment at an index, which begins behind so many operations.
+#[derive(Drop)]
+pub struct OldMark<'a> {
+    pub index: usize,
+    pub at: usize,
+    pub mark: Checkpoint<'a>,
+}
+
+/// The rest of the old run from one of its checkpoints on, and its end, as they follow the front of a replay, where its heap agrees with
+/// the checkpoint.
+///
+/// While the trail to a difference refutes that they agree, no outcome is gone over: the divergence stays where it stands. Else it catches
+/// up over all that was passed since, and they are compared.
+pub fn rejoined_at(
+    alloc: Global,
+    revision: &Revision,
+    progress: &Progress,
+    old: &OldMark,
+    divergence: &mut Divergence,
+) -> Result<Option<(Segments, Heap)>, AllocError>
+    requires front { IsReached (new_trace revision.now)
+        progress.now.front.len progress.now.front.segments progress.now.front.end }
+    requires joint { IsJoint revision.now progress.now.joint }
+    requires within { old.now.index ≤ length revision.now.segments.now }
+    requires place { length (trace_of (take old.now.index revision.now.segments.now)) ≡ old.now.at }
+    requires mark { old.now.mark
+        ≡ end_from nothing_held (take old.now.at (old_trace revision.now)) }
+    requires run { IsRunFrom old.now.mark (drop old.now.index revision.now.segments.now)
+        revision.now.end.now }
+    requires distinct { IsTrue (has_distinct_numbers
+        (trace_of (drop old.now.index revision.now.segments.now))) }
+    requires unused { AreUnused progress.now.front.end
+        (trace_of (drop old.now.index revision.now.segments.now)) }
+    requires old_unused { AreUnused old.now.mark
+        (trace_of (drop old.now.index revision.now.segments.now)) }
+    requires known { IsDivergence revision.now divergence.old }
+    ensures answer { IfOk result (λ o. IsTrue (is_some o) ↔ Agree progress.now.front.end old.now.mark) }
+    ensures run { IfOk result (λ o. IfSome o (λ r. IsRunFrom progress.now.front.end r.0 r.1)) }
+    ensures trace { IfOk result (λ o. IfSome o (λ r.
+        trace_of r.0 ≡ trace_of (drop old.now.index revision.now.segments.now))) }
+    ensures marks { IfOk result (λ o. IfSome o (λ r. (at : ℕ) →
+        marks_from at r.0 ≡ marks_from at (drop old.now.index revision.now.segments.now))) }
+    ensures known { OnOk result (IsDivergence revision.now divergence.new) }
+{
+    let kept = old.mark.heap(alloc)?;
+    if divergence.is_refuted(&progress.front.end, &kept) {
+        return Ok(None);
+    }
+    divergence.catch_up(alloc, revision, progress, old.index, old.at)?;
+    let rest = Rest {
+        segments: revision.segments,
+        from: old.index,
+        end: revision.end,
+    };
+    let found = rejoined(alloc, &progress.front.end, &kept, &rest, divergence)?;
+    Ok(found)
+}
+
+/// The rest of an old run and its end, as they follow the heap of a replay, where it agrees with the old heap that the rest begins with.
 /// The outcomes are those of the old run, and shared.
 ///
 /// The divergence tells where the two heaps may differ, if that is known.
 pub fn rejoined(
     alloc: Global,
     heap: &Heap,
-    mark: &Checkpoint,
+    kept: &Heap,
     rest: &Rest,
     divergence: &mut Divergence,
 ) -> Result<Option<(Segments, Heap)>, AllocError>
     requires within { rest.now.from ≤ length rest.now.segments.now }
-    requires run { IsRunFrom mark.now (rest_of rest.now) rest.now.end.now }
+    requires run { IsRunFrom kept.now (rest_of rest.now) rest.now.end.now }
     requires distinct { IsTrue (has_distinct_numbers (trace_of (rest_of rest.now))) }
     requires unused { AreUnused heap.now (trace_of (rest_of rest.now)) }
-    requires old_unused { AreUnused mark.now (trace_of (rest_of rest.now)) }
-    requires known { DifferWithin divergence.old heap.now mark.now }
-    ensures answer { IfOk result (λ o. IsTrue (is_some o) ↔ Agree heap.now mark.now) }
+    requires old_unused { AreUnused kept.now (trace_of (rest_of rest.now)) }
+    requires known { DifferWithin divergence.old heap.now kept.now }
+    ensures answer { IfOk result (λ o. IsTrue (is_some o) ↔ Agree heap.now kept.now) }
     ensures run { IfOk result (λ o. IfSome o (λ r. IsRunFrom heap.now r.0 r.1)) }
     ensures trace { IfOk result
         (λ o. IfSome o (λ r. trace_of r.0 ≡ trace_of (rest_of rest.now))) }
     ensures marks { IfOk result
         (λ o. IfSome o (λ r. (at : ℕ) → marks_from at r.0 ≡ marks_from at (rest_of rest.now))) }
-    ensures known { OnOk result (HasCompared divergence.old divergence.new heap.now mark.now) }
+    ensures known { OnOk result (HasCompared divergence.old divergence.new heap.now kept.now) }
 {
     let old = rest.segments;
-    let kept = mark.heap(alloc)?;
-    match divergence.meet(alloc, heap, &kept)? {
+    match divergence.meet(alloc, heap, kept)? {
         Meeting::Apart => Ok(None),
         Meeting::Same => {
             let behind = old.stretch(alloc, rest.from, old.len())?;

@@ -1,44 +1,56 @@
 //! Stretches of an old run that serve again.
-ghost use Rattle.std.specs.Prelude.{◌≡◌, ℕ, [], ◌+◌, ◌-◌, ◌<◌, ◌≤◌, IfOk, IfSome, length, take, drop, slice_range};
+ghost use Rattle.std.specs.Prelude.{◌≡◌, ℕ, [], ◌+◌, ◌-◌, ◌<◌, ◌≤◌, IfOk, IfSome, IsTrue, length, take, drop, slice_range};
 ghost use Rattle.ownership_model.specs.State.{nothing_held};
 ghost use Rattle.ownership_model.specs.Step.{end_from};
 ghost use Rattle.run_engine.specs.Segments.{trace_of, marks_from, BeginsMarked, IsRun, IsPiece};
 ghost use Rattle.run_engine.specs.OldRun.{old_trace, old_marks, new_trace};
+ghost use Rattle.run_engine.specs.Divergence.{IsJoint};
 ghost use Rattle.run_engine.specs.NewMarks.{AreNeighbours};
 ghost use Rattle.run_engine.specs.Steps.{IsOldStretch};
 
 use crate::replay::piece::Piece;
+use crate::replay::progress::Joint;
 use crate::replay::revision::Revision;
 use crate::segments::blocks::Segments;
 use crate::segments::seek::segment_at;
+use agreement::Checkpoint;
 use object_heap::Heap;
 use std::alloc::{AllocError, Global};
 use std::collections::BTreeSet;
 
 /// The old stretch between neighbouring checkpoints that the operations from `at` on come from, if it begins with this heap,
-/// they are all of it, and it doesn't go past `to`.
+/// they are all of it, and it doesn't go past `to`; and how many old operations stand before its end.
+///
+/// Where the joint stands just there, the heap is that of the stretch, and no heap is compared: as it is behind another old stretch.
 pub fn old_stretch(
     alloc: Global,
     revision: &Revision,
     heap: &Heap,
     at: usize,
     to: usize,
-) -> Result<Option<Piece>, AllocError>
+    joint: Joint,
+) -> Result<Option<(Piece, usize)>, AllocError>
     requires some { at < to }
     requires within { to ≤ length (new_trace revision.now) }
-    ensures gap { IfOk result (λ o. IfSome o (λ p. AreNeighbours (old_marks revision.now) p.len)) }
+    requires heap { heap.now ≡ end_from nothing_held (take at (new_trace revision.now)) }
+    requires joint { IsJoint revision.now joint }
+    ensures gap { IfOk result
+        (λ o. IfSome o (λ p. AreNeighbours (old_marks revision.now) p.0.len)) }
     ensures stretch { IfOk result (λ o. IfSome o (λ p.
         IsOldStretch (old_trace revision.now) (old_marks revision.now) heap.now
-        (slice_range (new_trace revision.now) at to) p.len)) }
+        (slice_range (new_trace revision.now) at to) p.0.len)) }
     ensures piece { IfOk result (λ o. IfSome o (λ p.
         IsPiece heap.now (slice_range (new_trace revision.now) at to)
-        p.segments p.end p.len)) }
+        p.0.segments p.0.end p.0.len)) }
+    ensures base { IfOk result (λ o. IfSome o (λ p.
+        p.0.end ≡ end_from nothing_held (take p.1 (old_trace revision.now)))) }
 {
     let Some(alike) = revision.ops.alike(at) else {
         return Ok(None);
     };
     let before = at - alike.at;
-    let Some(i) = segment_at(revision.segments, alike.from + before) else {
+    let from = alike.from + before;
+    let Some(i) = segment_at(revision.segments, from) else {
         return Ok(None);
     };
     let old = revision.segments;
@@ -54,20 +66,38 @@ pub fn old_stretch(
     if len > to - at {
         return Ok(None);
     }
-    let kept = mark.heap(alloc)?;
-    if kept.sum() != heap.sum() || !kept.same(heap) {
+    let is_same = has_heap(alloc, &mark, heap, joint.is_at(at, from))?;
+    if !is_same {
         return Ok(None);
     }
     let Some(after) = heap_at(alloc, old, revision.end, j)? else {
         return Ok(None);
     };
-    Ok(Some(Piece {
+    let piece = Piece {
         segments,
         end: after,
         len,
         fresh: Vec::new(alloc),
         gone: BTreeSet::new(alloc),
-    }))
+    };
+    Ok(Some((piece, from + len)))
+}
+
+// Whether a checkpoint has this heap. Where that is known none is made, and none is walked.
+fn has_heap(
+    alloc: Global,
+    mark: &Checkpoint,
+    heap: &Heap,
+    is_known: bool,
+) -> Result<bool, AllocError>
+    requires { IsTrue is_known → mark.now ≡ heap.now }
+    ensures { IfOk result (λ is. IsTrue is → mark.now ≡ heap.now) }
+{
+    if is_known {
+        return Ok(true);
+    }
+    let kept = mark.heap(alloc)?;
+    Ok(kept.sum() == heap.sum() && kept.same(heap))
 }
 
 /// Whether an old checkpoint stands in front of the operation at a place, where that comes from the old run.

@@ -4,4 +4,4 @@ use Rattle.run_engine.proofs.replay.converge.advance.Goals as goal
 
 pub returns-clause-beside : goal.returns-clause-beside
 returns-clause-beside c =
-    GoesOn-next _ _ _ _ _ _ _ _ _ _ _ _ c.in_ok-front.ensures.beside (c.in_ok-front-2.ensures.goes_on (trace_of c.args.revision.now.segments.now) (all_marks c.args.revision.now.segments.now))
+    GoesOn-next _ _ _ _ _ _ _ _ _ _ _ _ c.in_ok-progress.ensures.beside (c.in_ok-front.ensures.goes_on (trace_of c.args.revision.now.segments.now) (all_marks c.args.revision.now.segments.now))

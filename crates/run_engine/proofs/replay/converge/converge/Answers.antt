@@ -13,10 +13,10 @@ use Rattle.run_engine.proofs.SegmentLemmas.{length-trace_of-next, trace_of-appen
 use Rattle.run_engine.proofs.PieceLemmas.{mark-is}
 use Rattle.run_engine.proofs.PlaceLemmas.{mark-there, place-within, trace_of-front}
 use Rattle.run_engine.proofs.ConvergeLemmas.{IsBeside-first, IsBeside-next, least-agreeing, bounded, ShareEnd-length, IsRunFrom-back, rest-shared, distinct-back, old-unused, new-unused, AgreesAt-here, AgreesAt-there, IsSpliced, IsSpliced-rest, IsSpliced-end}
-use Rattle.run_engine.proofs.replay.converge.converge.Goals.{then-at-seam+in-Some+in_ok-front+in_ok-catch_up+in_ok-found+in_default-found, then-at-seam+in_default, else-at-seam}
+use Rattle.run_engine.proofs.replay.converge.converge.Goals.{then-at-seam+in-Some+in_ok-progress+in_ok-found+in_default-found, then-at-seam+in_default, else-at-seam}
 use Rattle.run_engine.proofs.MarksLemmas.{all_marks-stop, all_marks-rest, IsReached-length}
 use Rattle.run_engine.proofs.LeftLemmas.{left-at-stop, left-at-end}
-use Rattle.run_engine.proofs.DivergenceLemmas.{StandAt, stand-there, differ-here, IsDivergence-none, IsDivergence-compared}
+use Rattle.run_engine.proofs.DivergenceLemmas.{IsDivergence-joint}
 use Rattle.run_engine.proofs.GoesOnLemmas.{GoesOn-none, GoesOn-next, GoesOn-steps}
 use Rattle.run_engine.specs.Bounds.{AgreesAt}
 use Rattle.run_engine.proofs.SteppedLemmas.{AreStepped-stop, AreStepped-end}
@@ -33,6 +33,7 @@ advance-requires c = record {
     order = c.loop-i.invariant.place.order;
     within = moved-within _ _ c.args.seam.old c.args.seam.new c.loop-i.at c.requires.shared (place-within c.args.revision.now.segments.now c.loop-i.i c.loop-i.at c.loop-i.invariant.place.place) c.if-at-seam.true;
   };
+  joint = c.loop-i.invariant.joint;
 }
 
 pub overflow_add-leg : goal.overflow_add-leg
@@ -47,8 +48,8 @@ overflow_add-at c =
     let le : length (trace_of (take (c.loop-i.i + 1) c.args.revision.now.segments.now)) ≤ length (trace_of c.args.revision.now.segments.now) = place-within c.args.revision.now.segments.now (c.loop-i.i + 1) _ refl in
     omega (arith, c.args.revision.now.holds.kept.trace.few, c.loop-i.invariant.place.place)
 
-pub returns-in_err-front-clause-bound : goal.returns-in_err-front-clause-bound
-returns-in_err-front-clause-bound c =
+pub returns-in_err-progress-clause-bound : goal.returns-in_err-progress-clause-bound
+returns-in_err-progress-clause-bound c =
     bounded _ _ _ _ _ _ _ _ _ _ _ _ _ c.loop-i.invariant.place c.requires.shared c.if-at-seam.true (omega (arith, c.loop-i.invariant.place.rise, c.advance.ensures.rise))
 
 pub returns-in_err-found-clause-bound : goal.returns-in_err-found-clause-bound
@@ -67,61 +68,53 @@ pub returns-in-Some-found-clause-bound : goal.returns-in-Some-found-clause-bound
 returns-in-Some-found-clause-bound c =
     bounded _ _ _ _ _ _ _ _ _ _ _ _ _ c.loop-i.invariant.place c.requires.shared c.if-at-seam.true (omega (arith, c.loop-i.invariant.place.rise, c.advance.ensures.rise))
 
-pub returns-in_err-catch_up-clause-bound : goal.returns-in_err-catch_up-clause-bound
-returns-in_err-catch_up-clause-bound c =
-    bounded _ _ _ _ _ _ _ _ _ _ _ _ _ c.loop-i.invariant.place c.requires.shared c.if-at-seam.true (omega (arith, c.loop-i.invariant.place.rise, c.advance.ensures.rise))
+pub rejoined_at-requires-clause-place : goal.rejoined_at-requires-clause-place
+rejoined_at-requires-clause-place c = c.loop-i.invariant.place.place
 
-pub catch_up-requires-clause-place : goal.catch_up-requires-clause-place
-catch_up-requires-clause-place c = c.loop-i.invariant.place.place
+pub rejoined_at-requires-clause-mark : goal.rejoined_at-requires-clause-mark
+rejoined_at-requires-clause-mark c =
+    mark-is c.args.revision.now.segments.now c.loop-i.i c.at-segment.result c.in-Some.mark c.args.revision.now.holds.kept.run.replay (omega (arith, c.loop-i-test.true, c.len-i-end.ensures)) c.at-segment.ensures c.in-Some.ensures
+    ∙ ap (end_from nothing_held) (trace_of-front c.args.revision.now.segments.now c.loop-i.i c.loop-i.at c.loop-i.invariant.place.place)
 
--- the heaps that are compared stand where the divergence has caught up
-stand : (c : goal.After-divergence-in-Some-1) → StandAt c.args.revision.now c.catch_up.new.self c.in_ok-front.front.end c.in-Some.mark
-stand c = stand-there c.args.revision.now c.catch_up.new.self c.in_ok-front.front.len c.in_ok-front.front.segments c.in_ok-front.front.end c.in-Some.mark c.loop-i.i c.loop-i.at c.at-segment.result
-    c.in_ok-front.ensures.beside.reached c.loop-i.invariant.place.place (omega (arith, c.loop-i-test.true, c.len-i-end.ensures)) c.at-segment.ensures c.in-Some.ensures c.in_ok-catch_up.ensures.edited c.in_ok-catch_up.ensures.base
-
-pub rejoined-requires-clause-known : goal.rejoined-requires-clause-known
-rejoined-requires-clause-known c =
-    differ-here c.args.revision.now c.catch_up.new.self c.in_ok-front.front.end c.in-Some.mark (stand c) c.in_ok-catch_up.ensures.known
-
-pub rejoined-requires-clause-run : goal.rejoined-requires-clause-run
-rejoined-requires-clause-run c =
+pub rejoined_at-requires-clause-run : goal.rejoined_at-requires-clause-run
+rejoined_at-requires-clause-run c =
     (IsRunFrom-back c.args.revision.now.segments.now c.args.revision.now.end.now c.in-Some.mark c.loop-i.i c.at-segment.result c.args.revision.now.holds.kept.run (omega (arith, c.loop-i-test.true, c.len-i-end.ensures)) c.at-segment.ensures c.in-Some.ensures)
 
-pub rejoined-requires-clause-distinct : goal.rejoined-requires-clause-distinct
-rejoined-requires-clause-distinct c = (distinct-back c.args.revision.now.segments.now c.loop-i.i c.args.revision.now.holds.kept.trace.distinct)
+pub rejoined_at-requires-clause-distinct : goal.rejoined_at-requires-clause-distinct
+rejoined_at-requires-clause-distinct c = (distinct-back c.args.revision.now.segments.now c.loop-i.i c.args.revision.now.holds.kept.trace.distinct)
 
-pub rejoined-requires-clause-old_unused : goal.rejoined-requires-clause-old_unused
-rejoined-requires-clause-old_unused c =
+pub rejoined_at-requires-clause-old_unused : goal.rejoined_at-requires-clause-old_unused
+rejoined_at-requires-clause-old_unused c =
     (old-unused c.args.revision.now.segments.now c.args.revision.now.end.now c.in-Some.mark c.loop-i.i c.at-segment.result c.args.revision.now.holds.kept.run c.args.revision.now.holds.kept.trace.distinct (omega (arith, c.loop-i-test.true, c.len-i-end.ensures)) c.at-segment.ensures c.in-Some.ensures)
 
 -- the edited trace ends with the operations of the rest of the old run
 back : (old : List SegmentView) (ops : List Operation) (a b i at x : ℕ) → ShareEnd (trace_of old) ops a b → length (trace_of (take i old)) ≡ at → a ≤ at → x ≡ at - a + b → trace_of (drop i old) ≡ drop x ops
 back old ops a b i at x shared place behind there = rest-shared old ops a b i at shared place behind ∙ ap (λ n. drop n ops) (sym there)
 
-pub rejoined-requires-clause-unused : goal.rejoined-requires-clause-unused
-rejoined-requires-clause-unused c =
-    (new-unused c.args.revision.now.ops.now.ops c.in_ok-front.front.len c.in_ok-front.front.segments (drop c.loop-i.i c.args.revision.now.segments.now) c.in_ok-front.front.end c.in_ok-front.ensures.beside.reached c.args.revision.now.holds.trace.distinct
-    (back c.args.revision.now.segments.now c.args.revision.now.ops.now.ops c.args.seam.old c.args.seam.new c.loop-i.i c.loop-i.at c.in_ok-front.front.len c.requires.shared c.loop-i.invariant.place.place c.if-at-seam.true c.in_ok-front.ensures.there))
+pub rejoined_at-requires-clause-unused : goal.rejoined_at-requires-clause-unused
+rejoined_at-requires-clause-unused c =
+    (new-unused c.args.revision.now.ops.now.ops c.in_ok-progress.progress.front.len c.in_ok-progress.progress.front.segments (drop c.loop-i.i c.args.revision.now.segments.now) c.in_ok-progress.progress.front.end c.in_ok-progress.ensures.beside.reached c.args.revision.now.holds.trace.distinct
+    (back c.args.revision.now.segments.now c.args.revision.now.ops.now.ops c.args.seam.old c.args.seam.new c.loop-i.i c.loop-i.at c.in_ok-progress.progress.front.len c.requires.shared c.loop-i.invariant.place.place c.if-at-seam.true c.in_ok-progress.ensures.there))
 
 -- where the old run goes on it has the operations that are left
-rest-is : (c : goal.Joined-divergence-17) → trace_of c.in-Some-found.rest ≡ trace_of (drop c.loop-i.i c.args.revision.now.segments.now)
+rest-is : (c : goal.Joined-divergence-14) → trace_of c.in-Some-found.rest ≡ trace_of (drop c.loop-i.i c.args.revision.now.segments.now)
 rest-is c = rw c.in-Some-found.is at c.in_ok-found.ensures.trace
 
-spliced : (c : goal.Joined-divergence-17) → IsSpliced c.args.revision.now.ops.now.ops (c.in_ok-front.front.segments ++ c.in-Some-found.rest) c.in-Some-found.end
+spliced : (c : goal.Joined-divergence-14) → IsSpliced c.args.revision.now.ops.now.ops (c.in_ok-progress.progress.front.segments ++ c.in-Some-found.rest) c.in-Some-found.end
 spliced c =
-    let run : IsRunFrom c.in_ok-front.front.end c.in-Some-found.rest c.in-Some-found.end = rw c.in-Some-found.is at c.in_ok-found.ensures.run in
-    IsSpliced-rest c.args.revision.now.ops.now.ops c.in_ok-front.front.len c.in_ok-front.front.segments c.in-Some-found.rest c.in_ok-front.front.end c.in-Some-found.end c.in_ok-front.ensures.beside.reached
-    (rest-is c ∙ back c.args.revision.now.segments.now c.args.revision.now.ops.now.ops c.args.seam.old c.args.seam.new c.loop-i.i c.loop-i.at c.in_ok-front.front.len c.requires.shared c.loop-i.invariant.place.place c.if-at-seam.true c.in_ok-front.ensures.there)
+    let run : IsRunFrom c.in_ok-progress.progress.front.end c.in-Some-found.rest c.in-Some-found.end = rw c.in-Some-found.is at c.in_ok-found.ensures.run in
+    IsSpliced-rest c.args.revision.now.ops.now.ops c.in_ok-progress.progress.front.len c.in_ok-progress.progress.front.segments c.in-Some-found.rest c.in_ok-progress.progress.front.end c.in-Some-found.end c.in_ok-progress.ensures.beside.reached
+    (rest-is c ∙ back c.args.revision.now.segments.now c.args.revision.now.ops.now.ops c.args.seam.old c.args.seam.new c.loop-i.i c.loop-i.at c.in_ok-progress.progress.front.len c.requires.shared c.loop-i.invariant.place.place c.if-at-seam.true c.in_ok-progress.ensures.there)
     run
 
 -- the heaps agree where the replay stops
-agreed : (c : goal.Joined-divergence-17) → AgreesAt (trace_of c.args.revision.now.segments.now) c.args.revision.now.ops.now.ops c.args.seam.old c.args.seam.new c.loop-i.at
+agreed : (c : goal.Joined-divergence-14) → AgreesAt (trace_of c.args.revision.now.segments.now) c.args.revision.now.ops.now.ops c.args.seam.old c.args.seam.new c.loop-i.at
 agreed c =
     let m : c.in-Some.mark ≡ end_from nothing_held (trace_of (take c.loop-i.i c.args.revision.now.segments.now)) = mark-is c.args.revision.now.segments.now c.loop-i.i c.at-segment.result c.in-Some.mark c.args.revision.now.holds.kept.run.replay (omega (arith, c.loop-i-test.true, c.len-i-end.ensures)) c.at-segment.ensures c.in-Some.ensures in
-    let there : c.in_ok-front.front.len ≡ c.loop-i.at - c.args.seam.old + c.args.seam.new = c.in_ok-front.ensures.there in
-    let agree : Agree c.in_ok-front.front.end c.in-Some.mark = c.in_ok-found.ensures.answer.0 (ap is_some c.in-Some-found.is) in
-    AgreesAt-here (trace_of c.args.revision.now.segments.now) c.args.revision.now.ops.now.ops c.args.seam.old c.args.seam.new c.loop-i.at c.in_ok-front.front.end c.in-Some.mark
-    (c.in_ok-front.ensures.beside.reached.state ∙ ap (λ x. end_from nothing_held (take x c.args.revision.now.ops.now.ops)) there) (m ∙ ap (end_from nothing_held) (trace_of-front c.args.revision.now.segments.now c.loop-i.i c.loop-i.at c.loop-i.invariant.place.place)) agree
+    let there : c.in_ok-progress.progress.front.len ≡ c.loop-i.at - c.args.seam.old + c.args.seam.new = c.in_ok-progress.ensures.there in
+    let agree : Agree c.in_ok-progress.progress.front.end c.in-Some.mark = c.in_ok-found.ensures.answer.0 (ap is_some c.in-Some-found.is) in
+    AgreesAt-here (trace_of c.args.revision.now.segments.now) c.args.revision.now.ops.now.ops c.args.seam.old c.args.seam.new c.loop-i.at c.in_ok-progress.progress.front.end c.in-Some.mark
+    (c.in_ok-progress.ensures.beside.reached.state ∙ ap (λ x. end_from nothing_held (take x c.args.revision.now.ops.now.ops)) there) (m ∙ ap (end_from nothing_held) (trace_of-front c.args.revision.now.segments.now c.loop-i.i c.loop-i.at c.loop-i.invariant.place.place)) agree
 
 pub returns-in-Some-found-clause-run : goal.returns-in-Some-found-clause-run
 returns-in-Some-found-clause-run c = rw (c.in_ok-spliced.ensures.segments, c.in_ok-spliced.ensures.end) (spliced c).run
@@ -132,58 +125,59 @@ returns-in-Some-found-clause-trace c = rw c.in_ok-spliced.ensures.segments (spli
 pub returns-in-Some-found-clause-marks : goal.returns-in-Some-found-clause-marks
 returns-in-Some-found-clause-marks c =
     let old : List SegmentView = c.args.revision.now.segments.now in
-    let front : List SegmentView = c.in_ok-front.front.segments in
-    let there : c.in_ok-front.front.len ≡ c.loop-i.at - c.args.seam.old + c.args.seam.new = c.in_ok-front.ensures.there in
+    let front : List SegmentView = c.in_ok-progress.progress.front.segments in
+    let there : c.in_ok-progress.progress.front.len ≡ c.loop-i.at - c.args.seam.old + c.args.seam.new = c.in_ok-progress.ensures.there in
     let marks : (at : ℕ) → marks_from at c.in-Some-found.rest ≡ marks_from at (drop c.loop-i.i c.args.revision.now.segments.now) = rw c.in-Some-found.is at c.in_ok-found.ensures.marks in
     let alike : all_marks (front ++ c.in-Some-found.rest) ≡ all_marks (front ++ drop c.loop-i.i old) =
     all_marks-rest front c.in-Some-found.rest (drop c.loop-i.i old) (rest-is c) marks in
     let trace : trace_of (front ++ drop c.loop-i.i old) ≡ c.args.revision.now.ops.now.ops =
     trace_of-append front (drop c.loop-i.i old) ∙ ap (λ t. trace_of front ++ t) (sym (rest-is c)) ∙ sym (trace_of-append front c.in-Some-found.rest) ∙ (spliced c).trace in
     rw (c.in_ok-spliced.ensures.segments, c.in_ok-spliced.ensures.gone)
-    (left-at-stop c.args.revision.now.segments.now c.args.revision.now.ops.now.ops (marks_from 0 c.args.front.segments) (marks_from 0 c.in_ok-front.front.segments) _ c.args.seam.old c.args.seam.new c.loop-i.i c.loop-i.at c.args.front.len c.in_ok-front.front.len c.at-segment.result c.in-Some.mark _ _ _ _ _ _
+    (left-at-stop c.args.revision.now.segments.now c.args.revision.now.ops.now.ops (marks_from 0 c.args.front.segments) (marks_from 0 c.in_ok-progress.progress.front.segments) _ c.args.seam.old c.args.seam.new c.loop-i.i c.loop-i.at c.args.front.len c.in_ok-progress.progress.front.len c.at-segment.result c.in-Some.mark _ _ _ _ _ _
     c.args.revision.now.holds.trace.distinct (omega (arith, c.loop-i-test.true, c.len-i-end.ensures)) c.at-segment.ensures (sym c.in-Some.ensures) c.loop-i.invariant.place.place c.if-at-seam.true (agreed c) (least-agreeing _ _ _ _ _ _ _ _ _ _ _ _ c.loop-i.invariant.place) there
-    (GoesOn-next _ _ _ _ _ _ _ _ _ _ _ _ c.loop-i.invariant.beside c.in_ok-front.ensures.beside).onward c.in_ok-touch_at.ensures.answered
-    (alike ∙ all_marks-stop c.args.revision.now.segments.now c.in_ok-front.front.segments c.args.revision.now.ops.now.ops c.args.seam.old c.args.seam.new c.loop-i.i c.loop-i.at c.at-segment.result c.args.revision.now.holds.kept.run.full c.requires.shared (omega (arith, c.loop-i-test.true, c.len-i-end.ensures)) c.at-segment.ensures c.in-Some.mark (sym c.in-Some.ensures)
-    c.loop-i.invariant.place.place c.if-at-seam.true (IsReached-length _ _ _ _ c.in_ok-front.ensures.beside.reached ∙ there) trace))
+    (GoesOn-next _ _ _ _ _ _ _ _ _ _ _ _ c.loop-i.invariant.beside c.in_ok-progress.ensures.beside).onward c.in_ok-touch_at.ensures.answered
+    (alike ∙ all_marks-stop c.args.revision.now.segments.now c.in_ok-progress.progress.front.segments c.args.revision.now.ops.now.ops c.args.seam.old c.args.seam.new c.loop-i.i c.loop-i.at c.at-segment.result c.args.revision.now.holds.kept.run.full c.requires.shared (omega (arith, c.loop-i-test.true, c.len-i-end.ensures)) c.at-segment.ensures c.in-Some.mark (sym c.in-Some.ensures)
+    c.loop-i.invariant.place.place c.if-at-seam.true (IsReached-length _ _ _ _ c.in_ok-progress.ensures.beside.reached ∙ there) trace))
 
 pub returns-in-Some-found-clause-stepped : goal.returns-in-Some-found-clause-stepped
 returns-in-Some-found-clause-stepped c =
-    AreStepped-stop (trace_of c.args.revision.now.segments.now) c.args.revision.now.ops.now.ops (all_marks c.args.revision.now.segments.now) c.args.shelf.now.chunks c.args.seam.old c.args.seam.new c.args.front.len c.in_ok-front.front.len c.loop-i.at c.args.meter.now _ c.in_ok-front.ensures.there
+    AreStepped-stop (trace_of c.args.revision.now.segments.now) c.args.revision.now.ops.now.ops (all_marks c.args.revision.now.segments.now) c.args.shelf.now.chunks c.args.seam.old c.args.seam.new c.args.front.len c.in_ok-progress.progress.front.len c.loop-i.at c.args.meter.now _ c.in_ok-progress.ensures.there
     (mark-there c.args.revision.now.segments.now c.loop-i.i c.loop-i.at c.at-segment.result c.in-Some.mark (omega (arith, c.loop-i-test.true, c.len-i-end.ensures)) c.at-segment.ensures (sym c.in-Some.ensures) c.loop-i.invariant.place.place)
-    c.if-at-seam.true (agreed c) (GoesOn-steps _ _ _ _ _ _ _ _ _ (GoesOn-next _ _ _ _ _ _ _ _ _ _ _ _ c.loop-i.invariant.beside c.in_ok-front.ensures.beside))
+    c.if-at-seam.true (agreed c) (GoesOn-steps _ _ _ _ _ _ _ _ _ (GoesOn-next _ _ _ _ _ _ _ _ _ _ _ _ c.loop-i.invariant.beside c.in_ok-progress.ensures.beside))
 
 place-end : (old : List SegmentView) (i at : ℕ) → length old ≤ i → i ≤ length old → length (trace_of (take i old)) ≡ at → at ≡ length (trace_of old)
 place-end old i at ge le e = let n : i ≡ length old = omega arith in sym e ∙ ap (λ j. length (trace_of (take j old))) n ∙ ap (λ ss. length (trace_of ss)) (take-length old)
 
 pub returns-clause-marks : goal.returns-clause-marks
 returns-clause-marks c =
-    let there : c.in_ok-front-2.front.len ≡ length c.args.revision.now.ops.now.ops = c.in_ok-front-2.ensures.there ∙ c.len.ensures in
+    let there : c.in_ok-progress-2.progress.front.len ≡ length c.args.revision.now.ops.now.ops = c.in_ok-progress-2.ensures.there ∙ c.len.ensures in
     let e = place-end c.args.revision.now.segments.now c.loop-i.i c.loop-i.at (omega (arith, c.loop-i-test.false, c.len-i-end.ensures)) (omega (arith, c.loop-i.auto.i-end (omega (arith, c.last_from-first.ensures.last.within, c.len-i-end.ensures)), c.len-i-end.ensures)) c.loop-i.invariant.place.place in
-    let trace : trace_of c.in_ok-front-2.front.segments ≡ c.args.revision.now.ops.now.ops = (IsSpliced-end c.args.revision.now.ops.now.ops c.in_ok-front-2.front.len c.in_ok-front-2.front.segments c.in_ok-front-2.front.end c.in_ok-front-2.ensures.beside.reached there).trace in
-    left-at-end c.args.revision.now.segments.now c.args.revision.now.ops.now.ops (marks_from 0 c.args.front.segments) (marks_from 0 c.in_ok-front-2.front.segments) _ c.args.seam.old c.args.seam.new c.args.front.len c.in_ok-front-2.front.len c.args.shelf.now c.advance-2.new.shelf _ _
+    let trace : trace_of c.in_ok-progress-2.progress.front.segments ≡ c.args.revision.now.ops.now.ops = (IsSpliced-end c.args.revision.now.ops.now.ops c.in_ok-progress-2.progress.front.len c.in_ok-progress-2.progress.front.segments c.in_ok-progress-2.progress.front.end c.in_ok-progress-2.ensures.beside.reached there).trace in
+    left-at-end c.args.revision.now.segments.now c.args.revision.now.ops.now.ops (marks_from 0 c.args.front.segments) (marks_from 0 c.in_ok-progress-2.progress.front.segments) _ c.args.seam.old c.args.seam.new c.args.front.len c.in_ok-progress-2.progress.front.len c.args.shelf.now c.advance-2.new.shelf _ _
     c.args.revision.now.holds.trace.distinct c.requires.shared
     (λ p mark behind agrees.
     let least : c.loop-i.at ≤ p = least-agreeing _ _ _ _ _ _ _ _ _ _ _ _ c.loop-i.invariant.place p mark behind agrees in
     omega arith)
-    there (GoesOn-next _ _ _ _ _ _ _ _ _ _ _ _ c.loop-i.invariant.beside c.in_ok-front-2.ensures.beside).onward
-    (ap (λ ops. marks_from 0 c.in_ok-front-2.front.segments ++ length ops ∷ []) trace)
+    there (GoesOn-next _ _ _ _ _ _ _ _ _ _ _ _ c.loop-i.invariant.beside c.in_ok-progress-2.ensures.beside).onward
+    (ap (λ ops. marks_from 0 c.in_ok-progress-2.progress.front.segments ++ length ops ∷ []) trace)
 
 pub returns-clause-stepped : goal.returns-clause-stepped
 returns-clause-stepped c =
-    AreStepped-end (trace_of c.args.revision.now.segments.now) c.args.revision.now.ops.now.ops (all_marks c.args.revision.now.segments.now) c.args.shelf.now.chunks c.args.seam.old c.args.seam.new c.args.front.len c.in_ok-front-2.front.len c.args.meter.now _ (c.in_ok-front-2.ensures.there ∙ c.len.ensures)
-    (GoesOn-steps _ _ _ _ _ _ _ _ _ (GoesOn-next _ _ _ _ _ _ _ _ _ _ _ _ c.loop-i.invariant.beside c.in_ok-front-2.ensures.beside))
+    AreStepped-end (trace_of c.args.revision.now.segments.now) c.args.revision.now.ops.now.ops (all_marks c.args.revision.now.segments.now) c.args.shelf.now.chunks c.args.seam.old c.args.seam.new c.args.front.len c.in_ok-progress-2.progress.front.len c.args.meter.now _ (c.in_ok-progress-2.ensures.there ∙ c.len.ensures)
+    (GoesOn-steps _ _ _ _ _ _ _ _ _ (GoesOn-next _ _ _ _ _ _ _ _ _ _ _ _ c.loop-i.invariant.beside c.in_ok-progress-2.ensures.beside))
 
 pub loop-i-init : goal.loop-i-init
 loop-i-init c = record {
   place = IsBeside-first c.args.revision.now.segments.now c.args.revision.now.ops.now.ops c.args.seam.old c.args.seam.new c.args.front.len c.args.meter.now c.last_from-first.result.0 c.last_from-first.result.1 c.args.front.segments c.args.front.end
       c.args.revision.now.holds.kept.run.full c.last_from-first.ensures.last.within c.last_from-first.ensures.last.place c.last_from-first.ensures.last.before c.requires.may.reached c.requires.may.order;
   beside = GoesOn-none (trace_of c.args.revision.now.segments.now) c.args.revision.now.ops.now.ops (all_marks c.args.revision.now.segments.now) c.args.front c.args.shelf.now c.args.meter.now c.requires.may.reached;
-  known = IsDivergence-none c.args.revision.now c.none-divergence.result c.args.front.len c.none-divergence.ensures.within c.none-divergence.ensures.edited c.none-divergence.ensures.base c.requires.begins;
+  joint = ap (end_from nothing_held) c.requires.begins;
+  known = IsDivergence-joint c.args.revision.now c.none-divergence.result (record { edited = c.args.front.len; base = c.args.front.len }) c.none-divergence.ensures.within c.none-divergence.ensures.edited c.none-divergence.ensures.base (ap (end_from nothing_held) c.requires.begins);
   never_less = omega arith;
 }
 
-pub returns-in_err-front-2-clause-bound : goal.returns-in_err-front-2-clause-bound
-returns-in_err-front-2-clause-bound c =
+pub returns-in_err-progress-2-clause-bound : goal.returns-in_err-progress-2-clause-bound
+returns-in_err-progress-2-clause-bound c =
     let e = place-end c.args.revision.now.segments.now c.loop-i.i c.loop-i.at (omega (arith, c.loop-i-test.false, c.len-i-end.ensures)) (omega (arith, c.loop-i.auto.i-end (omega (arith, c.last_from-first.ensures.last.within, c.len-i-end.ensures)), c.len-i-end.ensures)) c.loop-i.invariant.place.place in
     let shared = c.requires.shared in
     let long = ShareEnd-length (trace_of c.args.revision.now.segments.now) c.args.revision.now.ops.now.ops c.args.seam.old c.args.seam.new shared in
@@ -200,44 +194,44 @@ pub loop-i-preserved : goal.loop-i-preserved
 loop-i-preserved c =
     let old = c.args.revision.now.segments.now in
     elim c.if-at-seam.branch [
-      | then-at-seam+in-Some+in_ok-front+in_ok-catch_up+in_ok-found+in_default-found w ↦
+      | then-at-seam+in-Some+in_ok-progress+in_ok-found+in_default-found w ↦
           let m : w.in-Some.mark ≡ end_from nothing_held (trace_of (take c.loop-i.i c.args.revision.now.segments.now)) = mark-is c.args.revision.now.segments.now c.loop-i.i c.at-segment.result w.in-Some.mark c.args.revision.now.holds.kept.run.replay (omega (arith, c.loop-i-test.true, c.len-i-end.ensures)) c.at-segment.ensures w.in-Some.ensures in
-          let there : w.in_ok-front.front.len ≡ c.loop-i.at - c.args.seam.old + c.args.seam.new = w.in_ok-front.ensures.there in
-          let front = w.in_ok-front.ensures.beside.reached in
+          let there : w.in_ok-progress.progress.front.len ≡ c.loop-i.at - c.args.seam.old + c.args.seam.new = w.in_ok-progress.ensures.there in
+          let front = w.in_ok-progress.ensures.beside.reached in
           let rise = w.advance.ensures.rise in
-          rw (w.front-is, w.meter-is, w.shelf-is, w.divergence-is, c.ops.ensures)
+          rw (w.progress-is, w.meter-is, w.shelf-is, w.divergence-is, c.ops.ensures)
           (record {
-            place = IsBeside-next c.args.revision.now.segments.now c.args.revision.now.ops.now.ops c.args.seam.old c.args.seam.new c.args.front.len c.args.meter.now c.loop-i.i c.loop-i.at c.loop-i.front.len c.loop-i.front.segments c.loop-i.front.end c.loop-i.meter
-                w.in_ok-front.front.len w.in_ok-front.front.segments w.in_ok-front.front.end w.advance.new.meter c.at-segment.result c.loop-i.invariant.place (omega (arith, c.loop-i-test.true, c.len-i-end.ensures)) c.at-segment.ensures front (omega arith) (omega (arith, c.loop-i.invariant.place.rise, rise))
+            place = IsBeside-next c.args.revision.now.segments.now c.args.revision.now.ops.now.ops c.args.seam.old c.args.seam.new c.args.front.len c.args.meter.now c.loop-i.i c.loop-i.at c.loop-i.progress.front.len c.loop-i.progress.front.segments c.loop-i.progress.front.end c.loop-i.meter
+                w.in_ok-progress.progress.front.len w.in_ok-progress.progress.front.segments w.in_ok-progress.progress.front.end w.advance.new.meter c.at-segment.result c.loop-i.invariant.place (omega (arith, c.loop-i-test.true, c.len-i-end.ensures)) c.at-segment.ensures front (omega arith) (omega (arith, c.loop-i.invariant.place.rise, rise))
                 (λ marked behind agrees.
-                let agree : Agree w.in_ok-front.front.end w.in-Some.mark = AgreesAt-there (trace_of c.args.revision.now.segments.now) c.args.revision.now.ops.now.ops c.args.seam.old c.args.seam.new c.loop-i.at w.in_ok-front.front.end w.in-Some.mark (front.state ∙ ap (λ x. end_from nothing_held (take x c.args.revision.now.ops.now.ops)) there) (m ∙ ap (end_from nothing_held) (trace_of-front c.args.revision.now.segments.now c.loop-i.i c.loop-i.at c.loop-i.invariant.place.place)) agrees in
+                let agree : Agree w.in_ok-progress.progress.front.end w.in-Some.mark = AgreesAt-there (trace_of c.args.revision.now.segments.now) c.args.revision.now.ops.now.ops c.args.seam.old c.args.seam.new c.loop-i.at w.in_ok-progress.progress.front.end w.in-Some.mark (front.state ∙ ap (λ x. end_from nothing_held (take x c.args.revision.now.ops.now.ops)) there) (m ∙ ap (end_from nothing_held) (trace_of-front c.args.revision.now.segments.now c.loop-i.i c.loop-i.at c.loop-i.invariant.place.place)) agrees in
                 let t : is_some w.in_ok-found.found ≡ true = w.in_ok-found.ensures.answer.1 agree in
                 let f : is_some w.in_ok-found.found ≡ false = ap is_some w.in_default-found.is in
                 cc);
-            beside = GoesOn-next _ _ _ _ _ _ _ _ _ _ _ _ c.loop-i.invariant.beside w.in_ok-front.ensures.beside;
-            known = IsDivergence-compared c.args.revision.now w.catch_up.new.self w.rejoined.new.divergence w.in_ok-front.front.end w.in-Some.mark
-                (stand-there c.args.revision.now w.catch_up.new.self w.in_ok-front.front.len w.in_ok-front.front.segments w.in_ok-front.front.end w.in-Some.mark c.loop-i.i c.loop-i.at c.at-segment.result
-                front c.loop-i.invariant.place.place (omega (arith, c.loop-i-test.true, c.len-i-end.ensures)) c.at-segment.ensures w.in-Some.ensures w.in_ok-catch_up.ensures.edited w.in_ok-catch_up.ensures.base)
-                w.in_ok-found.ensures.known;
+            beside = GoesOn-next _ _ _ _ _ _ _ _ _ _ _ _ c.loop-i.invariant.beside w.in_ok-progress.ensures.beside;
+            joint = w.in_ok-progress.ensures.joint;
+            known = w.in_ok-found.ensures.known;
             never_less = omega (arith, c.loop-i.invariant.never_less, w.advance.ensures.never_less);
           })
       | then-at-seam+in_default w ↦
-          rw (w.front-is, w.meter-is, w.shelf-is, w.divergence-is, c.ops.ensures)
+          rw (w.progress-is, w.meter-is, w.shelf-is, w.divergence-is, c.ops.ensures)
           (record {
-            place = IsBeside-next c.args.revision.now.segments.now c.args.revision.now.ops.now.ops c.args.seam.old c.args.seam.new c.args.front.len c.args.meter.now c.loop-i.i c.loop-i.at c.loop-i.front.len c.loop-i.front.segments c.loop-i.front.end c.loop-i.meter
-                c.loop-i.front.len c.loop-i.front.segments c.loop-i.front.end c.loop-i.meter c.at-segment.result c.loop-i.invariant.place (omega (arith, c.loop-i-test.true, c.len-i-end.ensures)) c.at-segment.ensures c.loop-i.invariant.place.front c.loop-i.invariant.place.order c.loop-i.invariant.place.rise
+            place = IsBeside-next c.args.revision.now.segments.now c.args.revision.now.ops.now.ops c.args.seam.old c.args.seam.new c.args.front.len c.args.meter.now c.loop-i.i c.loop-i.at c.loop-i.progress.front.len c.loop-i.progress.front.segments c.loop-i.progress.front.end c.loop-i.meter
+                c.loop-i.progress.front.len c.loop-i.progress.front.segments c.loop-i.progress.front.end c.loop-i.meter c.at-segment.result c.loop-i.invariant.place (omega (arith, c.loop-i-test.true, c.len-i-end.ensures)) c.at-segment.ensures c.loop-i.invariant.place.front c.loop-i.invariant.place.order c.loop-i.invariant.place.rise
                 (λ marked behind agrees. let f : is_some c.at-segment.result.mark ≡ false = ap is_some (sym w.in_default.ensures) in cc);
             beside = c.loop-i.invariant.beside;
+            joint = c.loop-i.invariant.joint;
             known = c.loop-i.invariant.known;
             never_less = c.loop-i.invariant.never_less;
           })
       | else-at-seam w ↦
-          rw (w.front-is, w.meter-is, w.shelf-is, w.divergence-is, c.ops.ensures)
+          rw (w.progress-is, w.meter-is, w.shelf-is, w.divergence-is, c.ops.ensures)
           (record {
-            place = IsBeside-next c.args.revision.now.segments.now c.args.revision.now.ops.now.ops c.args.seam.old c.args.seam.new c.args.front.len c.args.meter.now c.loop-i.i c.loop-i.at c.loop-i.front.len c.loop-i.front.segments c.loop-i.front.end c.loop-i.meter
-                c.loop-i.front.len c.loop-i.front.segments c.loop-i.front.end c.loop-i.meter c.at-segment.result c.loop-i.invariant.place (omega (arith, c.loop-i-test.true, c.len-i-end.ensures)) c.at-segment.ensures c.loop-i.invariant.place.front c.loop-i.invariant.place.order c.loop-i.invariant.place.rise
+            place = IsBeside-next c.args.revision.now.segments.now c.args.revision.now.ops.now.ops c.args.seam.old c.args.seam.new c.args.front.len c.args.meter.now c.loop-i.i c.loop-i.at c.loop-i.progress.front.len c.loop-i.progress.front.segments c.loop-i.progress.front.end c.loop-i.meter
+                c.loop-i.progress.front.len c.loop-i.progress.front.segments c.loop-i.progress.front.end c.loop-i.meter c.at-segment.result c.loop-i.invariant.place (omega (arith, c.loop-i-test.true, c.len-i-end.ensures)) c.at-segment.ensures c.loop-i.invariant.place.front c.loop-i.invariant.place.order c.loop-i.invariant.place.rise
                 (λ marked behind agrees. let lt : c.loop-i.at < c.args.seam.old = w.if-at-seam.false in omega arith);
             beside = c.loop-i.invariant.beside;
+            joint = c.loop-i.invariant.joint;
             known = c.loop-i.invariant.known;
             never_less = c.loop-i.invariant.never_less;
           })

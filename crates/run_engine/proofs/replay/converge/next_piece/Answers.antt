@@ -1,28 +1,28 @@
-use Rattle.std.proofs.Common.{◌≡◌, ◌+◌, ◌-◌, length, take, drop, refl, sym, subst, arith}
+use Rattle.std.proofs.Common.{◌≡◌, ◌+◌, ◌-◌, length, take, drop, refl, sym, subst, ◌∙◌, arith}
 use Rattle.std.specs.Prelude.{slice_range}
 use mathlib.Core.Logic.{inl, inr}
 use Rattle.run_engine.specs.Memo.{IsAmong}
-use Rattle.run_engine.proofs.PieceLemmas.{IsPiece-of-more, take-next, distinct-slice_range, unused-slice_range}
+use Rattle.run_engine.proofs.PieceLemmas.{IsReached-next, IsPiece-of-more, take-next, distinct-slice_range, unused-slice_range}
 use Rattle.run_engine.proofs.replay.converge.next_piece.Goals as goal
 
 pub stepped-requires-clause-distinct : goal.stepped-requires-clause-distinct
-stepped-requires-clause-distinct c = rw c.in_ok-next.ensures (distinct-slice_range c.args.revision.now.ops.now.ops c.args.front.now.len _ c.args.revision.now.holds.trace.distinct)
+stepped-requires-clause-distinct c = rw c.in_ok-next.ensures (distinct-slice_range c.args.revision.now.ops.now.ops c.args.progress.now.front.len _ c.args.revision.now.holds.trace.distinct)
 
 pub stepped-requires-clause-unused : goal.stepped-requires-clause-unused
-stepped-requires-clause-unused c = rw c.in_ok-next.ensures (unused-slice_range c.args.revision.now.ops.now.ops c.args.front.now.end c.args.front.now.len _ c.args.revision.now.holds.trace.distinct c.requires.may.reached.state)
+stepped-requires-clause-unused c = rw c.in_ok-next.ensures (unused-slice_range c.args.revision.now.ops.now.ops c.args.progress.now.front.end c.args.progress.now.front.len _ c.args.revision.now.holds.trace.distinct c.requires.may.reached.state)
 
 pub returns-in-Some-clause-taken : goal.returns-in-Some-clause-taken
 returns-in-Some-clause-taken c =
-    let there : IsAmong c.args.shelf.now.chunks c.args.front.now.end c.in_ok-next.next.items = rw (c.in-Some.is, c.deref.ensures.value) at c.in_ok-known.ensures.there in
+    let there : IsAmong c.args.shelf.now.chunks c.args.progress.now.front.end c.in_ok-next.next.items = rw (c.in-Some.is, c.deref.ensures.value) at c.in_ok-known.ensures.there in
     let whole : c.in-Some.piece.len ≡ length c.in_ok-next.next.items = rw (c.in-Some.is, c.deref.ensures.value) at c.in_ok-known.ensures.whole in
-    let first : take c.in-Some.piece.len (slice_range c.args.revision.now.ops.now.ops c.args.front.now.len c.args.to) ≡ c.in_ok-next.next.items =
-    take-next c.args.revision.now.ops.now.ops c.in_ok-next.next.items c.args.front.now.len c.min-len.result c.args.to c.in-Some.piece.len c.in_ok-next.ensures whole (omega arith) c.requires.may.within in
-    inl (inr (subst (IsAmong c.args.shelf.now.chunks c.args.front.now.end) (sym first) there), refl)
+    let first : take c.in-Some.piece.len (slice_range c.args.revision.now.ops.now.ops c.args.progress.now.front.len c.args.to) ≡ c.in_ok-next.next.items =
+    take-next c.args.revision.now.ops.now.ops c.in_ok-next.next.items c.args.progress.now.front.len c.min-len.result c.args.to c.in-Some.piece.len c.in_ok-next.ensures whole (omega arith) c.requires.may.within in
+    inl (inr (subst (IsAmong c.args.shelf.now.chunks c.args.progress.now.front.end) (sym first) there), refl)
 
 pub returns-in-Some-clause-piece : goal.returns-in-Some-clause-piece
 returns-in-Some-clause-piece c =
     let piece = rw (c.in-Some.is, c.deref.ensures.value, c.in_ok-next.ensures) at c.in_ok-known.ensures.piece in
-    IsPiece-of-more c.args.front.now.end _ (drop c.args.front.now.len c.args.revision.now.ops.now.ops) (c.args.front.now.len + c.min-len.result - c.args.front.now.len) (c.args.to - c.args.front.now.len) _ _ (omega arith) piece
+    IsPiece-of-more c.args.progress.now.front.end _ (drop c.args.progress.now.front.len c.args.revision.now.ops.now.ops) (c.args.progress.now.front.len + c.min-len.result - c.args.progress.now.front.len) (c.args.to - c.args.progress.now.front.len) _ _ (omega arith) piece
 
 pub returns-in-Some-stretch-clause-taken : goal.returns-in-Some-stretch-clause-taken
 returns-in-Some-stretch-clause-taken c = inl (inl (rw c.in-Some-stretch.is at c.in_ok-stretch.ensures.stretch), refl)
@@ -33,4 +33,11 @@ returns-clause-taken c = inr c.in_ok-piece.ensures.count
 pub returns-clause-piece : goal.returns-clause-piece
 returns-clause-piece c =
     let piece = rw c.in_ok-next.ensures at c.in_ok-piece.ensures.piece in
-    IsPiece-of-more c.args.front.now.end _ (drop c.args.front.now.len c.args.revision.now.ops.now.ops) (c.args.front.now.len + c.min-len.result - c.args.front.now.len) (c.args.to - c.args.front.now.len) _ _ (omega arith) piece
+    IsPiece-of-more c.args.progress.now.front.end _ (drop c.args.progress.now.front.len c.args.revision.now.ops.now.ops) (c.args.progress.now.front.len + c.min-len.result - c.args.progress.now.front.len) (c.args.to - c.args.progress.now.front.len) _ _ (omega arith) piece
+
+pub returns-in-Some-stretch-clause-joint : goal.returns-in-Some-stretch-clause-joint
+returns-in-Some-stretch-clause-joint c =
+    let piece = rw c.in-Some-stretch.is at c.in_ok-stretch.ensures.piece in
+    sym (IsReached-next c.args.revision.now.ops.now.ops c.args.progress.now.front.len c.args.to c.in-Some-stretch.piece.len c.args.progress.now.front.segments c.in-Some-stretch.piece.segments c.args.progress.now.front.end c.in-Some-stretch.piece.end
+    c.requires.may.reached c.requires.may.order c.requires.may.within piece).state
+    ∙ rw c.in-Some-stretch.is at c.in_ok-stretch.ensures.base

@@ -8,9 +8,10 @@ use Rattle.run_engine.proofs.SteppedLemmas.{HaveStepped-next}
 use Rattle.run_engine.proofs.GoesOnLemmas.{GoesOn-none, GoesOn-next}
 use Rattle.run_engine.proofs.replay.converge.serve.Goals as goal
 
-pub loop-front-init : goal.loop-front-init
-loop-front-init c = record {
-  beside = GoesOn-none (trace_of c.args.revision.now.segments.now) c.args.revision.now.ops.now.ops (all_marks c.args.revision.now.segments.now) c.args.front c.args.shelf.now c.args.meter.now c.requires.may.reached;
+pub loop-progress-init : goal.loop-progress-init
+loop-progress-init c = record {
+  beside = GoesOn-none (trace_of c.args.revision.now.segments.now) c.args.revision.now.ops.now.ops (all_marks c.args.revision.now.segments.now) c.args.progress.front c.args.shelf.now c.args.meter.now c.requires.may.reached;
+  joint = c.requires.joint;
   order = c.requires.may.order;
   never_less = omega arith;
   steps = omega arith;
@@ -19,44 +20,46 @@ loop-front-init c = record {
 pub joined-requires : goal.joined-requires
 joined-requires c =
     let piece = c.in_ok-piece.ensures.piece in
-    let long : c.in_ok-piece.piece.len ≤ c.args.leg.to - c.loop-front.front.len = omega (arith, piece.fits, length-take (c.args.leg.to - c.loop-front.front.len) (drop c.loop-front.front.len c.args.revision.now.ops.now.ops)) in
-    omega (arith, long, c.loop-front.invariant.order, c.requires.may.within, c.args.revision.now.holds.trace.few)
+    let long : c.in_ok-piece.piece.len ≤ c.args.leg.to - c.loop-progress.progress.front.len = omega (arith, piece.fits, length-take (c.args.leg.to - c.loop-progress.progress.front.len) (drop c.loop-progress.progress.front.len c.args.revision.now.ops.now.ops)) in
+    omega (arith, long, c.loop-progress.invariant.order, c.requires.may.within, c.args.revision.now.holds.trace.few)
 
 -- as far as a cut where an old stretch may begin
-pub loop-front-preserved-then-front-next : goal.loop-front-preserved-then-front-next
-loop-front-preserved-then-front-next c =
-    let h = c.loop-front.invariant in
+pub loop-progress-preserved-then-at-next : goal.loop-progress-preserved-then-at-next
+loop-progress-preserved-then-at-next c =
+    let h = c.loop-progress.invariant in
     let on = c.in_ok-front.ensures in
     let old = c.args.revision.now.segments.now in
     record {
       beside = GoesOn-next _ _ _ _ _ _ _ _ _ _ _ _ h.beside (on.goes_on (trace_of old) (all_marks old));
+      joint = h.joint;
       order = omega (arith, on.there, c.next_start-next.ensures.within);
       never_less = omega (arith, h.never_less, on.never_less);
       steps = omega (arith, h.steps, on.rise, on.there);
     }
 
-pub loop-front-preserved : goal.loop-front-preserved
-loop-front-preserved c =
-    let h = c.loop-front.invariant in
+pub loop-progress-preserved : goal.loop-progress-preserved
+loop-progress-preserved c =
+    let h = c.loop-progress.invariant in
     let piece = c.in_ok-piece.ensures.piece in
     let joined = c.in_ok-front-2.ensures in
     let order = h.order in
-    let long : c.in_ok-piece.piece.len ≤ c.args.leg.to - c.loop-front.front.len = omega (arith, piece.fits, length-take (c.args.leg.to - c.loop-front.front.len) (drop c.loop-front.front.len c.args.revision.now.ops.now.ops)) in
+    let long : c.in_ok-piece.piece.len ≤ c.args.leg.to - c.loop-progress.progress.front.len = omega (arith, piece.fits, length-take (c.args.leg.to - c.loop-progress.progress.front.len) (drop c.loop-progress.progress.front.len c.args.revision.now.ops.now.ops)) in
     let touched = c.in_ok-touch_at.ensures.answered in
-    let on : GoesOnBeside c.args.revision.now c.loop-front.front c.in_ok-front-2.front c.loop-front.shelf c.next_piece.new.shelf c.loop-front.meter c.next_piece.new.meter =
+    let on : GoesOnBeside c.args.revision.now c.loop-progress.progress.front c.in_ok-front-2.front c.loop-progress.shelf c.next_piece.new.shelf c.loop-progress.meter c.next_piece.new.meter =
     record {
       reached = rw (joined.segments, joined.end, joined.len)
-          (IsReached-next c.args.revision.now.ops.now.ops c.loop-front.front.len c.args.leg.to c.in_ok-piece.piece.len c.loop-front.front.segments c.in_ok-piece.piece.segments c.loop-front.front.end c.in_ok-piece.piece.end h.beside.reached order c.requires.may.within piece);
+          (IsReached-next c.args.revision.now.ops.now.ops c.loop-progress.progress.front.len c.args.leg.to c.in_ok-piece.piece.len c.loop-progress.progress.front.segments c.in_ok-piece.piece.segments c.loop-progress.progress.front.end c.in_ok-piece.piece.end h.beside.reached order c.requires.may.within piece);
       onward = rw (joined.segments, joined.len, joined.gone)
-          (IsOnward-piece c.args.revision.now.ops.now.ops (all_marks c.args.revision.now.segments.now) c.loop-front.front.len c.in_ok-piece.piece.len (marks_from 0 c.loop-front.front.segments) _ c.loop-front.shelf _ _ _ _ c.args.revision.now.holds.trace.distinct c.in_ok-piece.ensures.gap
-          (marks_from-piece c.args.revision.now.ops.now.ops _ c.loop-front.front.len c.in_ok-piece.piece.len c.loop-front.front.segments c.in_ok-piece.piece.segments c.loop-front.front.end c.in_ok-piece.piece.end h.beside.reached piece)
+          (IsOnward-piece c.args.revision.now.ops.now.ops (all_marks c.args.revision.now.segments.now) c.loop-progress.progress.front.len c.in_ok-piece.piece.len (marks_from 0 c.loop-progress.progress.front.segments) _ c.loop-progress.shelf _ _ _ _ c.args.revision.now.holds.trace.distinct c.in_ok-piece.ensures.gap
+          (marks_from-piece c.args.revision.now.ops.now.ops _ c.loop-progress.progress.front.len c.in_ok-piece.piece.len c.loop-progress.progress.front.segments c.in_ok-piece.piece.segments c.loop-progress.progress.front.end c.in_ok-piece.piece.end h.beside.reached piece)
           touched c.in_ok-piece.ensures.searched);
       stepped = λ r start chunks k all. rw joined.len
-          (HaveStepped-next (trace_of c.args.revision.now.segments.now) c.args.revision.now.ops.now.ops (all_marks c.args.revision.now.segments.now) c.touch_at.new.shelf.chunks chunks c.loop-front.front.end r c.loop-front.front.len c.args.leg.to c.in_ok-piece.piece.len start c.loop-front.meter _
+          (HaveStepped-next (trace_of c.args.revision.now.segments.now) c.args.revision.now.ops.now.ops (all_marks c.args.revision.now.segments.now) c.touch_at.new.shelf.chunks chunks c.loop-progress.progress.front.end r c.loop-progress.progress.front.len c.args.leg.to c.in_ok-piece.piece.len start c.loop-progress.meter _
           h.beside.reached.state long (λ e m. all e (touched.touched.fewer e m)) c.in_ok-piece.ensures.taken k);
     } in
     record {
       beside = GoesOn-next _ _ _ _ _ _ _ _ _ _ _ _ h.beside on;
+      joint = c.in_ok-piece.ensures.joint;
       order = omega (arith, joined.len, long, order);
       never_less = omega (arith, h.never_less, c.in_ok-piece.ensures.never_less);
       steps = omega (arith, h.steps, c.in_ok-piece.ensures.steps, joined.len);

@@ -1,14 +1,16 @@
 use Rattle.std.proofs.Common.{◌≤◌, ◌+◌, ◌-◌}
+use Rattle.run_engine.specs.Divergence.{IsJoint}
 use Rattle.run_engine.specs.GoesOn.{GoesOnBeside}
 use Rattle.run_engine.proofs.replay.converge.serve.Given as goal
 
-abbrev pub invariant-loop-front : goal.invariant-loop-front
-invariant-loop-front l = record {
-  beside : GoesOnBeside l.revision l.initial.front l.front l.initial.shelf l.shelf l.initial.meter l.meter;
-  order : l.front.len ≤ l.leg.to;
+abbrev pub invariant-loop-progress : goal.invariant-loop-progress
+invariant-loop-progress l = record {
+  beside : GoesOnBeside l.revision l.initial.progress.front l.progress.front l.initial.shelf l.shelf l.initial.meter l.meter;
+  joint : IsJoint l.revision l.progress.joint;
+  order : l.progress.front.len ≤ l.leg.to;
   never_less : l.initial.meter ≤ l.meter;
-  steps : l.meter + l.initial.front.len ≤ l.initial.meter + l.front.len;
+  steps : l.meter + l.initial.progress.front.len ≤ l.initial.meter + l.progress.front.len;
 }
 
-abbrev pub decreases-loop-front : goal.decreases-loop-front
-decreases-loop-front l = l.leg.to - l.front.len
+abbrev pub decreases-loop-progress : goal.decreases-loop-progress
+decreases-loop-progress l = l.leg.to - l.progress.front.len

@@ -8,7 +8,8 @@ use Rattle.run_engine.specs.Segments.{trace_of, BeginsMarked}
 use Rattle.run_engine.specs.HeadAndTail.{AreAlike}
 use Rattle.run_engine.proofs.PieceLemmas.{old-piece}
 use Rattle.run_engine.proofs.MarksLemmas.{old-neighbours, old-stretch-is}
-use Rattle.run_engine.proofs.StretchLemmas.{stretch-ops}
+use Rattle.run_engine.proofs.PlaceLemmas.{trace_of-front}
+use Rattle.run_engine.proofs.StretchLemmas.{stretch-ops, stretch-behind, joint-mark}
 use Rattle.run_engine.proofs.replay.stretch.old_stretch.Goals as goal
 
 pub overflow_add-i : goal.overflow_add-i
@@ -17,7 +18,6 @@ overflow_add-i c =
 
 pub returns : goal.returns
 returns c =
-    let t : IsTrue c.same.result = search rules in
     let old = c.args.revision.now.segments.now in
     let ops : List Operation = c.args.revision.now.ops.now.ops in
     let i = c.in-Some-segment_at.i in
@@ -34,7 +34,8 @@ returns c =
     stretch-ops c.args.revision.now.segments.now ops c.in-Some-segment_at.i (suc k) c.in-Some.alike.from c.in-Some.alike.at c.in-Some.alike.len c.args.at c.args.to alike c.in-Some-segment_at.ensures.place (omega arith) (omega arith)
     ∙ ap (λ x. take x (slice_range ops c.args.at c.args.to)) (sym long) in
     let bare = c.next_marked-j.ensures.none in
-    let heap : c.in-Some-mark.mark ≡ c.args.heap.now = sym c.in_ok-kept.ensures ∙ c.same.ensures.0 t in
+    let t : IsTrue c.in_ok-is_same.is_same = search rules in
+    let heap : c.in-Some-mark.mark ≡ c.args.heap.now = c.in_ok-is_same.ensures t in
     let mark : c.at.result.mark ≡ Some c.args.heap.now = sym c.in-Some-mark.ensures ∙ ap Some heap in
     let kept : BeginsMarked (drop (i + suc k) c.args.revision.now.segments.now) = subst (λ j. BeginsMarked (drop j c.args.revision.now.segments.now)) m (rw c.in-Some-2.is at c.in_ok-after.ensures.kept) in
     let after = rw c.in-Some-2.is at c.in_ok-after.ensures.heap in
@@ -45,4 +46,11 @@ returns c =
           (old-piece c.args.revision.now.segments.now c.args.revision.now.end.now c.in-Some-segment_at.i k c.at.result c.args.heap.now c.in-Some-2.after (slice_range ops c.args.at c.args.to) c.ops_len-len.result
           c.args.revision.now.holds.kept.run c.in-Some-segment_at.ensures.within c.at.ensures mark bare fits parts
           (after ∙ ap (λ j. end_from nothing_held (trace_of (take j c.args.revision.now.segments.now))) m));
+      base = after ∙ ap (end_from nothing_held) (trace_of-front c.args.revision.now.segments.now c.next_marked-j.result (c.in-Some.alike.from + (c.args.at - c.in-Some.alike.at) + c.ops_len-len.result)
+          (stretch-behind c.args.revision.now.segments.now c.in_ok-segments.segments c.in-Some-segment_at.i c.next_marked-j.result _ c.ops_len-len.result (omega arith) c.in_ok-segments.ensures c.in-Some-segment_at.ensures.place c.ops_len-len.ensures.value));
     }
+
+pub has_heap-requires : goal.has_heap-requires
+has_heap-requires c = λ t.
+    joint-mark c.args.revision.now c.args.joint c.in-Some-segment_at.i c.args.at (c.in-Some.alike.from + (c.args.at - c.in-Some.alike.at)) c.at.result c.args.heap.now c.in-Some-mark.mark c.requires.joint (c.is_at.ensures.0 t) c.requires.heap
+    c.in-Some-segment_at.ensures.place c.in-Some-segment_at.ensures.within c.at.ensures c.in-Some-mark.ensures
