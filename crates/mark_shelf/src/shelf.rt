@@ -74,6 +74,13 @@ impl MarkShelf {
         bring(&mut self.marks, id)
     }
 
+    /// How many chunks it has room for.
+    pub fn most_chunks(&self) -> usize
+        ensures { result ≡ self.now.most_chunks }
+    {
+        self.chunks.cap().get()
+    }
+
     /// Keeps a chunk under the next number, for which its name then stands.
     pub fn remember(&mut self, chunk: ChunkRun)
         ensures { Remembers self.old chunk self.new }

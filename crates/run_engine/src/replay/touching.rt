@@ -63,11 +63,12 @@ pub fn inner_name(ops: &Listing, at: usize) -> Option<u32>
     Some(op.id())
 }
 
-/// Has the shelf remember chunks.
+/// Has the shelf remember the last of the chunks, as many as it has room for: those before them would not stay.
 pub fn remember_all(shelf: &mut MarkShelf, chunks: Vec<ChunkRun>)
     ensures { HasSameMarks shelf.old shelf.new }
 {
-    for chunk in chunks {
+    let passed = chunks.len().saturating_sub(shelf.most_chunks());
+    for chunk in chunks.into_iter().skip(passed) {
         shelf.remember(chunk);
     }
 }
