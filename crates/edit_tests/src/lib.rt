@@ -4,6 +4,8 @@
 #[cfg(test)]
 mod desk;
 #[cfg(test)]
+mod far_edits;
+#[cfg(test)]
 mod kept;
 #[cfg(test)]
 mod limits;

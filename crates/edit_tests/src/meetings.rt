@@ -205,8 +205,8 @@ fn remove_and_reinsert(rt: HostRuntime) -> Result<(), Fail> {
     assert_broken_by_weak(&rt, alloc, &second)
 }
 
-// Pairs of objects that come to hold each other and are let go: each pair leaks.
-fn leaked_pairs(alloc: Global, ops: u32) -> Result<Trace, Fail> {
+/// Pairs of objects that come to hold each other and are let go: each pair leaks.
+pub fn leaked_pairs(alloc: Global, ops: u32) -> Result<Trace, Fail> {
     let mut trace = Trace::new(alloc);
     for id in 1..=ops {
         let kind = match id % 8 {
@@ -224,8 +224,8 @@ fn leaked_pairs(alloc: Global, ops: u32) -> Result<Trace, Fail> {
     Ok(trace)
 }
 
-// The run where the second object of the pair that operation 97 begins has these fields, and how many operations were stepped.
-fn with_fields(alloc: Global, run: &Run, fields: &[Field]) -> Result<(Run, u64), Fail> {
+/// The run where the second object of the pair that operation 97 begins has these fields, and how many operations were stepped.
+pub fn with_fields(alloc: Global, run: &Run, fields: &[Field]) -> Result<(Run, u64), Fail> {
     after(alloc, run, change(98, new(alloc, 1, fields)?)?)
 }
 

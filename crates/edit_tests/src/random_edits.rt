@@ -2,11 +2,10 @@
 //! were given up: each run is what a replay from nothing gives.
 ghost use Rattle.std.specs.Prelude.{◌<◌};
 
-use crate::small_runs::{has_outcome, run_of};
+use crate::small_runs::{is_replay, run_of};
 use crate::small_traces::{add, batch, insertion, new, op};
 use mark_shelf::MarkShelf;
 use op_step::Meter;
-use op_step::replay::replay;
 use run_engine::Run;
 use std::alloc::Global;
 use std::test::Fail;
@@ -98,18 +97,6 @@ fn give_up_some(alloc: Global, run: &mut Run, dice: &mut Dice) -> Result<(), Fai
         }
     }
     Ok(())
-}
-
-fn is_replay(alloc: Global, run: &Run) -> Result<bool, Fail> {
-    let trace = run.trace(alloc)?;
-    let (outcomes, end) = replay(alloc, &trace, &mut Meter::new())?;
-    for (place, outcome) in outcomes.as_slice().iter().enumerate() {
-        if !has_outcome(run, place, outcome) {
-            return Ok(false);
-        }
-    }
-    let same = run.end().same(&end) && run.end().sum() == end.sum();
-    Ok(same && outcomes.as_slice().len() == run.len())
 }
 
 // How many edits were made, how many of them stopped early though the ends differ, and how many stepped nothing.

@@ -4,6 +4,7 @@ use edit_desk::{KEPT_CHUNKS, KEPT_MARKS, KEPT_NAMES};
 use leak_report::find_leaks;
 use mark_shelf::MarkShelf;
 use op_step::Meter;
+use op_step::replay::replay;
 use run_engine::{Run, RunFault};
 use std::alloc::Global;
 use std::process::Abort;
@@ -105,6 +106,19 @@ pub fn has_outcome(run: &Run, place: usize, outcome: &Outcome) -> bool {
         Some(known) => known.same(outcome),
         None => false,
     }
+}
+
+/// Whether the run tells what the replay of its trace from nothing does, and ends with its heap.
+pub fn is_replay(alloc: Global, run: &Run) -> Result<bool, Fail> {
+    let trace = run.trace(alloc)?;
+    let (outcomes, end) = replay(alloc, &trace, &mut Meter::new())?;
+    for (place, outcome) in outcomes.as_slice().iter().enumerate() {
+        if !has_outcome(run, place, outcome) {
+            return Ok(false);
+        }
+    }
+    let same = run.end().same(&end) && run.end().sum() == end.sum();
+    Ok(same && outcomes.as_slice().len() == run.len())
 }
 
 /// How many objects leak in the end.
