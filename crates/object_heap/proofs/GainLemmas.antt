@@ -15,10 +15,10 @@ use Rattle.trace_types.specs.declared.slots.Item.TheVariants as item
 use Rattle.trace_types.specs.declared.slots.Change.{Change}
 use Rattle.trace_types.specs.declared.slots.Change.TheVariants.{SetHandle, EndHandle, SetCell, EndCell, SetField, Make, TurnHusk}
 use Rattle.ownership_model.specs.Totals.{total}
-use Rattle.ownership_model.specs.State.{State, ends, weight, names_alike, slots_weight, holding_weight, entry_weight, IsScoped}
+use Rattle.ownership_model.specs.State.{State, ends, weight, names_alike, slots_weight, holding_weight, entry_weight}
 use Rattle.ownership_model.specs.Changes.{changed, changed_by, with_field, HasField, CanBeDone, CanChange}
 use Rattle.ownership_model.specs.Bounds.{IsBounded, ChangeFits, ChangesFit}
-use Rattle.ownership_model.proofs.LawsHold.{bounds, scopes}
+use Rattle.ownership_model.proofs.LawsHold.{bounds}
 use Rattle.ownership_model.proofs.Counting.{weight_at, total-insert, total-remove, total-set, self_strong, self_weak, other_strong, other_weak, same_number, names_alike-le}
 use Rattle.object_heap.specs.declared.object.Counters.{Counters}
 use Rattle.object_heap.specs.declared.draft.Draft.{Draft}
@@ -42,15 +42,15 @@ either_way (Ok x) p q f g = f p
 either_way (Err e) p q f g = g q
 
 -- the counters of a draft are no part of its state
-pub same_state : (d : Draft) (t : TableView) → t.entries ≡ d.objects.entries → drafted (record { handles = d.handles; cells = d.cells; objects = t; scopes = d.scopes }) ≡ drafted d
-same_state d t same = λ i. record { handles = d.handles; cells = d.cells; objects = same i; scopes = d.scopes }
+pub same_state : (d : Draft) (t : TableView) → t.entries ≡ d.objects.entries → drafted (record { handles = d.handles; cells = d.cells; objects = t }) ≡ drafted d
+same_state d t same = λ i. record { handles = d.handles.held; cells = d.cells; objects = same i; scopes = d.handles.scopes }
 
 -- something else stands for an object, and the counters stay
 pub put_entry : (d : Draft) (mid new : TableView) (o : ℕ) (e f : Entry) → new ≡ record { entries = insert mid.entries o e; counts = mid.counts } → mid.entries ≡ d.objects.entries → e ≡ f
-    → drafted (record { handles = d.handles; cells = d.cells; objects = new; scopes = d.scopes }) ≡ record { handles = d.handles; cells = d.cells; objects = insert d.objects.entries o f; scopes = d.scopes }
+    → drafted (record { handles = d.handles; cells = d.cells; objects = new }) ≡ record { handles = d.handles.held; cells = d.cells; objects = insert d.objects.entries o f; scopes = d.handles.scopes }
 put_entry d mid new o e f put stay same =
     let is : new.entries ≡ insert d.objects.entries o f = ap (λ (t : TableView). t.entries) put ∙ (λ i. insert (stay i) o (same i)) in
-    λ i. record { handles = d.handles; cells = d.cells; objects = is i; scopes = d.scopes }
+    λ i. record { handles = d.handles.held; cells = d.cells; objects = is i; scopes = d.handles.scopes }
 
 pub still_more : (mid new : TableView) (more : FinMap nat_cmp Counters) (es : FinMap nat_cmp Entry) (g : (Slot → ℕ) → ℕ) → new ≡ record { entries = es; counts = mid.counts } → CountsMore mid.counts more g → CountsMore new.counts more g
 still_more mid new more es g is it = subst (λ (t : TableView). CountsMore t.counts more g) (sym is) it
@@ -276,7 +276,3 @@ module _ (m n : State) (changes : List Change) (i : ℕ) (x : Change) (within : 
 
   pub changed_next : changed n (drop (i + 1) changes) ≡ changed m (drop i changes)
   changed_next = ap (λ (k : State). changed k (drop (i + 1) changes)) made ∙ sym (ap (λ (cs : List Change). changed m cs) first_change)
-
--- a change keeps each held handle in one scope
-pub scoped_next : (m n : State) (c : Change) → n ≡ changed_by m c → IsScoped m.handles m.scopes → IsScoped n.handles n.scopes
-scoped_next m n c made scoped = subst (λ (x : State). IsScoped x.handles x.scopes) (sym made) (scopes.changes m (c ∷ []) scoped)

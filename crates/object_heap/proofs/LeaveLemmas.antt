@@ -214,7 +214,7 @@ nothing_left h (s ∷ ss) none = elim (s.handle == h) as (λ b. (s.handle == h) 
   | false ↦ λ e. ap (λ rest. s ∷ rest) (nothing_left h ss (omega (arith, none)))
 ] refl
 
-absent : (places : FinMap nat_cmp Place) (last : FinMap nat_cmp ℕ) (ss : List Scoped) (h n : ℕ) → AreLinked places last ss → get places h ≡ None → times_in h ss ≡ n → n ≡ 0
+pub absent : (places : FinMap nat_cmp Place) (last : FinMap nat_cmp ℕ) (ss : List Scoped) (h n : ℕ) → AreLinked places last ss → get places h ≡ None → times_in h ss ≡ n → n ≡ 0
 absent places last ss h zero linked none is = refl
 absent places last ss h (suc n) linked none is =
     let r : (t : ℕ) × (0 < times_among h (scope_of t ss)) = in_scope h ss (omega (arith, is)) in

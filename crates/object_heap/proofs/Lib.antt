@@ -13,5 +13,6 @@ pub mod EarlierLemmas
 pub mod EnterLemmas
 pub mod NeighbourLemmas
 pub mod LeaveLemmas
+pub mod HandleLemmas
 pub mod ExchangeLemmas
 pub mod IslandLemmas

@@ -27,7 +27,7 @@ not_some x e = cc
 not_there : false ≡ true → ⊥
 not_there e = cc
 
-same_some : {X : Type 0} (x y : X) → Some x ≡ Some y → x ≡ y
+pub same_some : {X : Type 0} (x y : X) → Some x ≡ Some y → x ≡ y
 same_some x y e = ap (λ o. unwrap_or o x) e
 
 -- ---- what f gives of a list in order
@@ -80,17 +80,17 @@ module _ {X Y : Type 0} (f : X → Option Y) where
       ] here
 
   -- ---- and of a map
-  get-part : (m : FinMap nat_cmp X) (q : ℕ) → get (part f m) q ≡ option_and_then f (get m q)
+  pub get-part : (m : FinMap nat_cmp X) (q : ℕ) → get (part f m) q ≡ option_and_then f (get m q)
   unfolding part
   get-part m q = get-from_sorted nat_cmp (picked f (entries m)) q (sorted-picked (entries m) (entries_sorted m)) ∙ find-picked q (entries m) (entries_sorted m) ∙ ap (option_and_then f) (sym (get-entries m q))
 
   part_is : (m : FinMap nat_cmp X) (n : FinMap nat_cmp Y) → ((q : ℕ) → option_and_then f (get m q) ≡ get n q) → part f m ≡ n
   part_is m n is = same_map nat_cmp_total nat_cmp-IsAntisymmetric (part f m) n (λ q. get-part m q ∙ is q)
 
-  part-empty : part f empty ≡ empty
+  pub part-empty : part f empty ≡ empty
   part-empty = part_is empty empty (λ q. ap (option_and_then f) (get-empty nat_cmp q) ∙ sym (get-empty nat_cmp q))
 
-  keys-part : (m : FinMap nat_cmp X) → ((q : ℕ) (x : X) → get m q ≡ Some x → is_some (f x) ≡ true) → keys (part f m) ≡ keys m
+  pub keys-part : (m : FinMap nat_cmp X) → ((q : ℕ) (x : X) → get m q ≡ Some x → is_some (f x) ≡ true) → keys (part f m) ≡ keys m
   unfolding part
   keys-part m all =
       ap (map (λ e. e.0)) (entries-from_sorted nat_cmp (picked f (entries m)) (sorted-picked (entries m) (entries_sorted m)))
@@ -105,13 +105,13 @@ module _ {X Y : Type 0} (f : X → Option Y) where
     part_at : (q : ℕ) → option_and_then f (get new q) ≡ (if o == q then option_and_then f y else get (part f old) q)
     part_at q = ap (option_and_then f) (is q) ∙ through (o == q) (get old q) ∙ ap (λ z. if o == q then option_and_then f y else z) (sym (get-part old q))
 
-    part_insert : (v : Y) → option_and_then f y ≡ Some v → part f new ≡ insert (part f old) o v
+    pub part_insert : (v : Y) → option_and_then f y ≡ Some v → part f new ≡ insert (part f old) o v
     part_insert v e = part_is new (insert (part f old) o v) (λ q. part_at q ∙ ap (λ z. if o == q then z else get (part f old) q) e ∙ sym (get_inserted (part f old) o v q))
 
-    part_remove : option_and_then f y ≡ None → part f new ≡ remove (part f old) o
+    pub part_remove : option_and_then f y ≡ None → part f new ≡ remove (part f old) o
     part_remove e = part_is new (remove (part f old) o) (λ q. part_at q ∙ ap (λ z. if o == q then z else get (part f old) q) e ∙ sym (get_removed (part f old) o q))
 
-    part_stays : option_and_then f y ≡ get (part f old) o → part f new ≡ part f old
+    pub part_stays : option_and_then f y ≡ get (part f old) o → part f new ≡ part f old
     part_stays e = part_is new (part f old) (λ q. part_at q
         ∙ elim (o == q) as (λ b. (o == q) ≡ b → (if b then option_and_then f y else get (part f old) q) ≡ get (part f old) q) [
           | true ↦ λ t. e ∙ ap (get (part f old)) (same_number o q t)

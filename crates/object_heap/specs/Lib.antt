@@ -4,6 +4,7 @@ pub mod Counted
 pub mod Gains
 pub mod Drops
 pub mod Links
+pub mod HandlesView
 pub mod Exchange
 pub mod Descent
 pub mod NamesCounted

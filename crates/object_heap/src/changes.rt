@@ -3,8 +3,7 @@ ghost use Rattle.std.specs.Prelude.{◌≡◌, ◌<◌, OnOk, IfOk, [], length, 
 ghost use Rattle.std.specs.Option.{option_copied, option_map_or};
 ghost use Rattle.std.specs.FinMap as map;
 ghost use Rattle.trace_types.specs.declared.slots.Change.TheVariants as change;
-ghost use Rattle.ownership_model.specs.State.{holding_weight, entry_weight, IsScoped};
-ghost use Rattle.ownership_model.specs.Scopes.{kept_or_entered, times_held, times_in};
+ghost use Rattle.ownership_model.specs.State.{holding_weight, entry_weight};
 ghost use Rattle.ownership_model.specs.Changes.{HasField, CanBeDone, CanChange, changed};
 ghost use Rattle.ownership_model.specs.Bounds.{IsBounded, HoldingFits, AreFew, ChangeFits, ChangesFit};
 ghost use Rattle.object_heap.specs.Counted.{drafted, IsCounted};
@@ -14,7 +13,6 @@ ghost use Rattle.object_heap.specs.Gains.{Changes, CountsMore, HasRoom, HasSlots
 use crate::counters::{hold, hold_all, hold_holding, let_go, let_go_holding, let_go_object};
 use crate::draft::Draft;
 use crate::objects::Objects;
-use crate::scopes::Scopes;
 use crate::summed::added;
 use std::alloc::{AllocError, Global};
 use trace_types::sequence::Sequence;
@@ -23,13 +21,11 @@ use trace_types::slots::{Change, Entry, Holding, Slot};
 impl Draft {
     /// Makes the changes in order. Where memory runs out some are made, and the draft is unspecified: let it go.
     pub fn apply(&mut self, alloc: Global, changes: &[Change]) -> Result<(), AllocError>
-        requires scoped { IsScoped self.old.handles self.old.scopes }
         requires counted { IsCounted self.old.objects.counts (drafted self.old) [] }
         requires bounded { IsBounded (drafted self.old) }
         requires can { CanChange (drafted self.old) changes.now }
         requires fits { ChangesFit changes.now }
         ensures state { OnOk result (drafted self.new ≡ changed (drafted self.old) changes.now) }
-        ensures scoped { OnOk result (IsScoped self.new.handles self.new.scopes) }
         ensures counted { OnOk result (IsCounted self.new.objects.counts (drafted self.new) []) }
         ensures bounded { OnOk result (IsBounded (drafted self.new)) }
     {
@@ -40,7 +36,6 @@ impl Draft {
     }
 
     fn change(&mut self, alloc: Global, change: &Change) -> Result<(), AllocError>
-        requires scoped { IsScoped self.old.handles self.old.scopes }
         requires counted { IsCounted self.old.objects.counts (drafted self.old) [] }
         requires bounded { IsBounded (drafted self.old) }
         requires can { CanBeDone (drafted self.old) change.now }
@@ -70,19 +65,15 @@ impl Draft {
         handle: u32,
         holding: &Holding,
     ) -> Result<(), AllocError>
-        requires scoped { IsScoped self.old.handles self.old.scopes }
         requires counted { IsCounted self.old.objects.counts (drafted self.old) [] }
         requires bounded { IsBounded (drafted self.old) }
         requires fits { HoldingFits holding.now }
         ensures { OnOk result (Changes self.old self.new (change.SetHandle label handle holding.now)) }
     {
         hold_holding(alloc, &mut self.objects, holding)?;
-        let held = self.handles.get(handle);
-        let was = added(handle, held);
-        let_go_held(alloc, &mut self.objects, held)?;
-        enter_scope(alloc, &mut self.scopes, label, handle, held)?;
         let copy = holding.clone()?;
-        self.handles.replace(alloc, handle, was, copy)
+        let held = self.handles.set(alloc, label, handle, copy)?;
+        let_go_held(alloc, &mut self.objects, held.as_ref())
     }
 
     fn end_handle(&mut self, alloc: Global, handle: u32) -> Result<(), AllocError>
@@ -90,11 +81,8 @@ impl Draft {
         requires can { CanBeDone (drafted self.old) (change.EndHandle handle) }
         ensures { OnOk result (Changes self.old self.new (change.EndHandle handle)) }
     {
-        let held = self.handles.get(handle);
-        let was = added(handle, held);
-        let_go_held(alloc, &mut self.objects, held)?;
-        self.scopes.leave(alloc, handle)?;
-        self.handles.take(alloc, handle, was)
+        let held = self.handles.end(alloc, handle)?;
+        let_go_held(alloc, &mut self.objects, held.as_ref())
     }
 
     fn set_cell(&mut self, alloc: Global, cell: u32, slot: Slot) -> Result<(), AllocError>
@@ -190,23 +178,6 @@ fn rank_new(
         objects.raise(alloc, object, rank)?;
     }
     Ok(())
-}
-
-// A handle that held nothing enters the scope of the label.
-fn enter_scope(
-    alloc: Global,
-    scopes: &mut Scopes,
-    label: u32,
-    handle: u32,
-    held: Option<&Holding>,
-) -> Result<(), AllocError>
-    requires { times_in handle scopes.old ≡ times_held (option_copied held) }
-    ensures { OnOk result (scopes.new ≡ kept_or_entered (option_copied held.entry) label handle scopes.old) }
-{
-    match held {
-        Some(_) => Ok(()),
-        None => scopes.enter(alloc, label, handle),
-    }
 }
 
 // What a handle held, if it held anything, is counted no more.

@@ -7,21 +7,20 @@ ghost use Rattle.ownership_model.specs.Changes.{changed, CanChange};
 ghost use Rattle.ownership_model.specs.Release.{release};
 ghost use Rattle.object_heap.specs.Counted.{drafted, IsKept};
 
+use crate::handles::Handles;
 use crate::objects::Objects;
-use crate::scopes::Scopes;
 use crate::summed::Summed;
 use std::alloc::{AllocError, Global};
 use std::collections::VecDeque;
 use trace_types::outcomes::Event;
-use trace_types::slots::{Change, Holding, Item, Slot};
+use trace_types::slots::{Change, Item, Slot};
 
-/// What handles and cells hold, which objects stand, how often each is named, and in which scopes the handles stand.
+/// What handles and cells hold, in which scopes the handles stand, which objects stand, and how often each is named.
 #[derive(Drop)]
 pub struct Draft {
-    pub handles: Summed<Holding>,
+    pub handles: Handles,
     pub cells: Summed<Slot>,
     pub objects: Objects,
-    pub scopes: Scopes,
 }
 
 impl Draft {
@@ -31,10 +30,9 @@ impl Draft {
         ensures counts { result.objects.counts ≡ map.empty }
     {
         Draft {
-            handles: Summed::empty(),
+            handles: Handles::empty(),
             cells: Summed::empty(),
             objects: Objects::empty(),
-            scopes: Scopes::empty(),
         }
     }
 
@@ -81,7 +79,6 @@ impl Draft {
             handles: self.handles.share()?,
             cells: self.cells.share()?,
             objects: self.objects.share()?,
-            scopes: self.scopes.share()?,
         })
     }
 
@@ -93,7 +90,6 @@ impl Draft {
         self.handles.same(&other.handles)
             && self.cells.same(&other.cells)
             && self.objects.same(&other.objects)
-            && self.scopes.same(&other.scopes)
     }
 
     /// A number that equal states have in common.
@@ -104,6 +100,5 @@ impl Draft {
             .wrapping_add(self.cells.sum().wrapping_mul(3));
         let objects = self.objects.sum().wrapping_mul(5);
         held.wrapping_add(objects)
-            .wrapping_add(self.scopes.sum().wrapping_mul(7))
     }
 }

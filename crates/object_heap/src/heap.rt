@@ -94,14 +94,14 @@ impl Heap {
     pub fn last(&self, label: u32) -> Option<u32>
         ensures { result ≡ first_of (scope_of label self.now.scopes) }
     {
-        self.draft.scopes.last(label)
+        self.draft.handles.last(label)
     }
 
     /// The handle that was made before this one, of those still in its scope. Takes no memory.
     pub fn earlier(&self, handle: u32) -> Option<u32>
         ensures { result ≡ earlier_in handle self.now.scopes }
     {
-        self.draft.scopes.earlier(handle)
+        self.draft.handles.earlier(handle)
     }
 
     /// What a cell holds.
@@ -201,9 +201,7 @@ impl Heap {
         ensures sound { IsSound self.now [] × IsSound other.now [] }
         ensures bounded { IsBounded self.now × IsBounded other.now }
     {
-        self.draft.handles.same(&other.draft.handles)
-            && self.draft.cells.same(&other.draft.cells)
-            && self.draft.scopes.same(&other.draft.scopes)
+        self.draft.handles.same(&other.draft.handles) && self.draft.cells.same(&other.draft.cells)
     }
 
     /// Whether both hold the same.

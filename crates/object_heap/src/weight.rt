@@ -55,10 +55,11 @@ fn of_fields(fields: &Sequence<Slot>) -> u64 {
     weight
 }
 
-/// What a handle adds to the sum of scopes: its scope's label and the handle made before it tell where it stands.
+/// What a handle adds to a sum besides what it holds: its scope's label and the handle made before it tell where it stands. Times seven,
+/// so that a place and a holding of one weight add two numbers.
 pub fn placed(handle: u32, label: u32, earlier: Option<u32>) -> u64 {
     let scope = (label as u64).wrapping_mul(0x1_0000_0000);
-    scattered(handle, scope.wrapping_add(of_handle(earlier)))
+    scattered(handle, scope.wrapping_add(of_handle(earlier))).wrapping_mul(7)
 }
 
 /// What a value of this weight adds to a sum from its place. A place is multiplied by another number than fields are, so that one isn't

@@ -1,6 +1,6 @@
 use Rattle.std.proofs.Common.{◌∙◌, arith}
 use Rattle.object_heap.specs.Counted.{drafted}
-use Rattle.object_heap.proofs.GainLemmas.{scoped_next, can_next, fits_next, bounded_next, changed_next}
+use Rattle.object_heap.proofs.GainLemmas.{can_next, fits_next, bounded_next, changed_next}
 use Rattle.object_heap.proofs.draft.Draft.apply.Goals as goal
 
 pub loop-change-preserved : goal.loop-change-preserved
@@ -10,7 +10,6 @@ loop-change-preserved c =
     let made = c.in_ok-change.ensures.state in
     let so_far = c.loop-change.invariant in
     record {
-      scoped = scoped_next old new c.change-item.result made so_far.scoped;
       counted = c.in_ok-change.ensures.counted;
       bounded = bounded_next old new c.args.changes.now c.loop-change.change-index c.change-item.result (omega arith) c.change-item.is made so_far.bounded so_far.can so_far.fits;
       can = can_next old new c.args.changes.now c.loop-change.change-index c.change-item.result (omega arith) c.change-item.is made so_far.can;

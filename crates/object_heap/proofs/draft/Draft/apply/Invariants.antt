@@ -1,13 +1,11 @@
 use Rattle.std.proofs.Common.{◌≡◌, [], drop}
 use Rattle.ownership_model.specs.Changes.{CanChange, changed}
-use Rattle.ownership_model.specs.State.{IsScoped}
 use Rattle.ownership_model.specs.Bounds.{IsBounded, ChangesFit}
 use Rattle.object_heap.specs.Counted.{IsCounted, drafted}
 use Rattle.object_heap.proofs.draft.Draft.apply.Given as goal
 
 abbrev pub invariant-loop-change : goal.invariant-loop-change
 invariant-loop-change l = record {
-  scoped : IsScoped l.self.handles l.self.scopes;
   counted : IsCounted l.self.objects.counts (drafted l.self) [];
   bounded : IsBounded (drafted l.self);
   can : CanChange (drafted l.self) (drop l.change-index l.changes);

@@ -29,7 +29,7 @@ returns c =
     let was = c.counters_of-was.result in
     let is : was ≡ counters_at (get old.objects.counts c.args.object) = c.counters_of-was.ensures ∙ ap (λ (k : Kept). k.1) c.kept-kept.ensures in
     let less : Counters = record { strong = was.strong; weak = was.weak - 1; ends = was.ends } in
-    let new : Draft = record { handles = old.handles; cells = old.cells; objects = c.set_counters.new.self; scopes = old.scopes } in
+    let new : Draft = record { handles = old.handles; cells = old.cells; objects = c.set_counters.new.self } in
     on_ok c.set_counters.result c.set_counters.ensures.set (λ set.
     drops_weak old new c.args.object c.args.rest.now.items c.args.events.now.items c.args.events.now.items less set
     (ap (λ (v : Counters). v.strong) is) false c.requires.sound c.requires.counted (ap (λ (v : Counters). v.weak - 1) is) (ap (λ (v : Counters). v.ends) is)

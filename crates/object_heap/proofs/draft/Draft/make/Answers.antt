@@ -28,7 +28,7 @@ pub returns : goal.returns
 returns c =
     let old = c.args.self.now in
     let counted : TableView = c.hold_all.new.objects in
-    let new : Draft = record { handles = old.handles; cells = old.cells; objects = c.insert.new.self; scopes = old.scopes } in
+    let new : Draft = record { handles = old.handles; cells = old.cells; objects = c.insert.new.self } in
     let change : Change = Make c.args.object c.args.fields.now in
     let more : CountsMore old.objects.counts counted.counts (gained change) =
     same_more old.objects.counts counted.counts (λ w. slots_weight w c.as_slice.result.now) (gained change) (λ w. ap (slots_weight w) (sym c.as_slice.ensures))

@@ -30,7 +30,7 @@ returns c =
     let old = c.args.self.now in
     let more = c.hold_entry.new.objects in
     let less = c.let_go_object.new.objects in
-    let new : Draft = record { handles = old.handles; cells = old.cells; objects = c.insert.new.self; scopes = old.scopes } in
+    let new : Draft = record { handles = old.handles; cells = old.cells; objects = c.insert.new.self } in
     let same : c.in_ok-copy.copy ≡ c.args.entry.now = search rules in
     let fewer : CountsMore less.counts more.counts (object_weight (drafted old) c.args.object) =
     subst (λ (es : FinMap nat_cmp Entry). CountsMore less.counts more.counts (λ w. weight_at (entry_weight w) (get es c.args.object))) c.in_ok-hold_entry.ensures.entries c.in_ok-let_go_object.ensures.counts in

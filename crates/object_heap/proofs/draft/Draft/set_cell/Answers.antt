@@ -24,9 +24,9 @@ let_go_cell-requires c =
 pub returns : goal.returns
 returns c =
     let old = c.args.self.now in
-    let new : Draft = record { handles = old.handles; cells = c.replace.new.self; objects = c.let_go_cell.new.objects; scopes = old.scopes } in
+    let new : Draft = record { handles = old.handles; cells = c.replace.new.self; objects = c.let_go_cell.new.objects } in
     let stay : c.let_go_cell.new.objects.entries ≡ old.objects.entries = c.in_ok-let_go_cell.ensures.entries ∙ c.in_ok-hold.ensures.entries in
     on_ok c.replace.result c.replace.ensures.ok (λ is.
     changes old.objects.counts c.hold.new.objects.counts (drafted old) (SetCell c.args.cell c.args.slot) c.requires.can c.requires.counted c.in_ok-hold.ensures.counts old new refl
     (subst (λ (s : Option Slot). CountsMore c.let_go_cell.new.objects.counts c.hold.new.objects.counts (λ w. option_map_or w s 0)) c.get-held.ensures c.in_ok-let_go_cell.ensures.counts)
-    (λ i. record { handles = old.handles; cells = is i; objects = stay i; scopes = old.scopes }))
+    (λ i. record { handles = old.handles.held; cells = is i; objects = stay i; scopes = old.handles.scopes }))

@@ -31,7 +31,7 @@ let_go-requires c =
 pub returns : goal.returns
 returns c =
     let old = c.args.self.now in
-    let new : Draft = record { handles = old.handles; cells = old.cells; objects = c.insert.new.self; scopes = old.scopes } in
+    let new : Draft = record { handles = old.handles; cells = old.cells; objects = c.insert.new.self } in
     let change : Change = SetField c.args.object c.args.index c.args.slot in
     let is : get old.objects.entries c.args.object ≡ Some (Alive c.in-Some-Alive.fields) = cc (c.in-Some-Alive.ensures, c.in-Some-Alive.field-0-is) in
     let fewer : CountsMore c.let_go.new.objects.counts c.hold.new.objects.counts (lost (drafted old) change) = field_gone (drafted old) c.args.object c.args.index c.args.slot c.in-Some-Alive.fields c.as_slice.result.now _ is c.requires.can c.as_slice.ensures c.let_go.new.objects.counts c.hold.new.objects.counts c.in_ok-let_go.ensures.counts in

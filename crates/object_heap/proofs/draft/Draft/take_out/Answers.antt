@@ -16,7 +16,7 @@ pub returns : goal.returns
 returns c =
     let old = c.args.self.now in
     let less = c.let_go_object.new.objects in
-    let new : Draft = record { handles = old.handles; cells = old.cells; objects = c.remove.new.self; scopes = old.scopes } in
+    let new : Draft = record { handles = old.handles; cells = old.cells; objects = c.remove.new.self } in
     on_ok c.remove.result c.remove.ensures.ok (λ cut.
     took_out old new c.args.object c.requires.bounded (cut_entry old less c.remove.new.self c.args.object cut c.in_ok-let_go_object.ensures.entries)
     (still_counted less c.remove.new.self _ (without_object (drafted old) c.args.object) cut

@@ -17,7 +17,7 @@ let_go_object-requires c =
 pub returns : goal.returns
 returns c =
     let old = c.args.self.now in
-    let new : Draft = record { handles = old.handles; cells = old.cells; objects = c.insert.new.self; scopes = old.scopes } in
+    let new : Draft = record { handles = old.handles; cells = old.cells; objects = c.insert.new.self } in
     let change : Change = TurnHusk c.args.object in
     on_ok c.insert.result c.insert.ensures.ok (λ put.
     changes old.objects.counts old.objects.counts (drafted old) change c.requires.can c.requires.counted (no_more old.objects.counts (gained change) (λ w. refl)) old new refl
