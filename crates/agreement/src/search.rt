@@ -1,6 +1,6 @@
 //! Heaps of one replay compared with those of another: the trail to a difference that was found before is followed first, and then the
 //! objects are looked at where they may differ.
-ghost use Rattle.std.specs.Prelude.{IfOk, IfSome, OnOk, IsTrue};
+ghost use Rattle.std.specs.Prelude.{◌≡◌, false, IfOk, IfSome, OnOk, IsTrue};
 ghost use Rattle.ownership_model.specs.Agrees.{HaveSameRoots};
 ghost use Rattle.ownership_model.specs.Touched.{AgreeOutside};
 ghost use Rattle.agreement.specs.Agreement.{Agree};
@@ -26,10 +26,8 @@ pub enum Meeting {
     Alike(Remains),
 }
 
-/// Whether a trail is kept that still leads to a difference: then the heaps don't agree, and no comparison is needed.
-///
-/// Looks at no more objects than the trail has, and takes no memory.
-pub fn is_refuted(seen: &Option<Trail>, new: &Heap, old: &Heap) -> bool
+// Whether a trail is kept that still leads to a difference.
+fn is_refuted(seen: &Option<Trail>, new: &Heap, old: &Heap) -> bool
     ensures { IsTrue result → ¬ (Agree new.now old.now) }
 {
     match seen {
@@ -38,7 +36,28 @@ pub fn is_refuted(seen: &Option<Trail>, new: &Heap, old: &Heap) -> bool
     }
 }
 
-/// As `meet_among`, of heaps of which nothing is known: all objects are suspects, unless the trail still refutes an agreement.
+/// Whether the heaps are told apart where no suspect is asked: by the trail that is kept, or else by their handles, cells and scopes. Where
+/// these differ the trail is replaced by one to a difference there, so that it leads on.
+pub fn are_told_apart(
+    alloc: Global,
+    new: &Heap,
+    old: &Heap,
+    seen: &mut Option<Trail>,
+) -> Result<bool, AllocError>
+    ensures apart { IfOk result (λ told. IsTrue told → ¬ (Agree new.now old.now)) }
+    ensures roots { IfOk result (λ told. told ≡ false → HaveSameRoots new.now old.now) }
+{
+    if is_refuted(seen, new, old) {
+        return Ok(true);
+    }
+    if new.same_roots(old) {
+        return Ok(false);
+    }
+    *seen = trail_to_root(alloc, new, old)?;
+    Ok(true)
+}
+
+/// As `meet_among`, of heaps of which nothing is known: all objects are suspects, unless they are told apart before.
 pub fn meet(
     alloc: Global,
     new: &Heap,
@@ -47,20 +66,18 @@ pub fn meet(
 ) -> Result<Meeting, AllocError>
     ensures { IfOk result (Meets new.now old.now) }
 {
-    if is_refuted(seen, new, old) {
+    let told = are_told_apart(alloc, new, old, seen)?;
+    if told {
         return Ok(Meeting::Apart);
     }
     let mut suspects = Suspects::of_both(alloc, new, old)?;
-    meet_among(alloc, new, old, &mut suspects, seen)
+    meet_rooted(alloc, new, old, &mut suspects, seen)
 }
 
 /// Compares a new heap with an old one that differs from it at most at the suspects.
 ///
-/// Where the trail still leads to a difference nothing else is looked at. Where the roots are the same the suspects are settled: those
-/// that are the same in both are dropped. With none left the heaps are the same; with one that is surely reached they don't agree, and
-/// it is the trail from now on; and where those left, with all that differs with them, are an island, they agree but for it. Beside
-/// comparing the roots the work is, up to here, that of the suspects and of their fields. Else the trail is replaced by one to a
-/// difference, if any is found: then they don't agree. Only where none is found all that can be reached is compared.
+/// Where the trail still leads to a difference nothing else is looked at. Where the roots are the same `meet_rooted` compares them. Else
+/// they don't agree, and the trail is replaced by one to a difference there, if any is found.
 pub fn meet_among(
     alloc: Global,
     new: &Heap,
@@ -72,14 +89,34 @@ pub fn meet_among(
     ensures meets { IfOk result (Meets new.now old.now) }
     ensures outside { OnOk result (AgreeOutside suspects.new new.now old.now) }
 {
-    if is_refuted(seen, new, old) {
+    let told = are_told_apart(alloc, new, old, seen)?;
+    if told {
         return Ok(Meeting::Apart);
     }
-    if new.same_roots(old) {
-        suspects.settle(alloc, new, old)?;
-        if let Some(meeting) = told_by(alloc, new, old, suspects.as_slice(), seen)? {
-            return Ok(meeting);
-        }
+    meet_rooted(alloc, new, old, suspects, seen)
+}
+
+/// Compares a new heap with an old one that has the same roots and differs from it at most at the suspects.
+///
+/// The suspects are settled: those that are the same in both are dropped. With none left the heaps are the same; with one that is surely
+/// reached they don't agree, and it is the trail from now on; and where those left, with all that differs with them, are an island, they
+/// agree but for it. The work is, up to here, that of the suspects and of their fields. Else the trail is replaced by one to a
+/// difference, if any is found: then they don't agree. Only where none is found all that can be reached is compared.
+pub fn meet_rooted(
+    alloc: Global,
+    new: &Heap,
+    old: &Heap,
+    suspects: &mut Suspects,
+    seen: &mut Option<Trail>,
+) -> Result<Meeting, AllocError>
+    requires roots { HaveSameRoots new.now old.now }
+    requires outside { AgreeOutside suspects.old new.now old.now }
+    ensures meets { IfOk result (Meets new.now old.now) }
+    ensures outside { OnOk result (AgreeOutside suspects.new new.now old.now) }
+{
+    suspects.settle(alloc, new, old)?;
+    if let Some(meeting) = told_by(alloc, new, old, suspects.as_slice(), seen)? {
+        return Ok(meeting);
     }
     meet_by_search(alloc, new, old, seen)
 }
@@ -118,7 +155,7 @@ fn meet_by_search(
 ) -> Result<Meeting, AllocError>
     ensures { IfOk result (Meets new.now old.now) }
 {
-    *seen = trail_between(alloc, new, old)?;
+    *seen = differing_object(alloc, new, old)?;
     if is_refuted(seen, new, old) {
         return Ok(Meeting::Apart);
     }
@@ -128,11 +165,8 @@ fn meet_by_search(
     }
 }
 
-// A trail to a difference, if one is found: any will do.
-fn trail_between(alloc: Global, new: &Heap, old: &Heap) -> Result<Option<Trail>, AllocError> {
-    if new.same_roots(old) {
-        return differing_object(alloc, new, old);
-    }
+// A trail to a difference of the roots, if one is found: any will do.
+fn trail_to_root(alloc: Global, new: &Heap, old: &Heap) -> Result<Option<Trail>, AllocError> {
     if let Some(trail) = differing_root(alloc, new, new, old)? {
         return Ok(Some(trail));
     }

@@ -1,6 +1,7 @@
 //! Where a replay and the old run beside it may differ.
-ghost use Rattle.std.specs.Prelude.{◌≡◌, ◌≤◌, IfOk, OnOk, IsTrue, length, take};
+ghost use Rattle.std.specs.Prelude.{◌≡◌, ◌≤◌, false, IfOk, OnOk, IsTrue, length, take};
 ghost use Rattle.ownership_model.specs.State.{State, nothing_held};
+ghost use Rattle.ownership_model.specs.Agrees.{HaveSameRoots};
 ghost use Rattle.agreement.specs.Agreement.{Agree};
 ghost use Rattle.agreement.specs.Meeting.{Meets};
 ghost use Rattle.run_engine.specs.OldRun.{new_trace};
@@ -11,7 +12,7 @@ ghost use Rattle.run_engine.specs.declared.replay.revision.Revision.{Revision};
 use crate::replay::progress::{Joint, Progress};
 use crate::replay::revision::Revision;
 use crate::segments::blocks::Segments;
-use agreement::{Meeting, Suspects, Trail, is_refuted, meet, meet_among};
+use agreement::{Meeting, Suspects, Trail, are_told_apart, meet, meet_rooted};
 use object_heap::Heap;
 use std::alloc::{AllocError, Global};
 
@@ -92,22 +93,25 @@ impl Divergence {
         Ok(())
     }
 
-    /// Whether the trail to a difference that was found still leads to one: then the heaps don't agree, wherever else they differ.
-    pub fn is_refuted(&self, new: &Heap, old: &Heap) -> bool
-        ensures { IsTrue result → ¬ (Agree new.now old.now) }
+    /// Whether the heaps are told apart where no suspect is asked: by the trail, or else by their handles, cells and scopes.
+    pub fn tells_apart(&mut self, alloc: Global, new: &Heap, old: &Heap) -> Result<bool, AllocError>
+        ensures apart { IfOk result (λ told. IsTrue told → ¬ (Agree new.now old.now)) }
+        ensures roots { IfOk result (λ told. told ≡ false → HaveSameRoots new.now old.now) }
+        ensures known { (r : Revision) → IsDivergence r self.old → IsDivergence r self.new }
     {
-        is_refuted(&self.trail, new, old)
+        are_told_apart(alloc, new, old, &mut self.trail)
     }
 
-    /// Compares a heap with an old one, by the suspects where those are known.
+    /// Compares a heap with an old one that has the same roots, by the suspects where those are known.
     pub fn meet(&mut self, alloc: Global, new: &Heap, old: &Heap) -> Result<Meeting, AllocError>
-        requires { DifferWithin self.old new.now old.now }
+        requires roots { HaveSameRoots new.now old.now }
+        requires known { DifferWithin self.old new.now old.now }
         ensures meets { IfOk result (Meets new.now old.now) }
         ensures known { OnOk result (HasCompared self.old self.new new.now old.now) }
     {
         match &mut self.suspects {
             None => meet(alloc, new, old, &mut self.trail),
-            Some(suspects) => meet_among(alloc, new, old, suspects, &mut self.trail),
+            Some(suspects) => meet_rooted(alloc, new, old, suspects, &mut self.trail),
         }
     }
 }

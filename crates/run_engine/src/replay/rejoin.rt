@@ -3,6 +3,7 @@ ghost use Rattle.std.specs.Prelude.{◌≡◌, ◌↔◌, ◌≤◌, ℕ, length
 ghost use Rattle.trace_types.specs.Trace.{has_distinct_numbers};
 ghost use Rattle.ownership_model.specs.State.{nothing_held};
 ghost use Rattle.ownership_model.specs.Step.{end_from, AreUnused};
+ghost use Rattle.ownership_model.specs.Agrees.{HaveSameRoots};
 ghost use Rattle.agreement.specs.Agreement.{Agree};
 ghost use Rattle.run_engine.specs.Divergence.{IsJoint, DifferWithin, IsDivergence, HasCompared};
 ghost use Rattle.run_engine.specs.OldRun.{old_trace, new_trace, rest_of};
@@ -35,8 +36,8 @@ pub struct OldMark<'a> {
 /// The rest of the old run from one of its checkpoints on, and its end, as they follow the front of a replay, where its heap agrees with
 /// the checkpoint.
 ///
-/// While the trail to a difference refutes that they agree, no outcome is gone over: the divergence stays where it stands. Else it catches
-/// up over all that was passed since, and they are compared.
+/// While the trail to a difference, or handles, cells or scopes tell them apart, no outcome is gone over: the divergence stays where it
+/// stands. Else it catches up over all that was passed since, and they are compared.
 pub fn rejoined_at(
     alloc: Global,
     revision: &Revision,
@@ -69,7 +70,8 @@ pub fn rejoined_at(
     ensures known { OnOk result (IsDivergence revision.now divergence.new) }
 {
     let kept = old.mark.heap(alloc)?;
-    if divergence.is_refuted(&progress.front.end, &kept) {
+    let told = divergence.tells_apart(alloc, &progress.front.end, &kept)?;
+    if told {
         return Ok(None);
     }
     divergence.catch_up(alloc, revision, progress, old.index, old.at)?;
@@ -82,7 +84,8 @@ pub fn rejoined_at(
     Ok(found)
 }
 
-/// The rest of an old run and its end, as they follow the heap of a replay, where it agrees with the old heap that the rest begins with.
+/// The rest of an old run and its end, as they follow the heap of a replay, where it agrees with the old heap that the rest begins with,
+/// which has the same roots.
 /// The outcomes are those of the old run, and shared.
 ///
 /// The divergence tells where the two heaps may differ, if that is known.
@@ -98,6 +101,7 @@ pub fn rejoined(
     requires distinct { IsTrue (has_distinct_numbers (trace_of (rest_of rest.now))) }
     requires unused { AreUnused heap.now (trace_of (rest_of rest.now)) }
     requires old_unused { AreUnused kept.now (trace_of (rest_of rest.now)) }
+    requires roots { HaveSameRoots heap.now kept.now }
     requires known { DifferWithin divergence.old heap.now kept.now }
     ensures answer { IfOk result (λ o. IsTrue (is_some o) ↔ Agree heap.now kept.now) }
     ensures run { IfOk result (λ o. IfSome o (λ r. IsRunFrom heap.now r.0 r.1)) }
