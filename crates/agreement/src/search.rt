@@ -37,7 +37,7 @@ fn is_refuted(seen: &Option<Trail>, new: &Heap, old: &Heap) -> bool
 }
 
 /// Whether the heaps are told apart where no suspect is asked: by the trail that is kept, or else by their handles, cells and scopes. Where
-/// these differ the trail is replaced by one to a difference there, so that it leads on.
+/// these differ the trail leads to a difference there from now on.
 pub fn are_told_apart(
     alloc: Global,
     new: &Heap,

@@ -66,7 +66,7 @@ fn other_heaps_have_other_sums(rt: HostRuntime) -> Result<(), Fail> {
 }
 
 // What each way made is undone by other operations, or made again in another order.
-const SAME: [(&str, &str); 9] = [
+const SAME: [(&str, &str); 11] = [
     (
         "",
         "{\"from\":1,\"id\":4,\"op\":\"clone\",\"t\":3,\"to\":3}\n{\"h\":3,\"id\":5,\"op\":\"drop\",\"t\":0}\n",
@@ -103,6 +103,16 @@ const SAME: [(&str, &str); 9] = [
     (
         "{\"id\":4,\"op\":\"null\",\"t\":0,\"to\":5}\n{\"id\":5,\"op\":\"null\",\"t\":1,\"to\":3}\n",
         "{\"id\":4,\"op\":\"null\",\"t\":0,\"to\":3}\n{\"id\":5,\"op\":\"null\",\"t\":0,\"to\":4}\n{\"id\":6,\"op\":\"null\",\"t\":0,\"to\":5}\n{\"h\":4,\"id\":7,\"op\":\"drop\",\"t\":0}\n{\"h\":3,\"id\":8,\"op\":\"drop\",\"t\":0}\n{\"id\":9,\"op\":\"null\",\"t\":1,\"to\":3}\n",
+    ),
+    // a cell that is set again
+    (
+        "{\"id\":4,\"op\":\"null\",\"t\":0,\"to\":3}\n{\"c\":3,\"from\":3,\"id\":5,\"op\":\"cell_new\",\"t\":0}\n",
+        "{\"from\":2,\"id\":4,\"op\":\"clone\",\"t\":0,\"to\":3}\n{\"c\":3,\"from\":3,\"id\":5,\"op\":\"cell_new\",\"t\":0}\n{\"id\":6,\"op\":\"null\",\"t\":0,\"to\":3}\n{\"c\":3,\"from\":3,\"id\":7,\"op\":\"cell_swap\",\"t\":0}\n",
+    ),
+    // a husk that its last `Weak` frees
+    (
+        "",
+        "{\"fields\":[],\"id\":4,\"op\":\"new\",\"t\":0,\"to\":3}\n{\"from\":3,\"id\":5,\"op\":\"downgrade\",\"t\":0,\"to\":4}\n{\"h\":3,\"id\":6,\"op\":\"drop\",\"t\":0}\n{\"h\":4,\"id\":7,\"op\":\"drop\",\"t\":0}\n",
     ),
 ];
 

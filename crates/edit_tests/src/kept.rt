@@ -158,6 +158,22 @@ fn chunk_behind_a_checkpoint_given_up(rt: HostRuntime) -> Result<(), Fail> {
     Ok(())
 }
 
+// Of the three chunks that an edit steps a shelf with room for two keeps the last ones: only the first is stepped again.
+#[test]
+fn last_chunks_of_an_edit_stay(rt: HostRuntime) -> Result<(), Fail> {
+    let alloc = rt.alloc();
+    let mut trace = Trace::new(alloc);
+    add(&mut trace, 1, new(alloc, 0, &[])?)?;
+    add_pairs(alloc, &mut trace, 2, 160)?;
+    let run = run_of(alloc, trace)?;
+    let mut shelf = MarkShelf::new(alloc, 8, 2, 8)?;
+    for due in [160u64, 64].iter() {
+        let (_, steps) = over(alloc, &run, first_made(alloc, 0)?, &mut shelf)?;
+        assert_eq!(rt; steps, *due);
+    }
+    Ok(())
+}
+
 // The operation makes a Weak to no allocation in place of a null pointer.
 fn dangling(id: u32) -> Result<Edit, Fail> {
     change(id, Kind::WeakNew { to: 0 })

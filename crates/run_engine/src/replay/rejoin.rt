@@ -85,8 +85,7 @@ pub fn rejoined_at(
 }
 
 /// The rest of an old run and its end, as they follow the heap of a replay, where it agrees with the old heap that the rest begins with,
-/// which has the same roots.
-/// The outcomes are those of the old run, and shared.
+/// which has the same roots. The outcomes are those of the old run, and shared.
 ///
 /// The divergence tells where the two heaps may differ, if that is known.
 pub fn rejoined(
