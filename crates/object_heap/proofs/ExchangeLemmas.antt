@@ -86,7 +86,7 @@ pub cut_entry : (d : Draft) (mid new : TableView) (o : ℕ) → new ≡ record {
     → drafted (record { handles = d.handles; cells = d.cells; objects = new }) ≡ without_object (drafted d) o
 cut_entry d mid new o cut stay =
     let is : new.entries ≡ remove d.objects.entries o = ap (λ (t : TableView). t.entries) cut ∙ ap (λ es. remove es o) stay in
-    λ i. record { handles = d.handles.held; cells = d.cells; objects = is i; scopes = d.handles.scopes }
+    λ i. record { handles = d.handles.holdings; cells = d.cells; objects = is i; scopes = d.handles.scopes }
 
 pub still_counted : (mid new : TableView) (es : FinMap nat_cmp Entry) (m : State) → new ≡ record { entries = es; counts = mid.counts } → IsCounted mid.counts m [] → IsCounted new.counts m []
 still_counted mid new es m is counted = subst (λ (t : TableView). IsCounted t.counts m []) (sym is) counted

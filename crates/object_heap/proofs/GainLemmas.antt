@@ -43,14 +43,14 @@ either_way (Err e) p q f g = g q
 
 -- the counters of a draft are no part of its state
 pub same_state : (d : Draft) (t : TableView) → t.entries ≡ d.objects.entries → drafted (record { handles = d.handles; cells = d.cells; objects = t }) ≡ drafted d
-same_state d t same = λ i. record { handles = d.handles.held; cells = d.cells; objects = same i; scopes = d.handles.scopes }
+same_state d t same = λ i. record { handles = d.handles.holdings; cells = d.cells; objects = same i; scopes = d.handles.scopes }
 
 -- something else stands for an object, and the counters stay
 pub put_entry : (d : Draft) (mid new : TableView) (o : ℕ) (e f : Entry) → new ≡ record { entries = insert mid.entries o e; counts = mid.counts } → mid.entries ≡ d.objects.entries → e ≡ f
-    → drafted (record { handles = d.handles; cells = d.cells; objects = new }) ≡ record { handles = d.handles.held; cells = d.cells; objects = insert d.objects.entries o f; scopes = d.handles.scopes }
+    → drafted (record { handles = d.handles; cells = d.cells; objects = new }) ≡ record { handles = d.handles.holdings; cells = d.cells; objects = insert d.objects.entries o f; scopes = d.handles.scopes }
 put_entry d mid new o e f put stay same =
     let is : new.entries ≡ insert d.objects.entries o f = ap (λ (t : TableView). t.entries) put ∙ (λ i. insert (stay i) o (same i)) in
-    λ i. record { handles = d.handles.held; cells = d.cells; objects = is i; scopes = d.handles.scopes }
+    λ i. record { handles = d.handles.holdings; cells = d.cells; objects = is i; scopes = d.handles.scopes }
 
 pub still_more : (mid new : TableView) (more : FinMap nat_cmp Counters) (es : FinMap nat_cmp Entry) (g : (Slot → ℕ) → ℕ) → new ≡ record { entries = es; counts = mid.counts } → CountsMore mid.counts more g → CountsMore new.counts more g
 still_more mid new more es g is it = subst (λ (t : TableView). CountsMore t.counts more g) (sym is) it

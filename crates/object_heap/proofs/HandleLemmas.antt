@@ -104,12 +104,12 @@ module _ (m : FinMap nat_cmp Held) (last : FinMap nat_cmp ℕ) (none : m ≡ emp
       let x = linked_as (places_of m) empty last empty [] (ap places_of none ∙ part-empty (λ (x : Held). Some x.place)) no_last empty_linked in
       linked_to (places_of m) last [] (scopes_at (places_of m) last) (sym (viewed (places_of m) last [] x)) x
 
-  pub nothing_seen : handles_of m last ≡ record { held = empty; scopes = [] }
+  pub nothing_seen : handles_of m last ≡ record { holdings = empty; scopes = [] }
   nothing_seen =
       let x = linked_as (places_of m) empty last empty [] (ap places_of none ∙ part-empty (λ (x : Held). Some x.place)) no_last empty_linked in
       let held : holdings_of m ≡ empty = ap holdings_of none ∙ part-empty (λ (x : Held). Some x.holding) in
       let scopes : scopes_at (places_of m) last ≡ [] = viewed (places_of m) last [] x in
-      λ i. record { held = held i; scopes = scopes i }
+      λ i. record { holdings = held i; scopes = scopes i }
 
 -- ---- trees of which the same is seen are the same
 held_is : (a b : Option Held) → holding_at a ≡ holding_at b → place_at a ≡ place_at b → a ≡ b
@@ -130,15 +130,15 @@ same_kept a b h p = same_map nat_cmp_total nat_cmp-IsAntisymmetric a b (λ q.
 pub same_seen : (a b : FinMap nat_cmp Held) (la lb : FinMap nat_cmp ℕ) → AreLinked (places_of a) la (scopes_at (places_of a) la) → AreLinked (places_of b) lb (scopes_at (places_of b) lb) → handles_of a la ≡ handles_of b lb → (a ≡ b) × (la ≡ lb)
 same_seen a b la lb x y same =
     let trees = same_trees (places_of a) (places_of b) la lb x y (ap (λ (v : HandlesView). v.scopes) same) in
-    (same_kept a b (ap (λ (v : HandlesView). v.held) same) trees.0, trees.1)
+    (same_kept a b (ap (λ (v : HandlesView). v.holdings) same) trees.0, trees.1)
 
 -- ---- what is found by what is kept
 module _ (m : FinMap nat_cmp Held) (last : FinMap nat_cmp ℕ) (v : HandlesView) (view : handles_of m last ≡ v) (linked : AreLinked (places_of m) last (scopes_at (places_of m) last)) where
   pub linked_seen : AreLinked (places_of m) last v.scopes
   linked_seen = linked_to (places_of m) last (scopes_at (places_of m) last) v.scopes (ap (λ (w : HandlesView). w.scopes) view) linked
 
-  pub holding_found : (q : ℕ) (x : Option Held) → get m q ≡ x → holding_at x ≡ get v.held q
-  holding_found q x is = ap holding_at (sym is) ∙ sym (holding_seen m q) ∙ ap (λ (w : HandlesView). get w.held q) view
+  pub holding_found : (q : ℕ) (x : Option Held) → get m q ≡ x → holding_at x ≡ get v.holdings q
+  holding_found q x is = ap holding_at (sym is) ∙ sym (holding_seen m q) ∙ ap (λ (w : HandlesView). get w.holdings q) view
 
   pub earlier_found : (q : ℕ) (x : Option Held) → get m q ≡ x → earlier_at (place_at x) ≡ earlier_in q v.scopes
   earlier_found q x is = ap (λ (o : Option Held). earlier_at (place_at o)) (sym is) ∙ ap earlier_at (sym (place_seen m q)) ∙ earlier_linked (places_of m) last v.scopes linked_seen q
@@ -147,7 +147,7 @@ module _ (m : FinMap nat_cmp Held) (last : FinMap nat_cmp ℕ) (v : HandlesView)
   pub stands_nowhere : (q : ℕ) → get m q ≡ None → times_in q v.scopes ≡ 0
   stands_nowhere q none = absent (places_of m) last v.scopes q (times_in q v.scopes) linked_seen (place_seen m q ∙ ap place_at none) refl
 
-  pub kept_none : (q : ℕ) → get v.held q ≡ None → get m q ≡ None
+  pub kept_none : (q : ℕ) → get v.holdings q ≡ None → get m q ≡ None
   kept_none q none = of (get m q) (holding_found q (get m q) refl ∙ none)
     where
       of : (o : Option Held) → holding_at o ≡ None → o ≡ None
@@ -155,7 +155,7 @@ module _ (m : FinMap nat_cmp Held) (last : FinMap nat_cmp ℕ) (v : HandlesView)
       of (Some x) e = absurd cc
 
   -- a handle that held nothing entered the scope of a label
-  pub entered_kept : (new : FinMap nat_cmp Held) (new_last : FinMap nat_cmp ℕ) (t h : ℕ) (o : Option ℕ) → o ≡ get last t → get v.held h ≡ None
+  pub entered_kept : (new : FinMap nat_cmp Held) (new_last : FinMap nat_cmp ℕ) (t h : ℕ) (o : Option ℕ) → o ≡ get last t → get v.holdings h ≡ None
       → places_of new ≡ insert (relinked_later (places_of m) o (Some h)) h (record { label = t; earlier = o; later = None }) → new_last ≡ insert last t h → AreLinked (places_of new) new_last (entered t h v.scopes)
   entered_kept new new_last t h o is none places lasts =
       linked_as (places_of new) (insert (relinked_later (places_of m) o (Some h)) h (record { label = t; earlier = o; later = None })) new_last (insert last t h) (entered t h v.scopes) places lasts
@@ -172,11 +172,11 @@ module _ (m : FinMap nat_cmp Held) (last : FinMap nat_cmp ℕ) (v : HandlesView)
   pub scopes_stay : (h : ℕ) → get m h ≡ None → v.scopes ≡ left h v.scopes
   scopes_stay h none = sym (left_same (places_of m) last v.scopes h linked_seen (place_seen m h ∙ ap place_at none))
 
-  pub held_stays : (h : ℕ) → get m h ≡ None → v.held ≡ remove v.held h
-  held_stays h none = same_map nat_cmp_total nat_cmp-IsAntisymmetric v.held (remove v.held h) (λ q. of q (h == q) refl ∙ sym (get_removed v.held h q))
+  pub held_stays : (h : ℕ) → get m h ≡ None → v.holdings ≡ remove v.holdings h
+  held_stays h none = same_map nat_cmp_total nat_cmp-IsAntisymmetric v.holdings (remove v.holdings h) (λ q. of q (h == q) refl ∙ sym (get_removed v.holdings h q))
     where
-      of : (q : ℕ) (b : Bool) → (h == q) ≡ b → get v.held q ≡ (if b then None else get v.held q)
-      of q true is = ap (get v.held) (sym (same_number h q is)) ∙ sym (holding_found h None none)
+      of : (q : ℕ) (b : Bool) → (h == q) ≡ b → get v.holdings q ≡ (if b then None else get v.holdings q)
+      of q true is = ap (get v.holdings) (sym (same_number h q is)) ∙ sym (holding_found h None none)
       of q false is = refl
 
   -- a handle that holds something else stands where it stood
@@ -184,5 +184,5 @@ module _ (m : FinMap nat_cmp Held) (last : FinMap nat_cmp ℕ) (v : HandlesView)
     pub linked_still : AreLinked (places_of new) last v.scopes
     linked_still = linked_as (places_of new) (places_of m) last last v.scopes (ap places_of is ∙ places_stay m h x y here same) refl linked_seen
 
-    pub scopes_kept : (t : ℕ) → v.scopes ≡ kept_or_entered (get v.held h) t h v.scopes
+    pub scopes_kept : (t : ℕ) → v.scopes ≡ kept_or_entered (get v.holdings h) t h v.scopes
     scopes_kept t = ap (λ (o : Option Holding). kept_or_entered o t h v.scopes) (holding_found h (Some x) here)

@@ -11,7 +11,7 @@ use Rattle.object_heap.specs.TableView.{counters_at}
 
 -- the state that a draft holds: all of it but the counters
 abbrev pub drafted : Draft → State
-drafted d = record { handles = d.handles.held; cells = d.cells; objects = d.objects.entries; scopes = d.handles.scopes }
+drafted d = record { handles = d.handles.holdings; cells = d.cells; objects = d.objects.entries; scopes = d.handles.scopes }
 
 -- the counters count the slots that stand and what is pending
 pub record IsCounted (counts : FinMap nat_cmp Counters) (m : State) (pending : List Item) : Type 0 where

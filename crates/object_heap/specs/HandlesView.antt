@@ -15,7 +15,7 @@ use Rattle.object_heap.specs.TableView.{part}
 
 -- what contracts see of all handles
 pub record HandlesView : Type 0 where
-  pub held : FinMap nat_cmp Holding
+  pub holdings : FinMap nat_cmp Holding
   pub scopes : List Scoped
 
 -- what each handle holds, of what is kept for it
@@ -28,10 +28,10 @@ places_of m = part (λ x. Some x.place) m
 
 -- what contracts see of what is kept, and of the handle made last of each label
 abbrev pub handles_of : FinMap nat_cmp Held → FinMap nat_cmp ℕ → HandlesView
-handles_of m last = record { held = holdings_of m; scopes = scopes_at (places_of m) last }
+handles_of m last = record { holdings = holdings_of m; scopes = scopes_at (places_of m) last }
 
 -- by which a proof tells such apart
 abbrev pub handles_code : Coded HandlesView
 handles_code =
     code_by (FinMap nat_cmp Holding × List Scoped) (coded× (map.code coded_ℕ holding.the_row.coded) (coded_list scoped.the_row.coded))
-    (λ v. (v.held, v.scopes)) (λ p. record { held = p.0; scopes = p.1 }) (λ _. refl)
+    (λ v. (v.holdings, v.scopes)) (λ p. record { holdings = p.0; scopes = p.1 }) (λ _. refl)

@@ -15,7 +15,7 @@ ghost use Rattle.object_heap.specs.Gains.{IsSetAt, ended};
 use crate::counters::hold_item;
 use crate::draft::Draft;
 use crate::object::{Counters, Object, counters_of, entry_of, share_of};
-use crate::summed::added;
+use crate::weight::added;
 use std::alloc::{AllocError, Global};
 use std::collections::VecDeque;
 use trace_types::outcomes::Event;

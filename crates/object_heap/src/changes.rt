@@ -13,7 +13,7 @@ ghost use Rattle.object_heap.specs.Gains.{Changes, CountsMore, HasRoom, HasSlots
 use crate::counters::{hold, hold_all, hold_holding, let_go, let_go_holding, let_go_object};
 use crate::draft::Draft;
 use crate::objects::Objects;
-use crate::summed::added;
+use crate::weight::added;
 use std::alloc::{AllocError, Global};
 use trace_types::sequence::Sequence;
 use trace_types::slots::{Change, Entry, Holding, Slot};
@@ -93,9 +93,9 @@ impl Draft {
     {
         hold(alloc, &mut self.objects, slot)?;
         let held = self.cells.get(cell);
-        let was = added(cell, held);
+        let part = added(cell, held);
         let_go_cell(alloc, &mut self.objects, held)?;
-        self.cells.replace(alloc, cell, was, slot)
+        self.cells.replace(alloc, cell, part, slot)
     }
 
     fn end_cell(&mut self, alloc: Global, cell: u32) -> Result<(), AllocError>
@@ -104,9 +104,9 @@ impl Draft {
         ensures { OnOk result (Changes self.old self.new (change.EndCell cell)) }
     {
         let held = self.cells.get(cell);
-        let was = added(cell, held);
+        let part = added(cell, held);
         let_go_cell(alloc, &mut self.objects, held)?;
-        self.cells.take(alloc, cell, was)
+        self.cells.take(alloc, cell, part)
     }
 
     fn set_field(

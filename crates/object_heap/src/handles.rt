@@ -8,7 +8,7 @@ ghost use Rattle.object_heap.specs.HandlesView.{holdings_of, places_of};
 
 use crate::held::{Earlier, Held, Later};
 use crate::place::Place;
-use crate::weight::{Weigh, placed, scattered};
+use crate::weight::{added, placed};
 use share_tree::ShareTree;
 use std::alloc::{AllocError, Global};
 use std::marker::Model;
@@ -42,7 +42,7 @@ impl Model for Handles {
 impl Handles {
     /// No handle is held.
     pub fn empty() -> Handles
-        ensures { result ≡ record { held = map.empty; scopes = [] } }
+        ensures { result ≡ record { holdings = map.empty; scopes = [] } }
     {
         Handles {
             kept: ShareTree::empty(),
@@ -64,7 +64,7 @@ impl Handles {
 
     /// What a handle holds.
     pub fn get(&self, handle: u32) -> Option<&Holding>
-        ensures { option_copied result ≡ map.get self.now.held handle }
+        ensures { option_copied result ≡ map.get self.now.holdings handle }
     {
         match self.kept.get(handle) {
             Some(held) => Some(&held.holding),
@@ -91,7 +91,7 @@ impl Handles {
 
     /// The handles that are held, rising.
     pub fn keys(&self, alloc: Global) -> Result<Vec<u32>, AllocError>
-        ensures { IfOk result (λ v. v.items ≡ map.keys self.now.held) }
+        ensures { IfOk result (λ v. v.items ≡ map.keys self.now.holdings) }
     {
         self.kept.keys(alloc)
     }
@@ -117,9 +117,9 @@ impl Handles {
         handle: u32,
         holding: Holding,
     ) -> Result<Option<Holding>, AllocError>
-        ensures was { IfOk result (λ was. was ≡ map.get self.old.held handle) }
-        ensures held { OnOk result (self.new.held ≡ map.insert self.old.held handle holding) }
-        ensures scopes { OnOk result (self.new.scopes ≡ kept_or_entered (map.get self.old.held handle) label handle self.old.scopes) }
+        ensures was { IfOk result (λ was. was ≡ map.get self.old.holdings handle) }
+        ensures held { OnOk result (self.new.holdings ≡ map.insert self.old.holdings handle holding) }
+        ensures scopes { OnOk result (self.new.scopes ≡ kept_or_entered (map.get self.old.holdings handle) label handle self.old.scopes) }
     {
         let Some(held) = self.kept.get(handle) else {
             self.enter(alloc, label, handle, holding)?;
@@ -127,7 +127,8 @@ impl Handles {
         };
         let was = held.holding.clone()?;
         let place = held.place;
-        let sum = sum_with(sum_apart(self.sum, handle, &was), handle, &holding);
+        let rest = self.sum.wrapping_sub(added(handle, Some(&was)));
+        let sum = rest.wrapping_add(added(handle, Some(&holding)));
         self.kept.insert(alloc, handle, Held { holding, place })?;
         self.sum = sum;
         Ok(Some(was))
@@ -136,8 +137,8 @@ impl Handles {
     /// A handle is no longer held, and leaves its scope. What it held is told. Where memory runs out it is unspecified which handles are
     /// held.
     pub fn end(&mut self, alloc: Global, handle: u32) -> Result<Option<Holding>, AllocError>
-        ensures was { IfOk result (λ was. was ≡ map.get self.old.held handle) }
-        ensures held { OnOk result (self.new.held ≡ map.remove self.old.held handle) }
+        ensures was { IfOk result (λ was. was ≡ map.get self.old.holdings handle) }
+        ensures held { OnOk result (self.new.holdings ≡ map.remove self.old.holdings handle) }
         ensures scopes { OnOk result (self.new.scopes ≡ left handle self.old.scopes) }
     {
         let Some(held) = self.kept.get(handle) else {
@@ -145,7 +146,8 @@ impl Handles {
         };
         let was = held.holding.clone()?;
         let place = held.place;
-        self.sum = sum_without(sum_apart(self.sum, handle, &was), handle, place);
+        let rest = self.sum.wrapping_sub(added(handle, Some(&was)));
+        self.sum = sum_without(rest, handle, place);
         if let Err(error) = unlink(alloc, &mut self.kept, &mut self.last, handle, place) {
             clear(&mut self.kept, &mut self.last);
             self.sum = 0;
@@ -162,12 +164,12 @@ impl Handles {
         handle: u32,
         holding: Holding,
     ) -> Result<(), AllocError>
-        requires { map.get self.old.held handle ≡ None }
-        ensures held { OnOk result (self.new.held ≡ map.insert self.old.held handle holding) }
+        requires { map.get self.old.holdings handle ≡ None }
+        ensures held { OnOk result (self.new.holdings ≡ map.insert self.old.holdings handle holding) }
         ensures scopes { OnOk result (self.new.scopes ≡ entered label handle self.old.scopes) }
     {
         let earlier = self.last.get(label).copied();
-        let sum = sum_with(self.sum, handle, &holding);
+        let sum = self.sum.wrapping_add(added(handle, Some(&holding)));
         self.sum = sum.wrapping_add(placed(handle, label, earlier));
         let place = Place {
             label,
@@ -192,16 +194,6 @@ fn clear(kept: &mut ShareTree<Held>, last: &mut ShareTree<u32>)
 {
     *kept = ShareTree::empty();
     *last = ShareTree::empty();
-}
-
-// The sum with what a handle holds.
-fn sum_with(sum: u64, handle: u32, holding: &Holding) -> u64 {
-    sum.wrapping_add(scattered(handle, holding.weight()))
-}
-
-// The sum where what a handle holds is left out.
-fn sum_apart(sum: u64, handle: u32, holding: &Holding) -> u64 {
-    sum.wrapping_sub(scattered(handle, holding.weight()))
 }
 
 // The sum where the handle of this place is left out: the one made after it has another one before it.

@@ -145,34 +145,35 @@ impl Objects {
         self.table.remove(alloc, object)
     }
 
-    /// The value of an object is gone, and it has these counters.
+    /// The value of an object is gone, and it has these counters. `part` is what stood there added to the sum.
     pub fn set_husk(
         &mut self,
         alloc: Global,
         object: u32,
-        was: u64,
+        part: u64,
         counters: Counters,
     ) -> Result<(), AllocError>
         ensures entries { OnOk result (self.new.entries ≡ map.insert self.old.entries object Husk) }
         ensures set { OnOk result (IsSetAt self.old.counts self.new.counts object counters) }
     {
         let husk = Object::standing(alloc, Entry::Husk, counters)?;
-        self.table.replace(alloc, object, was, husk)
+        self.table.replace(alloc, object, part, husk)
     }
 
-    /// Nothing stands for an object any more, and it has these counters. Its rank is left: no other object gets its number.
+    /// Nothing stands for an object any more, and it has these counters. `part` is what stood there added to the sum. Its
+    /// rank is left: no other object gets its number.
     pub fn free(
         &mut self,
         alloc: Global,
         object: u32,
-        was: u64,
+        part: u64,
         counters: Counters,
     ) -> Result<(), AllocError>
         ensures entries { OnOk result (self.new.entries ≡ map.remove self.old.entries object) }
         ensures set { OnOk result (IsSetAt self.old.counts self.new.counts object counters) }
     {
         self.table
-            .replace(alloc, object, was, Object::named(counters))
+            .replace(alloc, object, part, Object::named(counters))
     }
 
     /// An object has these counters from now on. What stands for it stays.

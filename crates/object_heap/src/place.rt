@@ -1,4 +1,5 @@
 //! Where a handle stands in its scope.
+
 /// The label of a handle's scope, and the handles made just before and after it, of those still in the scope.
 #[derive(Clone, Copy, Debug, PartialEq, Eq)]
 pub struct Place {

@@ -3,7 +3,7 @@ ghost use Rattle.std.specs.Prelude.{◌≡◌, ◌↔◌, IfOk, OnOk, OnErr, IsT
 ghost use Rattle.std.specs.Option.{option_copied};
 ghost use Rattle.std.specs.FinMap as map;
 
-use crate::weight::{Weigh, scattered};
+use crate::weight::{Weigh, added};
 use share_tree::ShareTree;
 use std::alloc::{AllocError, Global};
 use std::marker::Model;
@@ -71,24 +71,30 @@ impl<V: Drop + Weigh> Summed<V> {
         self.entries.keys(alloc)
     }
 
-    /// Adds an entry, or replaces the value of its key. It is told what the key's entry added to the sum.
-    pub fn replace(&mut self, alloc: Global, key: u32, was: u64, value: V) -> Result<(), AllocError>
+    /// Adds an entry, or replaces the value of its key. `part` is what the key's entry added to the sum.
+    pub fn replace(
+        &mut self,
+        alloc: Global,
+        key: u32,
+        part: u64,
+        value: V,
+    ) -> Result<(), AllocError>
         ensures ok { OnOk result (self.new ≡ map.insert self.old key value) }
         ensures err { OnErr result (self.new ≡ self.old) }
     {
-        let rest = self.sum.wrapping_sub(was);
-        let sum = rest.wrapping_add(scattered(key, value.weight()));
+        let rest = self.sum.wrapping_sub(part);
+        let sum = rest.wrapping_add(added(key, Some(&value)));
         self.entries.insert(alloc, key, value)?;
         self.sum = sum;
         Ok(())
     }
 
-    /// Takes out the entry of a key, if there is one. It is told what it added to the sum.
-    pub fn take(&mut self, alloc: Global, key: u32, was: u64) -> Result<(), AllocError>
+    /// Takes out the entry of a key, if there is one. `part` is what it added to the sum.
+    pub fn take(&mut self, alloc: Global, key: u32, part: u64) -> Result<(), AllocError>
         ensures ok { OnOk result (self.new ≡ map.remove self.old key) }
         ensures err { OnErr result (self.new ≡ self.old) }
     {
-        let rest = self.sum.wrapping_sub(was);
+        let rest = self.sum.wrapping_sub(part);
         self.entries.remove(alloc, key)?;
         self.sum = rest;
         Ok(())
@@ -106,13 +112,5 @@ impl<V: Drop + Weigh> Summed<V> {
     /// A number that equal maps have in common.
     pub fn sum(&self) -> u64 {
         self.sum
-    }
-}
-
-/// What the entry of a key adds to the sum, if there is one.
-pub fn added<V: Weigh>(key: u32, value: Option<&V>) -> u64 {
-    match value {
-        Some(value) => scattered(key, value.weight()),
-        None => 0,
     }
 }

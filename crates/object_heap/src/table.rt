@@ -5,9 +5,8 @@ ghost use Rattle.std.specs.FinMap as map;
 ghost use Rattle.object_heap.specs.TableView.{counters_at, are_zero, kept_at, kept_of, with_entry, minus, plus, AreAmong, HasRoomFor, AreAlike, AllStand};
 ghost use Rattle.object_heap.specs.Gains.{IsSetAt};
 
-use crate::object::{Counters, More, NOTHING, Object, counters_of, entry_of};
-use crate::summed::added;
-use crate::weight::{Weigh, scattered};
+use crate::object::{Counters, More, NOTHING, Object, counters_of, entry_of, share_of};
+use crate::weight::added;
 use share_tree::ShareTree;
 use std::alloc::{AllocError, Global};
 use std::marker::Model;
@@ -64,10 +63,7 @@ impl Table {
     pub fn get(&self, object: u32) -> Option<&Entry>
         ensures { option_copied result ≡ map.get self.now.entries object }
     {
-        match self.kept.get(object) {
-            Some(kept) => kept.entry(),
-            None => None,
-        }
+        entry_of(self.kept(object))
     }
 
     /// What is kept for an object, if anything is.
@@ -81,20 +77,14 @@ impl Table {
     pub fn at(&self, object: u32) -> Result<Object, AllocError>
         ensures { IfOk result (λ x. x ≡ (map.get self.now.entries object, counters_at (map.get self.now.counts object))) }
     {
-        match self.kept.get(object) {
-            Some(kept) => kept.share(),
-            None => Ok(Object::named(NOTHING)),
-        }
+        share_of(self.kept(object))
     }
 
     /// The counters of an object; zeros where none are kept.
     pub fn counters(&self, object: u32) -> Counters
         ensures { result ≡ counters_at (map.get self.now.counts object) }
     {
-        match self.kept.get(object) {
-            Some(kept) => kept.counters(),
-            None => NOTHING,
-        }
+        counters_of(self.kept(object))
     }
 
     /// The numbers of those that stand, rising. All that are named do.
@@ -123,7 +113,7 @@ impl Table {
         ensures err { OnErr result (self.new ≡ self.old) }
     {
         let (rest, counters) = self.rest(object);
-        let sum = rest.wrapping_add(scattered(object, entry.weight()));
+        let sum = rest.wrapping_add(added(object, Some(&entry)));
         let kept = Object::standing(alloc, entry, counters)?;
         store(alloc, &mut self.kept, object, kept)?;
         self.sum = sum;
@@ -141,19 +131,20 @@ impl Table {
         Ok(())
     }
 
-    /// This stands for an object from now on, or nothing, and it has these counters. It is told what stood there added to the sum.
+    /// This stands for an object from now on, or nothing, and it has these counters. `part` is what stood there added to the
+    /// sum.
     pub fn replace(
         &mut self,
         alloc: Global,
         object: u32,
-        was: u64,
+        part: u64,
         kept: Object,
     ) -> Result<(), AllocError>
         ensures entries { OnOk result (self.new.entries ≡ with_entry self.old.entries object kept.0) }
         ensures set { OnOk result (IsSetAt self.old.counts self.new.counts object kept.1) }
         ensures err { OnErr result (self.new ≡ self.old) }
     {
-        let rest = self.sum.wrapping_sub(was);
+        let rest = self.sum.wrapping_sub(part);
         let sum = rest.wrapping_add(added(object, kept.entry()));
         store(alloc, &mut self.kept, object, kept)?;
         self.sum = sum;
@@ -242,13 +233,9 @@ impl Table {
     fn rest(&self, object: u32) -> (u64, Counters)
         ensures { result.1 ≡ counters_at (map.get self.now.counts object) }
     {
-        match self.kept.get(object) {
-            Some(kept) => (
-                self.sum.wrapping_sub(added(object, kept.entry())),
-                kept.counters(),
-            ),
-            None => (self.sum, NOTHING),
-        }
+        let kept = self.kept(object);
+        let part = added(object, entry_of(kept));
+        (self.sum.wrapping_sub(part), counters_of(kept))
     }
 }
 

@@ -56,15 +56,23 @@ fn of_fields(fields: &Sequence<Slot>) -> u64 {
 }
 
 /// What a handle adds to a sum besides what it holds: its scope's label and the handle made before it tell where it stands. Times seven,
-/// so that a place and a holding of one weight add two numbers.
+/// so that it isn't taken for what a holding of the same weight adds.
 pub fn placed(handle: u32, label: u32, earlier: Option<u32>) -> u64 {
     let scope = (label as u64).wrapping_mul(0x1_0000_0000);
     scattered(handle, scope.wrapping_add(of_handle(earlier))).wrapping_mul(7)
 }
 
-/// What a value of this weight adds to a sum from its place. A place is multiplied by another number than fields are, so that one isn't
-/// taken for the other.
-pub fn scattered(place: u32, weight: u64) -> u64 {
+/// What a value adds to a sum from its place; nothing where there is none.
+pub fn added<V: Weigh>(place: u32, value: Option<&V>) -> u64 {
+    match value {
+        Some(value) => scattered(place, value.weight()),
+        None => 0,
+    }
+}
+
+// What a value of this weight adds to a sum from its place. A place is multiplied by another number than fields are, so that one isn't
+// taken for the other.
+fn scattered(place: u32, weight: u64) -> u64 {
     let seed = (place as u64 + 1).wrapping_mul(0xD1B5_4A32_D192_ED03);
     finalized(seed.wrapping_add(weight))
 }

@@ -23,4 +23,4 @@ returns c =
     on_ok c.take.result c.take.ensures.ok (λ is.
     changes old.objects.counts old.objects.counts (drafted old) (EndCell c.args.cell) c.requires.can c.requires.counted (no_more old.objects.counts (gained (EndCell c.args.cell)) (λ w. refl)) old new refl
     (subst (λ (s : Option Slot). CountsMore c.let_go_cell.new.objects.counts old.objects.counts (λ w. option_map_or w s 0)) c.get-held.ensures c.in_ok-let_go_cell.ensures.counts)
-    (λ i. record { handles = old.handles.held; cells = is i; objects = c.in_ok-let_go_cell.ensures.entries i; scopes = old.handles.scopes }))
+    (λ i. record { handles = old.handles.holdings; cells = is i; objects = c.in_ok-let_go_cell.ensures.entries i; scopes = old.handles.scopes }))

@@ -29,4 +29,4 @@ returns c =
     on_ok c.replace.result c.replace.ensures.ok (λ is.
     changes old.objects.counts c.hold.new.objects.counts (drafted old) (SetCell c.args.cell c.args.slot) c.requires.can c.requires.counted c.in_ok-hold.ensures.counts old new refl
     (subst (λ (s : Option Slot). CountsMore c.let_go_cell.new.objects.counts c.hold.new.objects.counts (λ w. option_map_or w s 0)) c.get-held.ensures c.in_ok-let_go_cell.ensures.counts)
-    (λ i. record { handles = old.handles.held; cells = is i; objects = stay i; scopes = old.handles.scopes }))
+    (λ i. record { handles = old.handles.holdings; cells = is i; objects = stay i; scopes = old.handles.scopes }))

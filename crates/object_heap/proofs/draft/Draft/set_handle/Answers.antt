@@ -29,7 +29,7 @@ returns c =
     let same : c.in_ok-copy.copy ≡ c.args.holding.now = search rules in
     on_both c.let_go_held.result c.let_go_held.ensures.counts c.let_go_held.ensures.entries (λ fewer stay.
     let rest = stay ∙ c.in_ok-hold_holding.ensures.entries in
-    let held = c.in_ok-held.ensures.held ∙ (λ i. insert old.handles.held c.args.handle (same i)) in
+    let held = c.in_ok-held.ensures.held ∙ (λ i. insert old.handles.holdings c.args.handle (same i)) in
     changes old.objects.counts c.hold_holding.new.objects.counts (drafted old) (SetHandle c.args.label c.args.handle c.args.holding.now) tt c.requires.counted c.in_ok-hold_holding.ensures.counts old new refl
     (subst (λ (h : Option Holding). CountsMore c.let_go_held.new.objects.counts c.hold_holding.new.objects.counts (λ w. option_map_or (holding_weight w) h 0)) (c.as_ref.ensures.value ∙ c.in_ok-held.ensures.was) fewer)
     (λ i. record { handles = held i; cells = old.cells; objects = rest i; scopes = c.in_ok-held.ensures.scopes i }))

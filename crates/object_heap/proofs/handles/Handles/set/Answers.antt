@@ -44,7 +44,7 @@ pub returns-clause-held : goal.returns-clause-held
 returns-clause-held c =
     let held = c.self.inside in
     ap holdings_of c.in_ok-insert.ensures.ok ∙ holdings_with held.kept c.args.handle (record { holding = c.args.holding; place = c.in-Some.held.now.place })
-    ∙ ap (λ (v : HandlesView). insert v.held c.args.handle c.args.holding) c.self.view_is
+    ∙ ap (λ (v : HandlesView). insert v.holdings c.args.handle c.args.holding) c.self.view_is
 
 pub returns-clause-scopes : goal.returns-clause-scopes
 returns-clause-scopes c =
