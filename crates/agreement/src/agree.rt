@@ -52,9 +52,7 @@ fn agree_on(new: &Heap, old: &Heap, objects: &BTreeSet<u32>) -> bool
 pub fn agree_at(new: &Heap, old: &Heap, object: u32) -> bool
     ensures { IsTrue result ↔ AgreeAt new.now old.now object }
 {
-    is_same_entry(new, old, object)
-        && new.strong(object) == old.strong(object)
-        && new.weak(object) == old.weak(object)
+    is_same_entry(new, old, object) && new.counts(object) == old.counts(object)
 }
 
 /// Whether the same stands for the object in both.

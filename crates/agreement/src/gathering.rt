@@ -12,6 +12,7 @@ use ownership_model::remaining::Remaining;
 use share_tree::ShareTree;
 use std::alloc::{AllocError, Global};
 use std::collections::BTreeSet;
+use trace_types::outcomes::Counts;
 
 /// The objects of a heap that are not in the set.
 pub fn unreached(
@@ -61,10 +62,11 @@ fn push_remaining(
     match heap.object(object) {
         Some(entry) => {
             let copy = entry.clone()?;
+            let Counts { strong, weak, .. } = heap.counts(object);
             let remaining = Remaining {
                 entry: copy,
-                strong: heap.strong(object),
-                weak: heap.weak(object),
+                strong,
+                weak,
             };
             rest.insert(alloc, object, remaining)
         }

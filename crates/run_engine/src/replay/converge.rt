@@ -30,8 +30,8 @@ use std::alloc::{AllocError, Global};
 /// Where the operations begin that both traces end with, in the old trace and in the edited one.
 #[derive(Clone, Copy)]
 pub struct Seam {
-    pub old: usize,
-    pub new: usize,
+    pub base: usize,
+    pub edited: usize,
 }
 
 // How far a replay is to go on, and from where on no old stretch can serve.
@@ -203,8 +203,8 @@ pub fn converge(
     shelf: &mut MarkShelf,
     meter: &mut Meter,
 ) -> Result<Piece, AllocError>
-    requires may { MayGoOn (new_trace revision.now) front seam.new }
-    requires shared { ShareEnd (old_trace revision.now) (new_trace revision.now) seam.old seam.new }
+    requires may { MayGoOn (new_trace revision.now) front seam.edited }
+    requires shared { ShareEnd (old_trace revision.now) (new_trace revision.now) seam.base seam.edited }
     requires begins { take front.len (new_trace revision.now)
         ≡ take front.len (old_trace revision.now) }
     ensures run { IfOk result (λ r. IsRun r.segments r.end) }
@@ -212,12 +212,12 @@ pub fn converge(
     ensures marks { IfOk result (λ r.
         AreMarksLeft (old_trace revision.now) (new_trace revision.now)
         (marks_from 0 front.segments) (old_marks revision.now) (all_marks r.segments)
-        front.len seam.old seam.new shelf.old shelf.new
+        front.len seam.base seam.edited shelf.old shelf.new
         (contains nat_cmp front.gone) (contains nat_cmp r.gone)) }
-    ensures bound { StepsAtMost (old_trace revision.now) (new_trace revision.now) seam.old seam.new
+    ensures bound { StepsAtMost (old_trace revision.now) (new_trace revision.now) seam.base seam.edited
         (old_marks revision.now) front.len meter.old meter.new }
     ensures stepped { IfOk result (λ _.
-        AreStepped (old_trace revision.now) (new_trace revision.now) seam.old seam.new
+        AreStepped (old_trace revision.now) (new_trace revision.now) seam.base seam.edited
         (old_marks revision.now) shelf.old.chunks front.len meter.old meter.new) }
     ensures never_less { meter.old ≤ meter.new }
 {
@@ -227,19 +227,19 @@ pub fn converge(
         base: front.len,
     };
     let mut progress = Progress { front, joint };
-    let (first, mut at) = old.last_from(seam.old);
+    let (first, mut at) = old.last_from(seam.base);
     let mut divergence = Divergence::none(alloc, joint);
     for i in first..old.len() {
         let segment = old.at(i);
-        if at >= seam.old {
+        if at >= seam.base {
             if let Some(mark) = segment.mark() {
                 let leg = Leg {
-                    to: at - seam.old + seam.new,
-                    open: seam.new,
+                    to: at - seam.base + seam.edited,
+                    open: seam.edited,
                 };
                 progress = advance(alloc, revision, progress, leg, shelf, meter)?;
-                let place = OldMark { index: i, at, mark };
-                let found = rejoined_at(alloc, revision, &progress, &place, &mut divergence)?;
+                let old_mark = OldMark { index: i, at, mark };
+                let found = rejoined_at(alloc, revision, &progress, &old_mark, &mut divergence)?;
                 if let Some((rest, end)) = found {
                     let mut front = progress.front;
                     touch_at(revision.ops, front.len, shelf, &mut front.gone)?;
@@ -252,7 +252,7 @@ pub fn converge(
     }
     let leg = Leg {
         to: revision.ops.len(),
-        open: seam.new,
+        open: seam.edited,
     };
     let progress = advance(alloc, revision, progress, leg, shelf, meter)?;
     Ok(progress.front)

@@ -110,8 +110,8 @@ pub fn resumed(
     let revision = Revision::of(segments, end, ops);
     let front = front(alloc, &revision, first)?;
     let seam = Seam {
-        old: ops.base_len() - last,
-        new: ops.len() - last,
+        base: ops.base_len() - last,
+        edited: ops.len() - last,
     };
     let replay = converge(alloc, &revision, front, seam, shelf, meter)?;
     Ok(replay)

@@ -31,14 +31,14 @@ advance-requires c = record {
   may = record {
     reached = c.loop-i.invariant.beside.reached;
     order = c.loop-i.invariant.place.order;
-    within = moved-within _ _ c.args.seam.old c.args.seam.new c.loop-i.at c.requires.shared (place-within c.args.revision.now.segments.now c.loop-i.i c.loop-i.at c.loop-i.invariant.place.place) c.if-at-seam.true;
+    within = moved-within _ _ c.args.seam.base c.args.seam.edited c.loop-i.at c.requires.shared (place-within c.args.revision.now.segments.now c.loop-i.i c.loop-i.at c.loop-i.invariant.place.place) c.if-at-seam.true;
   };
   joint = c.loop-i.invariant.joint;
 }
 
 pub overflow_add-leg : goal.overflow_add-leg
 overflow_add-leg c =
-    let le : c.loop-i.at - c.args.seam.old + c.args.seam.new ≤ length c.args.revision.now.ops.now.ops = moved-within _ _ c.args.seam.old c.args.seam.new c.loop-i.at c.requires.shared (place-within c.args.revision.now.segments.now c.loop-i.i c.loop-i.at c.loop-i.invariant.place.place) c.if-at-seam.true in
+    let le : c.loop-i.at - c.args.seam.base + c.args.seam.edited ≤ length c.args.revision.now.ops.now.ops = moved-within _ _ c.args.seam.base c.args.seam.edited c.loop-i.at c.requires.shared (place-within c.args.revision.now.segments.now c.loop-i.i c.loop-i.at c.loop-i.invariant.place.place) c.if-at-seam.true in
     omega (arith, c.args.revision.now.holds.trace.few)
 
 pub overflow_add-at : goal.overflow_add-at
@@ -94,7 +94,7 @@ back old ops a b i at x shared place behind there = rest-shared old ops a b i at
 pub rejoined_at-requires-clause-unused : goal.rejoined_at-requires-clause-unused
 rejoined_at-requires-clause-unused c =
     (new-unused c.args.revision.now.ops.now.ops c.in_ok-progress.progress.front.len c.in_ok-progress.progress.front.segments (drop c.loop-i.i c.args.revision.now.segments.now) c.in_ok-progress.progress.front.end c.in_ok-progress.ensures.beside.reached c.args.revision.now.holds.trace.distinct
-    (back c.args.revision.now.segments.now c.args.revision.now.ops.now.ops c.args.seam.old c.args.seam.new c.loop-i.i c.loop-i.at c.in_ok-progress.progress.front.len c.requires.shared c.loop-i.invariant.place.place c.if-at-seam.true c.in_ok-progress.ensures.there))
+    (back c.args.revision.now.segments.now c.args.revision.now.ops.now.ops c.args.seam.base c.args.seam.edited c.loop-i.i c.loop-i.at c.in_ok-progress.progress.front.len c.requires.shared c.loop-i.invariant.place.place c.if-at-seam.true c.in_ok-progress.ensures.there))
 
 -- where the old run goes on it has the operations that are left
 rest-is : (c : goal.Joined-divergence-14) → trace_of c.in-Some-found.rest ≡ trace_of (drop c.loop-i.i c.args.revision.now.segments.now)
@@ -104,16 +104,16 @@ spliced : (c : goal.Joined-divergence-14) → IsSpliced c.args.revision.now.ops.
 spliced c =
     let run : IsRunFrom c.in_ok-progress.progress.front.end c.in-Some-found.rest c.in-Some-found.end = rw c.in-Some-found.is at c.in_ok-found.ensures.run in
     IsSpliced-rest c.args.revision.now.ops.now.ops c.in_ok-progress.progress.front.len c.in_ok-progress.progress.front.segments c.in-Some-found.rest c.in_ok-progress.progress.front.end c.in-Some-found.end c.in_ok-progress.ensures.beside.reached
-    (rest-is c ∙ back c.args.revision.now.segments.now c.args.revision.now.ops.now.ops c.args.seam.old c.args.seam.new c.loop-i.i c.loop-i.at c.in_ok-progress.progress.front.len c.requires.shared c.loop-i.invariant.place.place c.if-at-seam.true c.in_ok-progress.ensures.there)
+    (rest-is c ∙ back c.args.revision.now.segments.now c.args.revision.now.ops.now.ops c.args.seam.base c.args.seam.edited c.loop-i.i c.loop-i.at c.in_ok-progress.progress.front.len c.requires.shared c.loop-i.invariant.place.place c.if-at-seam.true c.in_ok-progress.ensures.there)
     run
 
 -- the heaps agree where the replay stops
-agreed : (c : goal.Joined-divergence-14) → AgreesAt (trace_of c.args.revision.now.segments.now) c.args.revision.now.ops.now.ops c.args.seam.old c.args.seam.new c.loop-i.at
+agreed : (c : goal.Joined-divergence-14) → AgreesAt (trace_of c.args.revision.now.segments.now) c.args.revision.now.ops.now.ops c.args.seam.base c.args.seam.edited c.loop-i.at
 agreed c =
     let m : c.in-Some.mark ≡ end_from nothing_held (trace_of (take c.loop-i.i c.args.revision.now.segments.now)) = mark-is c.args.revision.now.segments.now c.loop-i.i c.at-segment.result c.in-Some.mark c.args.revision.now.holds.kept.run.replay (omega (arith, c.loop-i-test.true, c.len-i-end.ensures)) c.at-segment.ensures c.in-Some.ensures in
-    let there : c.in_ok-progress.progress.front.len ≡ c.loop-i.at - c.args.seam.old + c.args.seam.new = c.in_ok-progress.ensures.there in
+    let there : c.in_ok-progress.progress.front.len ≡ c.loop-i.at - c.args.seam.base + c.args.seam.edited = c.in_ok-progress.ensures.there in
     let agree : Agree c.in_ok-progress.progress.front.end c.in-Some.mark = c.in_ok-found.ensures.answer.0 (ap is_some c.in-Some-found.is) in
-    AgreesAt-here (trace_of c.args.revision.now.segments.now) c.args.revision.now.ops.now.ops c.args.seam.old c.args.seam.new c.loop-i.at c.in_ok-progress.progress.front.end c.in-Some.mark
+    AgreesAt-here (trace_of c.args.revision.now.segments.now) c.args.revision.now.ops.now.ops c.args.seam.base c.args.seam.edited c.loop-i.at c.in_ok-progress.progress.front.end c.in-Some.mark
     (c.in_ok-progress.ensures.beside.reached.state ∙ ap (λ x. end_from nothing_held (take x c.args.revision.now.ops.now.ops)) there) (m ∙ ap (end_from nothing_held) (trace_of-front c.args.revision.now.segments.now c.loop-i.i c.loop-i.at c.loop-i.invariant.place.place)) agree
 
 pub returns-in-Some-found-clause-run : goal.returns-in-Some-found-clause-run
@@ -126,22 +126,22 @@ pub returns-in-Some-found-clause-marks : goal.returns-in-Some-found-clause-marks
 returns-in-Some-found-clause-marks c =
     let old : List SegmentView = c.args.revision.now.segments.now in
     let front : List SegmentView = c.in_ok-progress.progress.front.segments in
-    let there : c.in_ok-progress.progress.front.len ≡ c.loop-i.at - c.args.seam.old + c.args.seam.new = c.in_ok-progress.ensures.there in
+    let there : c.in_ok-progress.progress.front.len ≡ c.loop-i.at - c.args.seam.base + c.args.seam.edited = c.in_ok-progress.ensures.there in
     let marks : (at : ℕ) → marks_from at c.in-Some-found.rest ≡ marks_from at (drop c.loop-i.i c.args.revision.now.segments.now) = rw c.in-Some-found.is at c.in_ok-found.ensures.marks in
     let alike : all_marks (front ++ c.in-Some-found.rest) ≡ all_marks (front ++ drop c.loop-i.i old) =
     all_marks-rest front c.in-Some-found.rest (drop c.loop-i.i old) (rest-is c) marks in
     let trace : trace_of (front ++ drop c.loop-i.i old) ≡ c.args.revision.now.ops.now.ops =
     trace_of-append front (drop c.loop-i.i old) ∙ ap (λ t. trace_of front ++ t) (sym (rest-is c)) ∙ sym (trace_of-append front c.in-Some-found.rest) ∙ (spliced c).trace in
     rw (c.in_ok-spliced.ensures.segments, c.in_ok-spliced.ensures.gone)
-    (left-at-stop c.args.revision.now.segments.now c.args.revision.now.ops.now.ops (marks_from 0 c.args.front.segments) (marks_from 0 c.in_ok-progress.progress.front.segments) _ c.args.seam.old c.args.seam.new c.loop-i.i c.loop-i.at c.args.front.len c.in_ok-progress.progress.front.len c.at-segment.result c.in-Some.mark _ _ _ _ _ _
+    (left-at-stop c.args.revision.now.segments.now c.args.revision.now.ops.now.ops (marks_from 0 c.args.front.segments) (marks_from 0 c.in_ok-progress.progress.front.segments) _ c.args.seam.base c.args.seam.edited c.loop-i.i c.loop-i.at c.args.front.len c.in_ok-progress.progress.front.len c.at-segment.result c.in-Some.mark _ _ _ _ _ _
     c.args.revision.now.holds.trace.distinct (omega (arith, c.loop-i-test.true, c.len-i-end.ensures)) c.at-segment.ensures (sym c.in-Some.ensures) c.loop-i.invariant.place.place c.if-at-seam.true (agreed c) (least-agreeing _ _ _ _ _ _ _ _ _ _ _ _ c.loop-i.invariant.place) there
     (GoesOn-next _ _ _ _ _ _ _ _ _ _ _ _ c.loop-i.invariant.beside c.in_ok-progress.ensures.beside).onward c.in_ok-touch_at.ensures.answered
-    (alike ∙ all_marks-stop c.args.revision.now.segments.now c.in_ok-progress.progress.front.segments c.args.revision.now.ops.now.ops c.args.seam.old c.args.seam.new c.loop-i.i c.loop-i.at c.at-segment.result c.args.revision.now.holds.kept.run.full c.requires.shared (omega (arith, c.loop-i-test.true, c.len-i-end.ensures)) c.at-segment.ensures c.in-Some.mark (sym c.in-Some.ensures)
+    (alike ∙ all_marks-stop c.args.revision.now.segments.now c.in_ok-progress.progress.front.segments c.args.revision.now.ops.now.ops c.args.seam.base c.args.seam.edited c.loop-i.i c.loop-i.at c.at-segment.result c.args.revision.now.holds.kept.run.full c.requires.shared (omega (arith, c.loop-i-test.true, c.len-i-end.ensures)) c.at-segment.ensures c.in-Some.mark (sym c.in-Some.ensures)
     c.loop-i.invariant.place.place c.if-at-seam.true (IsReached-length _ _ _ _ c.in_ok-progress.ensures.beside.reached ∙ there) trace))
 
 pub returns-in-Some-found-clause-stepped : goal.returns-in-Some-found-clause-stepped
 returns-in-Some-found-clause-stepped c =
-    AreStepped-stop (trace_of c.args.revision.now.segments.now) c.args.revision.now.ops.now.ops (all_marks c.args.revision.now.segments.now) c.args.shelf.now.chunks c.args.seam.old c.args.seam.new c.args.front.len c.in_ok-progress.progress.front.len c.loop-i.at c.args.meter.now _ c.in_ok-progress.ensures.there
+    AreStepped-stop (trace_of c.args.revision.now.segments.now) c.args.revision.now.ops.now.ops (all_marks c.args.revision.now.segments.now) c.args.shelf.now.chunks c.args.seam.base c.args.seam.edited c.args.front.len c.in_ok-progress.progress.front.len c.loop-i.at c.args.meter.now _ c.in_ok-progress.ensures.there
     (mark-there c.args.revision.now.segments.now c.loop-i.i c.loop-i.at c.at-segment.result c.in-Some.mark (omega (arith, c.loop-i-test.true, c.len-i-end.ensures)) c.at-segment.ensures (sym c.in-Some.ensures) c.loop-i.invariant.place.place)
     c.if-at-seam.true (agreed c) (GoesOn-steps _ _ _ _ _ _ _ _ _ (GoesOn-next _ _ _ _ _ _ _ _ _ _ _ _ c.loop-i.invariant.beside c.in_ok-progress.ensures.beside))
 
@@ -153,7 +153,7 @@ returns-clause-marks c =
     let there : c.in_ok-progress-2.progress.front.len ≡ length c.args.revision.now.ops.now.ops = c.in_ok-progress-2.ensures.there ∙ c.len.ensures in
     let e = place-end c.args.revision.now.segments.now c.loop-i.i c.loop-i.at (omega (arith, c.loop-i-test.false, c.len-i-end.ensures)) (omega (arith, c.loop-i.auto.i-end (omega (arith, c.last_from-first.ensures.last.within, c.len-i-end.ensures)), c.len-i-end.ensures)) c.loop-i.invariant.place.place in
     let trace : trace_of c.in_ok-progress-2.progress.front.segments ≡ c.args.revision.now.ops.now.ops = (IsSpliced-end c.args.revision.now.ops.now.ops c.in_ok-progress-2.progress.front.len c.in_ok-progress-2.progress.front.segments c.in_ok-progress-2.progress.front.end c.in_ok-progress-2.ensures.beside.reached there).trace in
-    left-at-end c.args.revision.now.segments.now c.args.revision.now.ops.now.ops (marks_from 0 c.args.front.segments) (marks_from 0 c.in_ok-progress-2.progress.front.segments) _ c.args.seam.old c.args.seam.new c.args.front.len c.in_ok-progress-2.progress.front.len c.args.shelf.now c.advance-2.new.shelf _ _
+    left-at-end c.args.revision.now.segments.now c.args.revision.now.ops.now.ops (marks_from 0 c.args.front.segments) (marks_from 0 c.in_ok-progress-2.progress.front.segments) _ c.args.seam.base c.args.seam.edited c.args.front.len c.in_ok-progress-2.progress.front.len c.args.shelf.now c.advance-2.new.shelf _ _
     c.args.revision.now.holds.trace.distinct c.requires.shared
     (λ p mark behind agrees.
     let least : c.loop-i.at ≤ p = least-agreeing _ _ _ _ _ _ _ _ _ _ _ _ c.loop-i.invariant.place p mark behind agrees in
@@ -163,12 +163,12 @@ returns-clause-marks c =
 
 pub returns-clause-stepped : goal.returns-clause-stepped
 returns-clause-stepped c =
-    AreStepped-end (trace_of c.args.revision.now.segments.now) c.args.revision.now.ops.now.ops (all_marks c.args.revision.now.segments.now) c.args.shelf.now.chunks c.args.seam.old c.args.seam.new c.args.front.len c.in_ok-progress-2.progress.front.len c.args.meter.now _ (c.in_ok-progress-2.ensures.there ∙ c.len.ensures)
+    AreStepped-end (trace_of c.args.revision.now.segments.now) c.args.revision.now.ops.now.ops (all_marks c.args.revision.now.segments.now) c.args.shelf.now.chunks c.args.seam.base c.args.seam.edited c.args.front.len c.in_ok-progress-2.progress.front.len c.args.meter.now _ (c.in_ok-progress-2.ensures.there ∙ c.len.ensures)
     (GoesOn-steps _ _ _ _ _ _ _ _ _ (GoesOn-next _ _ _ _ _ _ _ _ _ _ _ _ c.loop-i.invariant.beside c.in_ok-progress-2.ensures.beside))
 
 pub loop-i-init : goal.loop-i-init
 loop-i-init c = record {
-  place = IsBeside-first c.args.revision.now.segments.now c.args.revision.now.ops.now.ops c.args.seam.old c.args.seam.new c.args.front.len c.args.meter.now c.last_from-first.result.0 c.last_from-first.result.1 c.args.front.segments c.args.front.end
+  place = IsBeside-first c.args.revision.now.segments.now c.args.revision.now.ops.now.ops c.args.seam.base c.args.seam.edited c.args.front.len c.args.meter.now c.last_from-first.result.0 c.last_from-first.result.1 c.args.front.segments c.args.front.end
       c.args.revision.now.holds.kept.run.full c.last_from-first.ensures.last.within c.last_from-first.ensures.last.place c.last_from-first.ensures.last.before c.requires.may.reached c.requires.may.order;
   beside = GoesOn-none (trace_of c.args.revision.now.segments.now) c.args.revision.now.ops.now.ops (all_marks c.args.revision.now.segments.now) c.args.front c.args.shelf.now c.args.meter.now c.requires.may.reached;
   joint = ap (end_from nothing_held) c.requires.begins;
@@ -180,14 +180,14 @@ pub returns-in_err-progress-2-clause-bound : goal.returns-in_err-progress-2-clau
 returns-in_err-progress-2-clause-bound c =
     let e = place-end c.args.revision.now.segments.now c.loop-i.i c.loop-i.at (omega (arith, c.loop-i-test.false, c.len-i-end.ensures)) (omega (arith, c.loop-i.auto.i-end (omega (arith, c.last_from-first.ensures.last.within, c.len-i-end.ensures)), c.len-i-end.ensures)) c.loop-i.invariant.place.place in
     let shared = c.requires.shared in
-    let long = ShareEnd-length (trace_of c.args.revision.now.segments.now) c.args.revision.now.ops.now.ops c.args.seam.old c.args.seam.new shared in
+    let long = ShareEnd-length (trace_of c.args.revision.now.segments.now) c.args.revision.now.ops.now.ops c.args.seam.base c.args.seam.edited shared in
     bounded _ _ _ _ _ _ _ _ _ _ _ _ _ c.loop-i.invariant.place shared (omega (arith, shared.old_within)) (omega (arith, long, shared.old_within, shared.within, c.loop-i.invariant.place.rise, c.advance-2.ensures.rise))
 
 pub returns-clause-bound : goal.returns-clause-bound
 returns-clause-bound c =
     let e = place-end c.args.revision.now.segments.now c.loop-i.i c.loop-i.at (omega (arith, c.loop-i-test.false, c.len-i-end.ensures)) (omega (arith, c.loop-i.auto.i-end (omega (arith, c.last_from-first.ensures.last.within, c.len-i-end.ensures)), c.len-i-end.ensures)) c.loop-i.invariant.place.place in
     let shared = c.requires.shared in
-    let long = ShareEnd-length (trace_of c.args.revision.now.segments.now) c.args.revision.now.ops.now.ops c.args.seam.old c.args.seam.new shared in
+    let long = ShareEnd-length (trace_of c.args.revision.now.segments.now) c.args.revision.now.ops.now.ops c.args.seam.base c.args.seam.edited shared in
     bounded _ _ _ _ _ _ _ _ _ _ _ _ _ c.loop-i.invariant.place shared (omega (arith, shared.old_within)) (omega (arith, long, shared.old_within, shared.within, c.loop-i.invariant.place.rise, c.advance-2.ensures.rise))
 
 pub loop-i-preserved : goal.loop-i-preserved
@@ -196,15 +196,15 @@ loop-i-preserved c =
     elim c.if-at-seam.branch [
       | then-at-seam+in-Some+in_ok-progress+in_ok-found+in_default-found w ↦
           let m : w.in-Some.mark ≡ end_from nothing_held (trace_of (take c.loop-i.i c.args.revision.now.segments.now)) = mark-is c.args.revision.now.segments.now c.loop-i.i c.at-segment.result w.in-Some.mark c.args.revision.now.holds.kept.run.replay (omega (arith, c.loop-i-test.true, c.len-i-end.ensures)) c.at-segment.ensures w.in-Some.ensures in
-          let there : w.in_ok-progress.progress.front.len ≡ c.loop-i.at - c.args.seam.old + c.args.seam.new = w.in_ok-progress.ensures.there in
+          let there : w.in_ok-progress.progress.front.len ≡ c.loop-i.at - c.args.seam.base + c.args.seam.edited = w.in_ok-progress.ensures.there in
           let front = w.in_ok-progress.ensures.beside.reached in
           let rise = w.advance.ensures.rise in
           rw (w.progress-is, w.meter-is, w.shelf-is, w.divergence-is, c.ops.ensures)
           (record {
-            place = IsBeside-next c.args.revision.now.segments.now c.args.revision.now.ops.now.ops c.args.seam.old c.args.seam.new c.args.front.len c.args.meter.now c.loop-i.i c.loop-i.at c.loop-i.progress.front.len c.loop-i.progress.front.segments c.loop-i.progress.front.end c.loop-i.meter
+            place = IsBeside-next c.args.revision.now.segments.now c.args.revision.now.ops.now.ops c.args.seam.base c.args.seam.edited c.args.front.len c.args.meter.now c.loop-i.i c.loop-i.at c.loop-i.progress.front.len c.loop-i.progress.front.segments c.loop-i.progress.front.end c.loop-i.meter
                 w.in_ok-progress.progress.front.len w.in_ok-progress.progress.front.segments w.in_ok-progress.progress.front.end w.advance.new.meter c.at-segment.result c.loop-i.invariant.place (omega (arith, c.loop-i-test.true, c.len-i-end.ensures)) c.at-segment.ensures front (omega arith) (omega (arith, c.loop-i.invariant.place.rise, rise))
                 (λ marked behind agrees.
-                let agree : Agree w.in_ok-progress.progress.front.end w.in-Some.mark = AgreesAt-there (trace_of c.args.revision.now.segments.now) c.args.revision.now.ops.now.ops c.args.seam.old c.args.seam.new c.loop-i.at w.in_ok-progress.progress.front.end w.in-Some.mark (front.state ∙ ap (λ x. end_from nothing_held (take x c.args.revision.now.ops.now.ops)) there) (m ∙ ap (end_from nothing_held) (trace_of-front c.args.revision.now.segments.now c.loop-i.i c.loop-i.at c.loop-i.invariant.place.place)) agrees in
+                let agree : Agree w.in_ok-progress.progress.front.end w.in-Some.mark = AgreesAt-there (trace_of c.args.revision.now.segments.now) c.args.revision.now.ops.now.ops c.args.seam.base c.args.seam.edited c.loop-i.at w.in_ok-progress.progress.front.end w.in-Some.mark (front.state ∙ ap (λ x. end_from nothing_held (take x c.args.revision.now.ops.now.ops)) there) (m ∙ ap (end_from nothing_held) (trace_of-front c.args.revision.now.segments.now c.loop-i.i c.loop-i.at c.loop-i.invariant.place.place)) agrees in
                 let t : is_some w.in_ok-found.found ≡ true = w.in_ok-found.ensures.answer.1 agree in
                 let f : is_some w.in_ok-found.found ≡ false = ap is_some w.in_default-found.is in
                 cc);
@@ -216,7 +216,7 @@ loop-i-preserved c =
       | then-at-seam+in_default w ↦
           rw (w.progress-is, w.meter-is, w.shelf-is, w.divergence-is, c.ops.ensures)
           (record {
-            place = IsBeside-next c.args.revision.now.segments.now c.args.revision.now.ops.now.ops c.args.seam.old c.args.seam.new c.args.front.len c.args.meter.now c.loop-i.i c.loop-i.at c.loop-i.progress.front.len c.loop-i.progress.front.segments c.loop-i.progress.front.end c.loop-i.meter
+            place = IsBeside-next c.args.revision.now.segments.now c.args.revision.now.ops.now.ops c.args.seam.base c.args.seam.edited c.args.front.len c.args.meter.now c.loop-i.i c.loop-i.at c.loop-i.progress.front.len c.loop-i.progress.front.segments c.loop-i.progress.front.end c.loop-i.meter
                 c.loop-i.progress.front.len c.loop-i.progress.front.segments c.loop-i.progress.front.end c.loop-i.meter c.at-segment.result c.loop-i.invariant.place (omega (arith, c.loop-i-test.true, c.len-i-end.ensures)) c.at-segment.ensures c.loop-i.invariant.place.front c.loop-i.invariant.place.order c.loop-i.invariant.place.rise
                 (λ marked behind agrees. let f : is_some c.at-segment.result.mark ≡ false = ap is_some (sym w.in_default.ensures) in cc);
             beside = c.loop-i.invariant.beside;
@@ -227,9 +227,9 @@ loop-i-preserved c =
       | else-at-seam w ↦
           rw (w.progress-is, w.meter-is, w.shelf-is, w.divergence-is, c.ops.ensures)
           (record {
-            place = IsBeside-next c.args.revision.now.segments.now c.args.revision.now.ops.now.ops c.args.seam.old c.args.seam.new c.args.front.len c.args.meter.now c.loop-i.i c.loop-i.at c.loop-i.progress.front.len c.loop-i.progress.front.segments c.loop-i.progress.front.end c.loop-i.meter
+            place = IsBeside-next c.args.revision.now.segments.now c.args.revision.now.ops.now.ops c.args.seam.base c.args.seam.edited c.args.front.len c.args.meter.now c.loop-i.i c.loop-i.at c.loop-i.progress.front.len c.loop-i.progress.front.segments c.loop-i.progress.front.end c.loop-i.meter
                 c.loop-i.progress.front.len c.loop-i.progress.front.segments c.loop-i.progress.front.end c.loop-i.meter c.at-segment.result c.loop-i.invariant.place (omega (arith, c.loop-i-test.true, c.len-i-end.ensures)) c.at-segment.ensures c.loop-i.invariant.place.front c.loop-i.invariant.place.order c.loop-i.invariant.place.rise
-                (λ marked behind agrees. let lt : c.loop-i.at < c.args.seam.old = w.if-at-seam.false in omega arith);
+                (λ marked behind agrees. let lt : c.loop-i.at < c.args.seam.base = w.if-at-seam.false in omega arith);
             beside = c.loop-i.invariant.beside;
             joint = c.loop-i.invariant.joint;
             known = c.loop-i.invariant.known;

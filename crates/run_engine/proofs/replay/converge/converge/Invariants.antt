@@ -6,7 +6,7 @@ use Rattle.run_engine.proofs.replay.converge.converge.Given as goal
 
 abbrev pub invariant-loop-i : goal.invariant-loop-i
 invariant-loop-i l = record {
-  place : IsBeside l.revision.segments.now l.revision.ops.now.ops l.seam.old l.seam.new l.fn.front.len l.initial.meter l.i l.at l.progress.front.len l.progress.front.segments l.progress.front.end l.meter;
+  place : IsBeside l.revision.segments.now l.revision.ops.now.ops l.seam.base l.seam.edited l.fn.front.len l.initial.meter l.i l.at l.progress.front.len l.progress.front.segments l.progress.front.end l.meter;
   beside : GoesOnBeside l.revision l.fn.front l.progress.front l.initial.shelf l.shelf l.initial.meter l.meter;
   joint : IsJoint l.revision l.progress.joint;
   known : IsDivergence l.revision l.divergence;
