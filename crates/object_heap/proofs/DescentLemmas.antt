@@ -44,7 +44,7 @@ has_slots-next slots i d o within =
     ∙ has_slots-append o (take i slots) (get_or slots i d ∷ [])
     ∙ ap (λ b. has o (slots_names StrongOrWeak (take i slots)) || b) (has-append o (named StrongOrWeak (get_or slots i d)) [] ∙ no_more (has o (named StrongOrWeak (get_or slots i d))))
 
-one_of : (P : Type 0) (a b : Bool) → (a || b) ≡ true → (a ≡ true → P) → (b ≡ true → P) → P
+pub one_of : (P : Type 0) (a b : Bool) → (a || b) ≡ true → (a ≡ true → P) → (b ≡ true → P) → P
 one_of P true b h f g = f refl
 one_of P false b h f g = g h
 

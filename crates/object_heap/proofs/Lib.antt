@@ -9,6 +9,8 @@ pub mod LinkLemmas
 pub mod ViewLemmas
 pub mod TableLemmas
 pub mod MoreLemmas
+pub mod LessLemmas
+pub mod FieldLemmas
 pub mod EarlierLemmas
 pub mod EnterLemmas
 pub mod NeighbourLemmas

@@ -136,7 +136,7 @@ zeros_are c t =
     λ i. record { strong = sym s i; weak = sym w i; ends = sym e i }
 
 -- whichever way the test of counters goes
-by_zero : (P : Option Counters → Type 0) (c : Counters) → (are_zero c ≡ true → P None) → (are_zero c ≡ false → P (Some c)) → P (if_any c)
+pub by_zero : (P : Option Counters → Type 0) (c : Counters) → (are_zero c ≡ true → P None) → (are_zero c ≡ false → P (Some c)) → P (if_any c)
 by_zero P c zero some = elim (are_zero c) as (λ b. are_zero c ≡ b → P (if b then None else Some c)) [ true ↦ zero | false ↦ some ] refl
 
 any_is : (c : Counters) → counters_at (if_any c) ≡ c

@@ -1,5 +1,5 @@
 //! The changes of a state, with the counts of its slots.
-ghost use Rattle.std.specs.Prelude.{◌≡◌, ◌<◌, OnOk, IfOk, [], length, slice_set};
+ghost use Rattle.std.specs.Prelude.{◌≡◌, OnOk, []};
 ghost use Rattle.std.specs.Option.{option_copied, option_map_or};
 ghost use Rattle.std.specs.FinMap as map;
 ghost use Rattle.trace_types.specs.declared.slots.Change.TheVariants as change;
@@ -12,6 +12,7 @@ ghost use Rattle.object_heap.specs.Gains.{Changes, CountsMore, HasRoom, HasSlots
 
 use crate::counters::{hold, hold_all, hold_holding, let_go, let_go_holding, let_go_object};
 use crate::draft::Draft;
+use crate::object::Field;
 use crate::objects::Objects;
 use crate::weight::added;
 use std::alloc::{AllocError, Global};
@@ -125,10 +126,9 @@ impl Draft {
             unreachable!()
         };
         let old = fields.as_slice()[index as usize];
-        let fields = with_slot(fields, index, slot)?;
         hold(alloc, &mut self.objects, slot)?;
         let_go(alloc, &mut self.objects, old)?;
-        self.objects.insert(alloc, object, Entry::Alive(fields))
+        self.objects.set_field(alloc, object, Field { index, slot })
     }
 
     fn make(
@@ -207,14 +207,4 @@ fn let_go_cell(alloc: Global, objects: &mut Objects, held: Option<&Slot>) -> Res
         Some(slot) => let_go(alloc, objects, *slot),
         None => Ok(()),
     }
-}
-
-// The fields, with this slot at the index.
-fn with_slot(fields: &Sequence<Slot>, index: u32, slot: Slot) -> Result<Sequence<Slot>, AllocError>
-    requires { index < length fields.now }
-    ensures { IfOk result (λ f. f ≡ slice_set fields.now index slot) }
-{
-    let mut slots = fields.clone()?.into_vec();
-    slots[index as usize] = slot;
-    Ok(Sequence::from_vec(slots))
 }

@@ -1,9 +1,9 @@
 //! What is kept for a handle of a heap.
-ghost use Rattle.std.specs.Prelude.{◌≡◌, ◌↔◌, ⊤, IfOk, IsTrue};
+ghost use Rattle.std.specs.Prelude.{◌≡◌, ◌↔◌, ⊤, true, IfOk, IsTrue};
 
 use crate::place::Place;
 use share_tree::Update;
-use std::alloc::AllocError;
+use std::alloc::{AllocError, Global};
 use trace_types::same::Same;
 use trace_types::slots::Holding;
 
@@ -41,15 +41,19 @@ impl Update<Held> for Later {
 
     ghost to = { λ later held. record held { place = record held.place { later = later.0 } } };
 
-    fn update(&self, held: &mut Held) {
+    ghost tells = { λ _ _. true };
+
+    fn update(&self, _alloc: Global, held: &mut Held) -> Result<bool, AllocError> {
         held.place.later = self.0;
+        Ok(true)
     }
 
-    fn updated(&self, held: &Held) -> Result<Held, AllocError> {
-        held.at(Place {
+    fn updated(&self, _alloc: Global, held: &Held) -> Result<(Held, bool), AllocError> {
+        let held = held.at(Place {
             later: self.0,
             ..held.place
-        })
+        })?;
+        Ok((held, true))
     }
 }
 
@@ -62,14 +66,18 @@ impl Update<Held> for Earlier {
 
     ghost to = { λ earlier held. record held { place = record held.place { earlier = earlier.0 } } };
 
-    fn update(&self, held: &mut Held) {
+    ghost tells = { λ _ _. true };
+
+    fn update(&self, _alloc: Global, held: &mut Held) -> Result<bool, AllocError> {
         held.place.earlier = self.0;
+        Ok(true)
     }
 
-    fn updated(&self, held: &Held) -> Result<Held, AllocError> {
-        held.at(Place {
+    fn updated(&self, _alloc: Global, held: &Held) -> Result<(Held, bool), AllocError> {
+        let held = held.at(Place {
             earlier: self.0,
             ..held.place
-        })
+        })?;
+        Ok((held, true))
     }
 }

@@ -1,16 +1,19 @@
 //! What is kept for an object of a heap.
-ghost use Rattle.std.specs.Prelude.{◌≡◌, ◌↔◌, ⊤, IfOk, IsTrue, Some, None};
+ghost use Rattle.std.specs.Prelude.{◌≡◌, ◌↔◌, ◌<◌, ⊤, true, IfOk, OnOk, OnErr, IsTrue, Some, None, is_some, unwrap_or, length, slice_set};
 ghost use Rattle.std.specs.Option.{option_copied, option_map};
 ghost use Rattle.std.specs.Bool.{IsFalse};
 ghost use Rattle.std.specs.Arc.{arc_value};
+ghost use Rattle.ownership_model.specs.Changes.{HasField, with_field};
 ghost use Rattle.object_heap.specs.TableView.{are_zero, kept_at, kept_of, minus, plus, AreAmong, HasRoomFor};
 
 use share_tree::Update;
 use std::alloc::{AllocError, Global};
 use std::marker::Model;
+use std::mem::replace;
 use std::sync::Arc;
 use trace_types::same::Same;
-use trace_types::slots::Entry;
+use trace_types::sequence::Sequence;
+use trace_types::slots::{Entry, Slot};
 
 /// How many slots name an object, and how many of its ends are pending.
 #[derive(Clone, Copy, Debug, PartialEq, Eq)]
@@ -189,12 +192,16 @@ impl Update<Object> for Counters {
 
     ghost to = { λ counters object. (object.0, counters) };
 
-    fn update(&self, object: &mut Object) {
+    ghost tells = { λ _ _. true };
+
+    fn update(&self, _alloc: Global, object: &mut Object) -> Result<bool, AllocError> {
         object.counters = *self;
+        Ok(true)
     }
 
-    fn updated(&self, object: &Object) -> Result<Object, AllocError> {
-        Ok(object.share()?.with_counters(*self))
+    fn updated(&self, _alloc: Global, object: &Object) -> Result<(Object, bool), AllocError> {
+        let object = object.share()?.with_counters(*self);
+        Ok((object, true))
     }
 }
 
@@ -207,12 +214,116 @@ impl Update<Object> for More {
 
     ghost to = { λ more object. (object.0, plus object.1 more.0) };
 
-    fn update(&self, object: &mut Object) {
+    ghost tells = { λ _ _. true };
+
+    fn update(&self, _alloc: Global, object: &mut Object) -> Result<bool, AllocError> {
         object.counters = object.counters.plus(self.0);
+        Ok(true)
     }
 
-    fn updated(&self, object: &Object) -> Result<Object, AllocError> {
-        Ok(object.share()?.with_counters(object.counters.plus(self.0)))
+    fn updated(&self, _alloc: Global, object: &Object) -> Result<(Object, bool), AllocError> {
+        let counters = object.counters.plus(self.0);
+        let object = object.share()?.with_counters(counters);
+        Ok((object, true))
+    }
+}
+
+/// Counters that are taken off an object's own, where it is still needed without them. It answers whether it is.
+#[derive(Clone, Copy)]
+pub struct Less(pub Counters);
+
+impl Update<Object> for Less {
+    ghost can = { λ less object. AreAmong less.0 object.1 };
+
+    ghost to = { λ less object. unwrap_or (kept_of object.0 (minus object.1 less.0)) object };
+
+    ghost tells = { λ less object. is_some (kept_of object.0 (minus object.1 less.0)) };
+
+    fn update(&self, _alloc: Global, object: &mut Object) -> Result<bool, AllocError> {
+        let counters = object.counters.minus(self.0);
+        if object.entry.is_none() && counters.are_zero() {
+            return Ok(false);
+        }
+        object.counters = counters;
+        Ok(true)
+    }
+
+    fn updated(&self, _alloc: Global, object: &Object) -> Result<(Object, bool), AllocError> {
+        let counters = object.counters.minus(self.0);
+        if object.entry.is_none() && counters.are_zero() {
+            return Ok((object.share()?, false));
+        }
+        Ok((object.share()?.with_counters(counters), true))
+    }
+}
+
+/// Another slot in a field of an object that stands as a value.
+#[derive(Clone, Copy)]
+pub struct Field {
+    pub index: u32,
+    pub slot: Slot,
+}
+
+impl Update<Object> for Field {
+    ghost can = { λ field object. HasField object.0 field.index };
+
+    ghost to = { λ field object. (Some (with_field object.0 field.index field.slot), object.1) };
+
+    ghost tells = { λ _ _. true };
+
+    fn update(&self, alloc: Global, object: &mut Object) -> Result<bool, AllocError> {
+        let Some(entry) = &mut object.entry else {
+            unreachable!()
+        };
+        match Arc::get_mut(entry) {
+            Some(own) => self.set(alloc, own),
+            None => {
+                let changed = self.changed(entry)?;
+                *entry = Arc::new(alloc, changed)?;
+            }
+        }
+        Ok(true)
+    }
+
+    fn updated(&self, alloc: Global, object: &Object) -> Result<(Object, bool), AllocError> {
+        let Some(entry) = &object.entry else {
+            unreachable!()
+        };
+        let changed = self.changed(entry)?;
+        let object = Object::standing(alloc, changed, object.counters)?;
+        Ok((object, true))
+    }
+}
+
+impl Field {
+    // Sets the slot where it stands.
+    fn set(&self, alloc: Global, entry: &mut Entry)
+        requires { HasField (Some entry.old) self.now.index }
+        ensures { entry.new ≡ with_field (Some entry.old) self.now.index self.now.slot }
+    {
+        match entry {
+            Entry::Alive(fields) => {
+                let mut slots = replace(fields, Sequence::empty(alloc)).into_vec();
+                slots[self.index as usize] = self.slot;
+                *fields = Sequence::from_vec(slots);
+            }
+            Entry::Husk => unreachable!(),
+        }
+    }
+
+    // What stands, with the slot set.
+    fn changed(&self, entry: &Entry) -> Result<Entry, AllocError>
+        requires { HasField (Some entry.now) self.now.index }
+        ensures { IfOk result (λ e. e ≡ with_field (Some entry.now) self.now.index self.now.slot) }
+    {
+        match entry {
+            Entry::Alive(fields) => {
+                let mut slots = fields.clone()?.into_vec();
+                slots[self.index as usize] = self.slot;
+                Ok(Entry::Alive(Sequence::from_vec(slots)))
+            }
+            Entry::Husk => unreachable!(),
+        }
     }
 }
 

@@ -3,12 +3,13 @@ ghost use Rattle.std.specs.Prelude.{◌≡◌, ◌↔◌, true, false, IfOk, OnO
 ghost use Rattle.std.specs.Option.{option_copied};
 ghost use Rattle.std.specs.FinMap as map;
 ghost use Rattle.trace_types.specs.declared.slots.Entry.TheVariants.{Husk};
+ghost use Rattle.ownership_model.specs.Changes.{HasField, with_field};
 ghost use Rattle.object_heap.specs.TableView.{counters_at, are_zero, kept_at, minus, plus, AreAmong, HasRoomFor, AreAlike, AllStand};
 ghost use Rattle.object_heap.specs.Gains.{IsSetAt};
 ghost use Rattle.object_heap.specs.Descent.{DescendTo, IsUnnamed};
 
-use crate::object::{Counters, Object};
-use crate::ranks::{MAX_RANK, lower_from, rank_of, rank_over};
+use crate::object::{Counters, Field, Object};
+use crate::ranks::{MAX_RANK, lower_from, rank_of, rank_over, slot_lower_from};
 use crate::table::Table;
 use share_tree::ShareTree;
 use std::alloc::{AllocError, Global};
@@ -27,6 +28,7 @@ pub struct Objects {
 
 impl Model for Objects {
     ghost use Rattle.trace_types.specs.declared.slots.Entry.TheVariants.{Husk};
+    ghost use Rattle.ownership_model.specs.Changes.{HasField, with_field};
     ghost use Rattle.object_heap.specs.TableView.{TableView, table_code};
     ghost use Rattle.object_heap.specs.Descent.{AreRanked};
 
@@ -135,6 +137,17 @@ impl Objects {
         let rank = rank_of(&self.ranks, object);
         self.from = lower_from(&self.ranks, self.from, rank, &entry);
         self.table.insert(alloc, object, entry)
+    }
+
+    /// A field of an object that stands as a value holds this from now on, set where it stands if no share holds it. Its counters stay.
+    pub fn set_field(&mut self, alloc: Global, object: u32, field: Field) -> Result<(), AllocError>
+        requires { HasField (map.get self.old.entries object) field.index }
+        ensures ok { OnOk result (self.new ≡ record self.old { entries = map.insert self.old.entries object (with_field (map.get self.old.entries object) field.index field.slot) }) }
+        ensures err { OnErr result (self.new ≡ self.old) }
+    {
+        let rank = rank_of(&self.ranks, object);
+        self.from = slot_lower_from(&self.ranks, self.from, rank, field.slot);
+        self.table.set_field(alloc, object, field)
     }
 
     /// Nothing stands for an object any more. Its counters stay, and its rank is left: no other object gets its number.

@@ -60,7 +60,8 @@ fn slots_lower_from(ranks: &ShareTree<u64>, from: u64, rank: u64, slots: &[Slot]
     past
 }
 
-fn slot_lower_from(ranks: &ShareTree<u64>, from: u64, rank: u64, slot: Slot) -> u64
+/// As `lower_from`, of one slot of the entry.
+pub fn slot_lower_from(ranks: &ShareTree<u64>, from: u64, rank: u64, slot: Slot) -> u64
     requires low { AreLow ranks.now }
     ensures no_less { from ≤ result }
     ensures lower { NameLower ranks.now result rank (named StrongOrWeak slot) }

@@ -2,11 +2,14 @@
 ghost use Rattle.std.specs.Prelude.{◌≡◌, ◌↔◌, ℕ, true, false, is_some, Some, None, IfOk, OnOk, OnErr, IsTrue, ◌==◌, if◌then◌else◌};
 ghost use Rattle.std.specs.Option.{option_copied};
 ghost use Rattle.std.specs.FinMap as map;
+ghost use Rattle.ownership_model.specs.Changes.{HasField, with_field};
 ghost use Rattle.object_heap.specs.TableView.{counters_at, are_zero, kept_at, kept_of, with_entry, minus, plus, AreAmong, HasRoomFor, AreAlike, AllStand};
 ghost use Rattle.object_heap.specs.Gains.{IsSetAt};
 
-use crate::object::{Counters, More, NOTHING, Object, counters_of, entry_of, share_of};
-use crate::weight::added;
+use crate::object::{
+    Counters, Field, Less, More, NOTHING, Object, counters_of, entry_of, share_of,
+};
+use crate::weight::{added, set_field};
 use share_tree::ShareTree;
 use std::alloc::{AllocError, Global};
 use std::marker::Model;
@@ -21,6 +24,7 @@ pub struct Table {
 }
 
 impl Model for Table {
+    ghost use Rattle.ownership_model.specs.Changes.{HasField, with_field};
     ghost use Rattle.object_heap.specs.TableView.{TableView, table_code, table_of, IsLean};
 
     ghost Value = { TableView };
@@ -151,6 +155,20 @@ impl Table {
         Ok(())
     }
 
+    /// A field of an object that stands as a value holds this from now on, set where it stands if no share holds it. Its counters stay.
+    pub fn set_field(&mut self, alloc: Global, object: u32, field: Field) -> Result<(), AllocError>
+        requires { HasField (map.get self.old.entries object) field.index }
+        ensures ok { OnOk result (self.new ≡ record self.old { entries = map.insert self.old.entries object (with_field (map.get self.old.entries object) field.index field.slot) }) }
+        ensures err { OnErr result (self.new ≡ self.old) }
+    {
+        let sum = self
+            .sum
+            .wrapping_add(change_of(object, self.get(object), field));
+        self.kept.update(alloc, object, &field)?;
+        self.sum = sum;
+        Ok(())
+    }
+
     /// An object has these counters from now on. What stands for it stays.
     pub fn set_counters(
         &mut self,
@@ -196,22 +214,11 @@ impl Table {
         ensures set { OnOk result (IsSetAt self.old.counts self.new.counts object (minus (counters_at (map.get self.old.counts object)) less)) }
         ensures entries { self.new.entries ≡ self.old.entries }
     {
-        let kept = self.kept(object);
-        let counters = counters_of(kept).minus(less);
-        match entry_of(kept) {
-            Some(_) => self.recount(alloc, object, counters),
-            None => self.set_counters(alloc, object, counters),
+        if self.kept.update(alloc, object, &Less(less))? {
+            return Ok(());
         }
-    }
-
-    // As `set_counters`, of an object that stands: it is kept, whatever is counted.
-    fn recount(&mut self, alloc: Global, object: u32, counters: Counters) -> Result<(), AllocError>
-        requires { is_some (map.get self.old.entries object) ≡ true }
-        ensures set { OnOk result (IsSetAt self.old.counts self.new.counts object counters) }
-        ensures entries { self.new.entries ≡ self.old.entries }
-    {
-        self.kept.update(alloc, object, &counters)?;
-        Ok(())
+        let counters = self.counters(object).minus(less);
+        self.put_counters(alloc, object, counters)
     }
 
     // As `set_counters`, where nothing is kept for the object, or where nothing may be from now on.
@@ -236,6 +243,14 @@ impl Table {
         let kept = self.kept(object);
         let part = added(object, entry_of(kept));
         (self.sum.wrapping_sub(part), counters_of(kept))
+    }
+}
+
+// What a field that is set adds to the sum.
+fn change_of(object: u32, entry: Option<&Entry>, field: Field) -> u64 {
+    match entry {
+        Some(Entry::Alive(fields)) => set_field(object, fields.as_slice(), field.index, field.slot),
+        Some(Entry::Husk) | None => 0,
     }
 }
 

@@ -48,11 +48,28 @@ fn of_handle(handle: Option<u32>) -> u64 {
 fn of_fields(fields: &Sequence<Slot>) -> u64 {
     let mut weight: u64 = 2;
     for slot in fields.as_slice() {
-        weight = weight
-            .wrapping_mul(0x9E37_79B9_7F4A_7C15)
-            .wrapping_add(slot.weight());
+        weight = and_slot(weight, *slot);
     }
     weight
+}
+
+// Fields of this weight, and one more.
+fn and_slot(weight: u64, slot: Slot) -> u64 {
+    weight
+        .wrapping_mul(0x9E37_79B9_7F4A_7C15)
+        .wrapping_add(slot.weight())
+}
+
+/// What it adds to the sum that a field of an object's value is set.
+pub fn set_field(object: u32, fields: &[Slot], index: u32, slot: Slot) -> u64 {
+    let mut before: u64 = 2;
+    let mut after: u64 = 2;
+    for i in 0..fields.len() {
+        let old = fields[i];
+        before = and_slot(before, old);
+        after = and_slot(after, if i == index as usize { slot } else { old });
+    }
+    scattered(object, after).wrapping_sub(scattered(object, before))
 }
 
 /// What a handle adds to a sum besides what it holds: its scope's label and the handle made before it tell where it stands. Times seven,

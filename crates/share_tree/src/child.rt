@@ -1,5 +1,5 @@
 //! A child of a node: a level of the tree, or none.
-ghost use Rattle.std.specs.Prelude.{◌≡◌, ℕ, ◌<◌, ◌≤◌, ◌^◌, ◌↔◌, ◌+◌, ◌++◌, OnOk, OnErr, Some, None, IfSome, IfOk, IsTrue, is_some};
+ghost use Rattle.std.specs.Prelude.{◌≡◌, ℕ, ◌<◌, ◌≤◌, ◌^◌, ◌↔◌, ◌+◌, ◌++◌, OnOk, OnErr, Some, None, IfSome, IfOk, IsTrue, is_some, false, unwrap_or};
 ghost use Rattle.std.specs.Bool.{IsFalse};
 ghost use Rattle.std.specs.Option.{option_copied, option_map, IfNone};
 ghost use Rattle.std.specs.Arc.{arc_value};
@@ -171,7 +171,7 @@ impl<C: Drop> Child<C> {
         Ok(())
     }
 
-    /// Changes the value of a key, in place where nobody else holds the level. It says whether the key is there.
+    /// Changes the value of a key, in place where nobody else holds the level, and gives the answer; false where the key isn't there.
     #[inline(always)]
     pub fn update<V, F: Update<V>>(
         &mut self,
@@ -184,7 +184,7 @@ impl<C: Drop> Child<C> {
         requires fits { C.SPAN ≤ 2 ^ 32 }
         requires within { key < C.SPAN }
         requires able { IfSome (child_at C.at self.old key) (F.can how.now) }
-        ensures was { IfOk result (λ was. was ≡ is_some (child_at C.at self.old key)) }
+        ensures told { IfOk result (λ told. told ≡ unwrap_or (option_map (F.tells how.now) (child_at C.at self.old key)) false) }
         ensures ok { OnOk result ((q : ℕ) → child_at C.at self.new q ≡ updated (child_at C.at self.old) key (option_map (F.to how.now) (child_at C.at self.old key)) q) }
         ensures err { OnErr result ((q : ℕ) → child_at C.at self.new q ≡ child_at C.at self.old q) }
     {
@@ -302,7 +302,7 @@ fn insert_in_copy<V, C: Level<V>>(
     Ok(was)
 }
 
-/// The value of a key changed in a level, in place where nobody else holds it. It says whether the key is there.
+/// The value of a key changed in a level, in place where nobody else holds it, and the answer; false where the key isn't there.
 #[inline(always)]
 pub fn update_in<V, C: Level<V>, F: Update<V>>(
     alloc: Global,
@@ -313,7 +313,7 @@ pub fn update_in<V, C: Level<V>, F: Update<V>>(
     requires fits { C.SPAN ≤ 2 ^ 32 }
     requires within { key < C.SPAN }
     requires able { IfSome (C.at (arc_value level.old) key) (F.can how.now) }
-    ensures was { IfOk result (λ was. was ≡ is_some (C.at (arc_value level.old) key)) }
+    ensures told { IfOk result (λ told. told ≡ unwrap_or (option_map (F.tells how.now) (C.at (arc_value level.old) key)) false) }
     ensures ok { OnOk result ((q : ℕ) → C.at (arc_value level.new) q ≡ updated (C.at (arc_value level.old)) key (option_map (F.to how.now) (C.at (arc_value level.old) key)) q) }
     ensures err { OnErr result ((q : ℕ) → C.at (arc_value level.new) q ≡ C.at (arc_value level.old) q) }
 {
@@ -334,16 +334,16 @@ fn update_in_copy<V, C: Level<V>, F: Update<V>>(
     requires fits { C.SPAN ≤ 2 ^ 32 }
     requires within { key < C.SPAN }
     requires able { IfSome (C.at (arc_value level.old) key) (F.can how.now) }
-    ensures was { IfOk result (λ was. was ≡ is_some (C.at (arc_value level.old) key)) }
+    ensures told { IfOk result (λ told. told ≡ unwrap_or (option_map (F.tells how.now) (C.at (arc_value level.old) key)) false) }
     ensures ok { OnOk result ((q : ℕ) → C.at (arc_value level.new) q ≡ updated (C.at (arc_value level.old)) key (option_map (F.to how.now) (C.at (arc_value level.old) key)) q) }
     ensures err { OnErr result ((q : ℕ) → C.at (arc_value level.new) q ≡ C.at (arc_value level.old) q) }
 {
     let Some(value) = level.get(key) else {
         return Ok(false);
     };
-    let value = how.updated(value)?;
+    let (value, told) = how.updated(alloc, value)?;
     *level = level.with(alloc, key, value)?;
-    Ok(true)
+    Ok(told)
 }
 
 // A level without an entry, changed where nobody else holds it. It says whether nothing is left.

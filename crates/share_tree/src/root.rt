@@ -1,5 +1,5 @@
 //! The root: one entry alone, or a tree with as many levels as the keys need that came into it.
-ghost use Rattle.std.specs.Prelude.{◌≡◌, ℕ, ◌<◌, ◌*◌, ◌^◌, ◌↔◌, ◌++◌, OnOk, OnErr, Some, None, IfSome, IfOk, IsTrue, is_some};
+ghost use Rattle.std.specs.Prelude.{◌≡◌, ℕ, ◌<◌, ◌*◌, ◌^◌, ◌↔◌, ◌++◌, OnOk, OnErr, Some, None, IfSome, IfOk, IsTrue, is_some, false, unwrap_or};
 ghost use Rattle.std.specs.Bool.{IsFalse};
 ghost use Rattle.std.specs.Option.{option_copied, option_map, IfNone};
 ghost use Rattle.std.specs.Arc.{arc_value};
@@ -184,7 +184,7 @@ impl<V: Drop> Root<V> {
         }
     }
 
-    /// Changes the value of a key, in place where nobody else holds the level. It says whether the key is there.
+    /// Changes the value of a key, in place where nobody else holds the level, and gives the answer; false where the key isn't there.
     pub fn update<F: Update<V>>(
         &mut self,
         alloc: Global,
@@ -192,7 +192,7 @@ impl<V: Drop> Root<V> {
         how: &F,
     ) -> Result<bool, AllocError>
         requires { IfSome (root_at self.old key) (F.can how.now) }
-        ensures was { IfOk result (λ was. was ≡ is_some (root_at self.old key)) }
+        ensures told { IfOk result (λ told. told ≡ unwrap_or (option_map (F.tells how.now) (root_at self.old key)) false) }
         ensures ok { OnOk result ((q : ℕ) → root_at self.new q ≡ updated (root_at self.old) key (option_map (F.to how.now) (root_at self.old key)) q) }
         ensures err { OnErr result ((q : ℕ) → root_at self.new q ≡ root_at self.old q) }
     {

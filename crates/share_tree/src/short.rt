@@ -1,5 +1,5 @@
 //! A child as a map from all keys: from its span on it has nothing.
-ghost use Rattle.std.specs.Prelude.{◌≡◌, ℕ, ◌<◌, ◌≤◌, ◌^◌, ◌↔◌, ◌++◌, OnOk, OnErr, Some, None, IfSome, IfOk, IsTrue, is_some};
+ghost use Rattle.std.specs.Prelude.{◌≡◌, ℕ, ◌<◌, ◌≤◌, ◌^◌, ◌↔◌, ◌++◌, OnOk, OnErr, Some, None, IfSome, IfOk, IsTrue, is_some, false, unwrap_or};
 ghost use Rattle.std.specs.Option.{option_copied, option_map, IfNone};
 ghost use Rattle.share_tree.specs.Entries.{keys_from};
 ghost use Rattle.share_tree.specs.Walk.{IsNowhereFrom, IsFirstFrom};
@@ -62,7 +62,7 @@ pub fn update<V, C: Level<V>, F: Update<V>>(
 ) -> Result<bool, AllocError>
     requires fits { C.SPAN ≤ 2 ^ 32 }
     requires able { IfSome (below C.SPAN (child_at C.at child.old) key) (F.can how.now) }
-    ensures was { IfOk result (λ was. was ≡ is_some (below C.SPAN (child_at C.at child.old) key)) }
+    ensures told { IfOk result (λ told. told ≡ unwrap_or (option_map (F.tells how.now) (below C.SPAN (child_at C.at child.old) key)) false) }
     ensures ok { OnOk result ((q : ℕ) → below C.SPAN (child_at C.at child.new) q ≡ updated (below C.SPAN (child_at C.at child.old)) key (option_map (F.to how.now) (below C.SPAN (child_at C.at child.old) key)) q) }
     ensures err { OnErr result ((q : ℕ) → below C.SPAN (child_at C.at child.new) q ≡ below C.SPAN (child_at C.at child.old) q) }
 {

@@ -1,9 +1,9 @@
 //! What becomes of a value that is there.
-ghost use Rattle.std.specs.Prelude.{◌≡◌, IfOk};
+ghost use Rattle.std.specs.Prelude.{◌≡◌, Bool, IfOk, OnOk, OnErr};
 
-use std::alloc::AllocError;
+use std::alloc::{AllocError, Global};
 
-/// Makes another value of one, where it stands or beside it. Contracts see what it makes of each.
+/// Makes another value of one, where it stands or beside it, and answers a question about what was there. Contracts see both for each value.
 pub trait Update<V> {
     /// Whether it can be made of the value.
     ghost can: { Self → V → Type 0 };
@@ -11,13 +11,19 @@ pub trait Update<V> {
     /// The value that it makes.
     ghost to: { Self → V → V };
 
-    /// Changes the value where it stands.
-    fn update(&self, value: &mut V)
-        requires { can self.now value.old }
-        ensures { value.new ≡ to self.now value.old };
+    /// What it answers.
+    ghost tells: { Self → V → Bool };
 
-    /// The value that it makes of one which stays.
-    fn updated(&self, value: &V) -> Result<V, AllocError>
+    /// Changes the value where it stands.
+    fn update(&self, alloc: Global, value: &mut V) -> Result<bool, AllocError>
+        requires { can self.now value.old }
+        ensures told { IfOk result (λ told. told ≡ tells self.now value.old) }
+        ensures ok { OnOk result (value.new ≡ to self.now value.old) }
+        ensures err { OnErr result (value.new ≡ value.old) };
+
+    /// The value that it makes of one which stays, and the answer.
+    fn updated(&self, alloc: Global, value: &V) -> Result<(V, bool), AllocError>
         requires { can self.now value.now }
-        ensures { IfOk result (λ v. v ≡ to self.now value.now) };
+        ensures told { IfOk result (λ r. r.1 ≡ tells self.now value.now) }
+        ensures made { IfOk result (λ r. r.0 ≡ to self.now value.now) };
 }

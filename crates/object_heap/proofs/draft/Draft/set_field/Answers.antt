@@ -1,12 +1,12 @@
-use Rattle.std.proofs.Common.{◌≡◌, [], refl, ap, ◌∙◌, sym, arith, List}
-use Rattle.std.specs.Prelude.{Option, Some}
-use Rattle.std.specs.FinMap.{get}
-use Rattle.trace_types.specs.declared.slots.Slot.{Slot}
+use Rattle.std.proofs.Common.{◌≡◌, [], refl, ap, ◌∙◌, sym, subst, arith}
+use Rattle.std.specs.Prelude.{Some}
+use Rattle.std.specs.Ordering.{nat_cmp}
+use Rattle.std.specs.FinMap.{FinMap, get}
 use Rattle.trace_types.specs.declared.slots.Entry.{Entry}
 use Rattle.trace_types.specs.declared.slots.Entry.TheVariants.{Alive}
 use Rattle.trace_types.specs.declared.slots.Change.{Change}
 use Rattle.trace_types.specs.declared.slots.Change.TheVariants.{SetField}
-use Rattle.ownership_model.specs.Changes.{with_field}
+use Rattle.ownership_model.specs.Changes.{HasField, with_field}
 use Rattle.trace_types.specs.declared.limits.TheConstants.{MAX_FIELDS}
 use Rattle.object_heap.specs.declared.draft.Draft.{Draft}
 use Rattle.object_heap.specs.Counted.{drafted}
@@ -31,13 +31,17 @@ let_go-requires c =
 pub returns : goal.returns
 returns c =
     let old = c.args.self.now in
-    let new : Draft = record { handles = old.handles; cells = old.cells; objects = c.insert.new.self } in
+    let new : Draft = record { handles = old.handles; cells = old.cells; objects = c.set_field.new.self } in
     let change : Change = SetField c.args.object c.args.index c.args.slot in
     let is : get old.objects.entries c.args.object ≡ Some (Alive c.in-Some-Alive.fields) = cc (c.in-Some-Alive.ensures, c.in-Some-Alive.field-0-is) in
     let fewer : CountsMore c.let_go.new.objects.counts c.hold.new.objects.counts (lost (drafted old) change) = field_gone (drafted old) c.args.object c.args.index c.args.slot c.in-Some-Alive.fields c.as_slice.result.now _ is c.requires.can c.as_slice.ensures c.let_go.new.objects.counts c.hold.new.objects.counts c.in_ok-let_go.ensures.counts in
-    let set : Alive c.in_ok-fields.fields ≡ with_field (get old.objects.entries c.args.object) c.args.index c.args.slot =
-    ap (λ (l : List Slot). Alive l) c.in_ok-fields.ensures ∙ sym (ap (λ (e : Option Entry). with_field e c.args.index c.args.slot) is) in
     let stay : c.let_go.new.objects.entries ≡ old.objects.entries = c.in_ok-let_go.ensures.entries ∙ c.in_ok-hold.ensures.entries in
-    on_ok c.insert.result c.insert.ensures.ok (λ put.
-    changes old.objects.counts c.hold.new.objects.counts (drafted old) change c.requires.can c.requires.counted c.in_ok-hold.ensures.counts old new refl (still_more c.let_go.new.objects c.insert.new.self c.hold.new.objects.counts _ _ put fewer)
-    (put_entry old c.let_go.new.objects c.insert.new.self c.args.object _ _ put stay set))
+    let set = ap (λ (es : FinMap nat_cmp Entry). with_field (get es c.args.object) c.args.index c.args.slot) stay in
+    on_ok c.set_field.result c.set_field.ensures.ok (λ put.
+    changes old.objects.counts c.hold.new.objects.counts (drafted old) change c.requires.can c.requires.counted c.in_ok-hold.ensures.counts old new refl (still_more c.let_go.new.objects c.set_field.new.self c.hold.new.objects.counts _ _ put fewer)
+    (put_entry old c.let_go.new.objects c.set_field.new.self c.args.object _ _ put stay set))
+
+pub set_field-requires : goal.set_field-requires
+set_field-requires c =
+    let stay = c.in_ok-let_go.ensures.entries ∙ c.in_ok-hold.ensures.entries in
+    subst (λ (es : FinMap nat_cmp Entry). HasField (get es c.args.object) c.args.index) (sym stay) c.requires.can
