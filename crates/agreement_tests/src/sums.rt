@@ -66,7 +66,7 @@ fn other_heaps_have_other_sums(rt: HostRuntime) -> Result<(), Fail> {
 }
 
 // What each way made is undone by other operations, or made again in another order.
-const SAME: [(&str, &str); 11] = [
+const SAME: [(&str, &str); 13] = [
     (
         "",
         "{\"from\":1,\"id\":4,\"op\":\"clone\",\"t\":3,\"to\":3}\n{\"h\":3,\"id\":5,\"op\":\"drop\",\"t\":0}\n",
@@ -113,6 +113,16 @@ const SAME: [(&str, &str); 11] = [
     (
         "",
         "{\"fields\":[],\"id\":4,\"op\":\"new\",\"t\":0,\"to\":3}\n{\"from\":3,\"id\":5,\"op\":\"downgrade\",\"t\":0,\"to\":4}\n{\"h\":3,\"id\":6,\"op\":\"drop\",\"t\":0}\n{\"h\":4,\"id\":7,\"op\":\"drop\",\"t\":0}\n",
+    ),
+    // a husk that stays, of a value that was dropped, or moved out
+    (
+        "{\"from\":2,\"id\":4,\"op\":\"downgrade\",\"t\":0,\"to\":4}\n{\"h\":2,\"id\":5,\"op\":\"drop\",\"t\":0}\n",
+        "{\"from\":2,\"id\":4,\"op\":\"downgrade\",\"t\":0,\"to\":4}\n{\"h\":2,\"id\":5,\"op\":\"try_unwrap\",\"t\":0}\n{\"h\":2,\"id\":6,\"op\":\"drop\",\"t\":0}\n",
+    ),
+    // a second field that an object is made with, or that is set
+    (
+        "{\"id\":4,\"op\":\"null\",\"t\":0,\"to\":3}\n{\"from\":2,\"id\":5,\"op\":\"clone\",\"t\":0,\"to\":5}\n{\"fields\":[3,5],\"id\":6,\"op\":\"new\",\"t\":0,\"to\":4}\n",
+        "{\"id\":4,\"op\":\"null\",\"t\":0,\"to\":3}\n{\"id\":5,\"op\":\"null\",\"t\":0,\"to\":5}\n{\"fields\":[3,5],\"id\":6,\"op\":\"new\",\"t\":0,\"to\":4}\n{\"from\":2,\"id\":7,\"op\":\"clone\",\"t\":0,\"to\":3}\n{\"from\":3,\"h\":4,\"i\":1,\"id\":8,\"op\":\"set\",\"t\":0}\n",
     ),
 ];
 

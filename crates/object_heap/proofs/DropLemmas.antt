@@ -165,7 +165,7 @@ module _ (m : State) (xs : List Item) (o : ℕ) where
   fall_ends_self s w (Some Husk) h = absurd (omega (arith, h.0))
   fall_ends_self s w (Some (Alive fields)) h = ends-drops o fields (item.End o ∷ xs) ∙ self_end o (ends o xs)
 
-  first_strong : IsSound m (item.Slot (Strong o) ∷ xs) → IsSoundAt (1 + strong m xs o) (weak m xs o) (ends o xs) (get m.objects o)
+  pub first_strong : IsSound m (item.Slot (Strong o) ∷ xs) → IsSoundAt (1 + strong m xs o) (weak m xs o) (ends o xs) (get m.objects o)
   first_strong sound =
       let same : strong m (item.Slot (Strong o) ∷ xs) o ≡ 1 + strong m xs o = omega (arith, self_strong o) in
       let too : weak m (item.Slot (Strong o) ∷ xs) o ≡ weak m xs o = omega arith in

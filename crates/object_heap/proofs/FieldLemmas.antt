@@ -13,9 +13,9 @@ use Rattle.ownership_model.specs.Changes.{HasField, with_field}
 use Rattle.ownership_model.specs.Reach.{has, named, slots_names, entry_names}
 use Rattle.ownership_model.proofs.Counting.{get_inserted}
 use Rattle.ownership_model.proofs.Searching.{has-append}
-use Rattle.object_heap.specs.TableView.{TableView, Kept, kept_of, table_of, IsLean}
+use Rattle.object_heap.specs.TableView.{TableView, Kept, table_of, IsLean}
 use Rattle.object_heap.specs.Descent.{rank_in, NameLower, AreRanked}
-use Rattle.object_heap.proofs.TableLemmas.{entry_found, counters_found, entry_replaced, same_some}
+use Rattle.object_heap.proofs.TableLemmas.{entry_found, counters_found, entry_replaced, lean_put}
 use Rattle.object_heap.proofs.DescentLemmas.{descend_insert, one_of}
 
 or_left : (a b : Bool) → a ≡ true → (a || b) ≡ true
@@ -64,18 +64,11 @@ module _ (old : FinMap nat_cmp Kept) (t : TableView) (view : table_of old ≡ t)
         ∙ ap (λ z. get (set_at old o (option_map {U = Kept} (λ (k : Kept). (Some (with_field k.0 i s), k.1)) z)) q) e
         ∙ get_inserted old o (Some (with_field x.0 i s), x.1) q
 
-    set_lean : (x : Kept) → get old o ≡ Some x → IsLean old → IsLean new
-    set_lean x e lean q y found =
-        elim (o == q) as (λ b. (if b then Some (Some (with_field x.0 i s), x.1) else get old q) ≡ Some y → kept_of y.0 y.1 ≡ Some y) [
-          | true ↦ λ h. subst (λ (z : Kept). kept_of z.0 z.1 ≡ Some z) (same_some (Some (with_field x.0 i s), x.1) y h) refl
-          | false ↦ λ h. lean q y h
-        ] (sym (set_in x e q) ∙ found)
-
     pub field_set : IsLean old → IsLean new × (table_of new ≡ record { entries = insert t.entries o (with_field (get t.entries o) i s); counts = t.counts })
     field_set lean = elim (get old o) as (λ z. get old o ≡ z → IsLean new × (table_of new ≡ record { entries = insert t.entries o (with_field (get t.entries o) i s); counts = t.counts })) [
       | None ↦ λ e. absurd (subst (λ (y : Option Entry). HasField y i) (sym (entry_found old t view o None e)) has_field)
       | Some x ↦ λ e. (
-        set_lean x e lean,
+        lean_put old new o (Some (with_field x.0 i s), x.1) refl (set_in x e) lean,
         entry_replaced old new t view o (Some (with_field x.0 i s), x.1) (set_in x e) (Some (with_field x.0 i s)) x.1 refl (counters_found old t view o (Some x) e)
             ∙ ap (λ (y : Option Entry). record { entries = insert t.entries o (with_field y i s); counts = t.counts }) (entry_found old t view o (Some x) e),
       )

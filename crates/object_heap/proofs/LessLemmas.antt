@@ -14,9 +14,9 @@ use Rattle.object_heap.specs.Gains.{IsSetAt}
 use Rattle.object_heap.proofs.TableLemmas.{by_zero, counters_found, recounted, same_some}
 
 -- an update that always answers true tells whether there is a value
-pub answered : {X : Type 0} (z : Option X) (told b : Bool) → told ≡ unwrap_or (option_map (λ (_ : X). true) z) false → told ≡ b → is_some z ≡ b
-answered None told b tells is = sym tells ∙ is
-answered (Some x) told b tells is = sym tells ∙ is
+pub answered : {X : Type 0} (z : Option X) (answer b : Bool) → answer ≡ unwrap_or (option_map (λ (_ : X). true) z) false → answer ≡ b → is_some z ≡ b
+answered None answer b tells is = sym tells ∙ is
+answered (Some x) answer b tells is = sym tells ∙ is
 
 kept_whole : (e : Option Entry) (c : Counters) → is_some (kept_of e c) ≡ true → kept_of e c ≡ Some (e, c)
 kept_whole (Some e) c h = refl
@@ -43,8 +43,8 @@ module _ (old : FinMap nat_cmp Kept) (t : TableView) (view : table_of old ≡ t)
       of None e = tt
       of (Some x) e = subst (λ (c : Counters). AreAmong less c) (sym e) among
 
-  module _ (new : FinMap nat_cmp Kept) (is : new ≡ set_at old o (option_map {U = Kept} (λ (k : Kept). unwrap_or (kept_of k.0 (minus k.1 less)) k) (get old o))) (told : Bool) (tells : told ≡ unwrap_or (option_map (λ (k : Kept). is_some (kept_of k.0 (minus k.1 less))) (get old o)) false) where
-    pub counted_less : IsLean old → told ≡ true
+  module _ (new : FinMap nat_cmp Kept) (is : new ≡ set_at old o (option_map {U = Kept} (λ (k : Kept). unwrap_or (kept_of k.0 (minus k.1 less)) k) (get old o))) (answer : Bool) (tells : answer ≡ unwrap_or (option_map (λ (k : Kept). is_some (kept_of k.0 (minus k.1 less))) (get old o)) false) where
+    pub counted_less : IsLean old → answer ≡ true
         → IsLean new × (IsSetAt t.counts (table_of new).counts o (minus (counters_at (get t.counts o)) less) × ((table_of new).entries ≡ t.entries))
     counted_less lean needed =
         elim (get old o) as (λ z. get old o ≡ z → unwrap_or (option_map (λ (k : Kept). is_some (kept_of k.0 (minus k.1 less))) z) false ≡ true
@@ -62,7 +62,7 @@ module _ (old : FinMap nat_cmp Kept) (t : TableView) (view : table_of old ≡ t)
         ] refl (sym tells ∙ needed)
 
     -- where nothing is to be kept, all is as it was
-    pub left_whole : told ≡ false → new ≡ old
+    pub left_whole : answer ≡ false → new ≡ old
     left_whole needed =
         elim (get old o) as (λ z. get old o ≡ z → unwrap_or (option_map (λ (k : Kept). is_some (kept_of k.0 (minus k.1 less))) z) false ≡ false → new ≡ old) [
           | None ↦ λ e h. is ∙ ap (λ z. set_at old o (option_map {U = Kept} (λ (k : Kept). unwrap_or (kept_of k.0 (minus k.1 less)) k) z)) e

@@ -11,6 +11,7 @@ pub mod TableLemmas
 pub mod MoreLemmas
 pub mod LessLemmas
 pub mod FieldLemmas
+pub mod HuskLemmas
 pub mod EarlierLemmas
 pub mod EnterLemmas
 pub mod NeighbourLemmas

@@ -13,7 +13,7 @@ use Rattle.trace_types.specs.declared.slots.Entry.{Entry}
 use Rattle.ownership_model.proofs.Counting.{get_inserted, get_removed, same_number}
 use Rattle.ownership_model.proofs.Scoping.{itself}
 use Rattle.object_heap.specs.declared.object.Counters.{Counters}
-use Rattle.object_heap.specs.TableView.{TableView, Kept, counters_at, are_zero, if_any, kept_at, kept_of, picked, part, table_of, with_entry, IsLean, AreAlike, AllStand}
+use Rattle.object_heap.specs.TableView.{TableView, Kept, counters_at, are_zero, if_any, kept_at, kept_of, picked, part, table_of, IsLean, AreAlike, AllStand}
 use Rattle.object_heap.specs.Gains.{IsSetAt}
 use Rattle.object_heap.proofs.ViewLemmas.{first, second, same_key, find_below}
 
@@ -234,6 +234,19 @@ same_seen a b s t first next x y = (
 )
 
 -- ---- what is kept at one number changes
+-- this stands for an object, or nothing
+abbrev with_entry : FinMap nat_cmp Entry → ℕ → Option Entry → FinMap nat_cmp Entry
+with_entry entries o None = remove entries o
+with_entry entries o (Some e) = insert entries o e
+
+-- what is needed is put in: so all that is kept is needed still
+pub lean_put : (old new : FinMap nat_cmp Kept) (o : ℕ) (k : Kept) → kept_of k.0 k.1 ≡ Some k → ((q : ℕ) → get new q ≡ (if o == q then kept_of k.0 k.1 else get old q)) → IsLean old → IsLean new
+lean_put old new o k needed is lean q y found =
+    elim (o == q) as (λ b. (if b then kept_of k.0 k.1 else get old q) ≡ Some y → kept_of y.0 y.1 ≡ Some y) [
+      | true ↦ λ e. subst (λ (z : Kept). kept_of z.0 z.1 ≡ Some z) (same_some k y (sym needed ∙ e)) needed
+      | false ↦ λ e. lean q y e
+    ] (sym (is q) ∙ found)
+
 module _ (old new : FinMap nat_cmp Kept) (t : TableView) (view : table_of old ≡ t) (o : ℕ) (k : Kept) (is : (q : ℕ) → get new q ≡ (if o == q then kept_of k.0 k.1 else get old q)) where
   counts_stay : k.1 ≡ counters_at (get t.counts o) → (table_of new).counts ≡ t.counts
   counts_stay same =
@@ -279,19 +292,12 @@ module _ (old new : FinMap nat_cmp Kept) (t : TableView) (view : table_of old �
       ∙ get_inserted old o (x.0, c) q
       ∙ ap (λ z. if o == q then z else get old q) (sym (keeps x there))
 
-  recounted_lean : (x : Kept) → get old o ≡ Some x → IsLean new
-  recounted_lean x there q y found =
-      elim (o == q) as (λ b. (if b then kept_of x.0 c else get old q) ≡ Some y → kept_of y.0 y.1 ≡ Some y) [
-        | true ↦ λ e. subst (λ (z : Kept). kept_of z.0 z.1 ≡ Some z) (same_some (x.0, c) y (sym (keeps x there) ∙ e)) (keeps x there)
-        | false ↦ λ e. lean q y e
-      ] (sym (recounted_at x there q) ∙ found)
-
   pub recounted : is_some (get old o) ≡ true → IsLean new × (IsSetAt t.counts (table_of new).counts o c × ((table_of new).entries ≡ t.entries))
   recounted = elim (get old o) as (λ z. get old o ≡ z → is_some z ≡ true → IsLean new × (IsSetAt t.counts (table_of new).counts o c × ((table_of new).entries ≡ t.entries))) [
     | None ↦ λ none there. absurd (not_there there)
     | Some x ↦ λ e there.
         let is = recounted_at x e in
-        (recounted_lean x e, (counters_set old new t view o (x.0, c) is c refl, entries_stay old new t view o (x.0, c) is (entry_found old t view o (Some x) e)))
+        (lean_put old new o (x.0, c) (keeps x e) is lean, (counters_set old new t view o (x.0, c) is c refl, entries_stay old new t view o (x.0, c) is (entry_found old t view o (Some x) e)))
   ] refl
 
 module _ (old : FinMap nat_cmp Kept) (t : TableView) (view : table_of old ≡ t) (o : ℕ) (stands : is_some (get t.entries o) ≡ true) where
@@ -303,13 +309,6 @@ module _ (old : FinMap nat_cmp Kept) (t : TableView) (view : table_of old ≡ t)
     | None ↦ λ e. absurd (not_there (stands_at None e))
     | Some x ↦ λ e. refl
   ] refl
-
-  pub standing_keeps : (c : Counters) (x : Kept) → get old o ≡ Some x → kept_of x.0 c ≡ Some (x.0, c)
-  standing_keeps c x is = of x.0 (stands_at (Some x) is)
-    where
-      of : (e : Option Entry) → is_some e ≡ true → kept_of e c ≡ Some (e, c)
-      of None none = absurd (not_there none)
-      of (Some e) some = refl
 
 pub lean_empty : (m : FinMap nat_cmp Kept) → m ≡ empty → IsLean m
 lean_empty m none o x is = absurd (not_some x (sym (ap (λ n. get n o) none ∙ get-empty nat_cmp o) ∙ is))

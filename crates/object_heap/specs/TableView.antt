@@ -2,7 +2,7 @@
 use Rattle.std.specs.Prelude.{ℕ, ◌+◌, ◌-◌, ◌^◌, ◌<◌, ◌≤◌, ◌≡◌, ◌==◌, ◌&&◌, Bool, List, [], ◌∷◌, ◌++◌, Option, Some, None, unwrap_or, if◌then◌else◌, refl}
 use Rattle.std.specs.Option.{option_map}
 use Rattle.std.specs.Ordering.{nat_cmp}
-use Rattle.std.specs.FinMap.{FinMap, get, insert, remove, from_sorted}
+use Rattle.std.specs.FinMap.{FinMap, get, from_sorted}
 use Rattle.std.specs.FinMap as map
 use Rattle.std.specs.Coded.{Coded, code_by, coded×, coded_ℕ, coded_option}
 use Rattle.share_tree.specs.Entries.{entry}
@@ -42,11 +42,6 @@ AreAlike a b = (a.entries ≡ b.entries) × ((o : ℕ) → counters_at (get a.co
 -- what does not stand is named by nothing
 abbrev pub AllStand : TableView → Type 0
 AllStand t = (o : ℕ) → get t.entries o ≡ None → counters_at (get t.counts o) ≡ counters_at None
-
--- this stands for an object, or nothing
-abbrev pub with_entry : FinMap nat_cmp Entry → ℕ → Option Entry → FinMap nat_cmp Entry
-with_entry entries o None = remove entries o
-with_entry entries o (Some e) = insert entries o e
 
 -- what is kept for one: what stands for it, if anything does, and its counters
 abbrev pub Kept : Type 0

@@ -1,20 +1,20 @@
 //! What letting go sets off: what is pending is dropped, one item after another.
-ghost use Rattle.std.specs.Prelude.{◌≡◌, ◌∷◌, ◌++◌, [], OnOk, ◌+◌, ◌<◌, ◌^◌, ◌&&◌, ◌==◌, length};
+ghost use Rattle.std.specs.Prelude.{◌≡◌, ◌∷◌, ◌++◌, [], true, OnOk, ◌<◌, ◌^◌, ◌&&◌, ◌==◌, length};
 ghost use Rattle.std.specs.Option.{option_copied};
 ghost use Rattle.std.specs.FinMap as map;
 ghost use Rattle.trace_types.specs.declared.slots.Item.TheVariants as item;
 ghost use Rattle.trace_types.specs.declared.slots.Slot.TheVariants as slot;
-ghost use Rattle.ownership_model.specs.State.{IsSound};
+ghost use Rattle.ownership_model.specs.State.{State, is_alive, IsSound};
 ghost use Rattle.ownership_model.specs.Release.{release, after, drops, fall, is_husk, left_by, Becomes, Goes};
 ghost use Rattle.ownership_model.specs.Bounds.{IsBounded};
 ghost use Rattle.object_heap.specs.Counted.{drafted, IsCounted};
 ghost use Rattle.object_heap.specs.TableView.{counters_at};
 ghost use Rattle.object_heap.specs.Drops.{DropsFirst};
-ghost use Rattle.object_heap.specs.Gains.{IsSetAt, ended};
+ghost use Rattle.object_heap.specs.Gains.{IsSetAt};
 
 use crate::counters::hold_item;
 use crate::draft::Draft;
-use crate::object::{Counters, Object, counters_of, entry_of, share_of};
+use crate::object::{Counters, counters_of, entry_of};
 use crate::weight::added;
 use std::alloc::{AllocError, Global};
 use std::collections::VecDeque;
@@ -143,8 +143,8 @@ impl Draft {
             ..was
         };
         if less.strong == 0 {
-            let last = share_of(kept)?;
-            return self.destroy(alloc, object, &last, pending, events);
+            let part = fall(entry_of(kept), object, pending, events)?;
+            return self.objects.set_husk(alloc, object, part, was.ended());
         }
         self.objects.set_counters(alloc, object, less)
     }
@@ -162,11 +162,12 @@ impl Draft {
         ensures { OnOk result (DropsFirst self.old self.new (item.Slot (slot.Strong object)) pending.old.items pending.new.items events.old.items events.new.items) }
     {
         let kept = self.objects.kept(object);
-        if counters_of(kept).strong != 0 {
+        let was = counters_of(kept);
+        if was.strong != 0 {
             return Ok(());
         }
-        let last = share_of(kept)?;
-        self.destroy(alloc, object, &last, pending, events)
+        let part = fall(entry_of(kept), object, pending, events)?;
+        self.objects.set_husk(alloc, object, part, was.ended())
     }
 
     // Drops a weak slot: it is counted no more, and the allocation goes with the last one, where the value is gone.
@@ -219,36 +220,6 @@ impl Draft {
         self.objects.set_counters(alloc, object, less)
     }
 
-    // No strong slot names the object any more, for which this is kept, and so its value is gone, where it was there: its fields, and
-    // then its end, are dropped next.
-    fn destroy(
-        &mut self,
-        alloc: Global,
-        object: u32,
-        kept: &Object,
-        pending: &mut VecDeque<Item>,
-        events: &mut Vec<Event>,
-    ) -> Result<(), AllocError>
-        requires kept { kept.now ≡ (map.get self.old.objects.entries object, counters_at (map.get self.old.objects.counts object)) }
-        requires room { (counters_at (map.get self.old.objects.counts object)).ends + 1 < 2 ^ 64 }
-        ensures step { OnOk result (Becomes (drafted self.new) pending.new.items events.old.items events.new.items (left_by (drafted self.old) pending.old.items (fall object (map.get self.old.objects.entries object)))) }
-        ensures set { OnOk result (IsSetAt self.old.objects.counts self.new.objects.counts object (ended (counters_at (map.get self.old.objects.counts object)))) }
-    {
-        let was = kept.counters();
-        let counters = Counters {
-            strong: 0,
-            ends: was.ends + 1,
-            ..was
-        };
-        if let Some(Entry::Alive(fields)) = kept.entry() {
-            push_fields(fields.as_slice(), object, pending)?;
-            events.push(Event::Destroyed(object))?;
-            let part = added(object, kept.entry());
-            return self.objects.set_husk(alloc, object, part, counters);
-        }
-        self.objects.set_counters(alloc, object, counters)
-    }
-
     // The allocation of the object is gone: neither a weak slot nor its value holds it (`std::sync::Weak`). It has these counters, and
     // what stood there added this part to the sum.
     fn free(
@@ -272,6 +243,26 @@ fn is_last(entry: Option<&Entry>, counters: Counters) -> bool
     ensures { result ≡ ((counters.weak == 0) && (is_husk (option_copied entry.entry) && (counters.ends == 0))) }
 {
     counters.weak == 0 && matches!(entry, Some(Entry::Husk)) && counters.ends == 0
+}
+
+// The value of an object falls with its last strong slot: that it is destroyed is told, and its fields, and then its end, are pending
+// before all else. Gives what the value added to the sum.
+fn fall(
+    entry: Option<&Entry>,
+    object: u32,
+    pending: &mut VecDeque<Item>,
+    events: &mut Vec<Event>,
+) -> Result<u64, AllocError>
+    requires { is_alive (option_copied entry) ≡ true }
+    ensures pending { OnOk result ((m : State) → pending.new.items ≡ (left_by m pending.old.items (fall object (option_copied entry.entry))).pending) }
+    ensures events { OnOk result ((m : State) → events.new.items ≡ events.old.items ++ (left_by m pending.old.items (fall object (option_copied entry.entry))).events) }
+{
+    let Some(Entry::Alive(fields)) = entry else {
+        unreachable!()
+    };
+    push_fields(fields.as_slice(), object, pending)?;
+    events.push(Event::Destroyed(object))?;
+    Ok(added(object, entry))
 }
 
 // The fields in the order of their declaration (Rust Reference, Destructors), and then the end of the object, go before

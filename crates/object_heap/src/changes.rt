@@ -12,7 +12,7 @@ ghost use Rattle.object_heap.specs.Gains.{Changes, CountsMore, HasRoom, HasSlots
 
 use crate::counters::{hold, hold_all, hold_holding, let_go, let_go_holding, let_go_object};
 use crate::draft::Draft;
-use crate::object::Field;
+use crate::object::{SetField, counters_of, entry_of};
 use crate::objects::Objects;
 use crate::weight::added;
 use std::alloc::{AllocError, Global};
@@ -128,7 +128,8 @@ impl Draft {
         let old = fields.as_slice()[index as usize];
         hold(alloc, &mut self.objects, slot)?;
         let_go(alloc, &mut self.objects, old)?;
-        self.objects.set_field(alloc, object, Field { index, slot })
+        self.objects
+            .set_field(alloc, object, SetField { index, slot })
     }
 
     fn make(
@@ -155,7 +156,10 @@ impl Draft {
         ensures { OnOk result (Changes self.old self.new (change.TurnHusk object)) }
     {
         let_go_object(alloc, &mut self.objects, object)?;
-        self.objects.insert(alloc, object, Entry::Husk)
+        let kept = self.objects.kept(object);
+        let part = added(object, entry_of(kept));
+        let counters = counters_of(kept);
+        self.objects.set_husk(alloc, object, part, counters)
     }
 }
 

@@ -41,7 +41,7 @@ impl Update<Held> for Later {
 
     ghost to = { λ later held. record held { place = record held.place { later = later.0 } } };
 
-    ghost tells = { λ _ _. true };
+    ghost answer = { λ _ _. true };
 
     fn update(&self, _alloc: Global, held: &mut Held) -> Result<bool, AllocError> {
         held.place.later = self.0;
@@ -66,7 +66,7 @@ impl Update<Held> for Earlier {
 
     ghost to = { λ earlier held. record held { place = record held.place { earlier = earlier.0 } } };
 
-    ghost tells = { λ _ _. true };
+    ghost answer = { λ _ _. true };
 
     fn update(&self, _alloc: Global, held: &mut Held) -> Result<bool, AllocError> {
         held.place.earlier = self.0;

@@ -1,9 +1,11 @@
 //! What is kept for an object of a heap.
-ghost use Rattle.std.specs.Prelude.{◌≡◌, ◌↔◌, ◌<◌, ⊤, true, IfOk, OnOk, OnErr, IsTrue, Some, None, is_some, unwrap_or, length, slice_set};
+ghost use Rattle.std.specs.Prelude.{◌≡◌, ◌↔◌, ◌+◌, ◌<◌, ◌^◌, ⊤, true, IfOk, OnOk, OnErr, IsTrue, Some, None, is_some, unwrap_or, length, slice_set};
 ghost use Rattle.std.specs.Option.{option_copied, option_map};
 ghost use Rattle.std.specs.Bool.{IsFalse};
 ghost use Rattle.std.specs.Arc.{arc_value};
+ghost use Rattle.trace_types.specs.declared.slots.Entry.TheVariants.{Husk};
 ghost use Rattle.ownership_model.specs.Changes.{HasField, with_field};
+ghost use Rattle.object_heap.specs.Gains.{ended};
 ghost use Rattle.object_heap.specs.TableView.{are_zero, kept_at, kept_of, minus, plus, AreAmong, HasRoomFor};
 
 use share_tree::Update;
@@ -52,6 +54,18 @@ impl Counters {
             strong: self.strong - less.strong,
             weak: self.weak - less.weak,
             ends: self.ends - less.ends,
+        }
+    }
+
+    /// The counters of an object after its last strong slot: its end is counted besides.
+    pub fn ended(self) -> Counters
+        requires { self.ends + 1 < 2 ^ 64 }
+        ensures { result ≡ ended self }
+    {
+        Counters {
+            strong: 0,
+            weak: self.weak,
+            ends: self.ends + 1,
         }
     }
 
@@ -192,7 +206,7 @@ impl Update<Object> for Counters {
 
     ghost to = { λ counters object. (object.0, counters) };
 
-    ghost tells = { λ _ _. true };
+    ghost answer = { λ _ _. true };
 
     fn update(&self, _alloc: Global, object: &mut Object) -> Result<bool, AllocError> {
         object.counters = *self;
@@ -214,7 +228,7 @@ impl Update<Object> for More {
 
     ghost to = { λ more object. (object.0, plus object.1 more.0) };
 
-    ghost tells = { λ _ _. true };
+    ghost answer = { λ _ _. true };
 
     fn update(&self, _alloc: Global, object: &mut Object) -> Result<bool, AllocError> {
         object.counters = object.counters.plus(self.0);
@@ -228,7 +242,7 @@ impl Update<Object> for More {
     }
 }
 
-/// Counters that are taken off an object's own, where it is still needed without them. It answers whether it is.
+/// Counters that are taken off an object's own. Where nothing stands and none would be left it changes nothing and answers no.
 #[derive(Clone, Copy)]
 pub struct Less(pub Counters);
 
@@ -237,39 +251,89 @@ impl Update<Object> for Less {
 
     ghost to = { λ less object. unwrap_or (kept_of object.0 (minus object.1 less.0)) object };
 
-    ghost tells = { λ less object. is_some (kept_of object.0 (minus object.1 less.0)) };
+    ghost answer = { λ less object. is_some (kept_of object.0 (minus object.1 less.0)) };
 
     fn update(&self, _alloc: Global, object: &mut Object) -> Result<bool, AllocError> {
-        let counters = object.counters.minus(self.0);
-        if object.entry.is_none() && counters.are_zero() {
+        let Some(counters) = self.left(object) else {
             return Ok(false);
-        }
+        };
         object.counters = counters;
         Ok(true)
     }
 
     fn updated(&self, _alloc: Global, object: &Object) -> Result<(Object, bool), AllocError> {
-        let counters = object.counters.minus(self.0);
-        if object.entry.is_none() && counters.are_zero() {
-            return Ok((object.share()?, false));
+        let object = object.share()?;
+        match self.left(&object) {
+            Some(counters) => Ok((object.with_counters(counters), true)),
+            None => Ok((object, false)),
         }
-        Ok((object.share()?.with_counters(counters), true))
     }
 }
 
-/// Another slot in a field of an object that stands as a value.
+impl Less {
+    // What is left of an object's counters, if it is needed with these.
+    fn left(&self, object: &Object) -> Option<Counters>
+        requires { AreAmong self.now.0 object.now.1 }
+        ensures { option_map (λ c. (object.now.0, c)) result ≡ kept_of object.now.0 (minus object.now.1 self.now.0) }
+    {
+        let counters = object.counters.minus(self.0);
+        if object.entry.is_none() && counters.are_zero() {
+            return None;
+        }
+        Some(counters)
+    }
+}
+
+/// A husk in the place of what stands, with these counters.
 #[derive(Clone, Copy)]
-pub struct Field {
+pub struct TurnHusk(pub Counters);
+
+impl Update<Object> for TurnHusk {
+    ghost can = { λ _ _. ⊤ };
+
+    ghost to = { λ husk _. (Some Husk, husk.0) };
+
+    ghost answer = { λ _ _. true };
+
+    fn update(&self, alloc: Global, object: &mut Object) -> Result<bool, AllocError> {
+        turn_husk(alloc, &mut object.entry)?;
+        object.counters = self.0;
+        Ok(true)
+    }
+
+    fn updated(&self, alloc: Global, _object: &Object) -> Result<(Object, bool), AllocError> {
+        Ok((Object::standing(alloc, Entry::Husk, self.0)?, true))
+    }
+}
+
+// A husk takes the place of what stands, in its memory if no share holds that.
+fn turn_husk(alloc: Global, entry: &mut Option<Arc<Entry>>) -> Result<(), AllocError>
+    ensures ok { OnOk result (option_map arc_value entry.new ≡ Some Husk) }
+    ensures err { OnErr result (entry.new ≡ entry.old) }
+{
+    if let Some(shared) = entry {
+        if let Some(own) = Arc::get_mut(shared) {
+            *own = Entry::Husk;
+            return Ok(());
+        }
+    }
+    *entry = Some(Arc::new(alloc, Entry::Husk)?);
+    Ok(())
+}
+
+/// Another slot in a field of an object that is alive.
+#[derive(Clone, Copy)]
+pub struct SetField {
     pub index: u32,
     pub slot: Slot,
 }
 
-impl Update<Object> for Field {
+impl Update<Object> for SetField {
     ghost can = { λ field object. HasField object.0 field.index };
 
     ghost to = { λ field object. (Some (with_field object.0 field.index field.slot), object.1) };
 
-    ghost tells = { λ _ _. true };
+    ghost answer = { λ _ _. true };
 
     fn update(&self, alloc: Global, object: &mut Object) -> Result<bool, AllocError> {
         let Some(entry) = &mut object.entry else {
@@ -295,7 +359,7 @@ impl Update<Object> for Field {
     }
 }
 
-impl Field {
+impl SetField {
     // Sets the slot where it stands.
     fn set(&self, alloc: Global, entry: &mut Entry)
         requires { HasField (Some entry.old) self.now.index }

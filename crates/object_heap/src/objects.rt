@@ -1,5 +1,5 @@
 //! The objects of a heap with their counters, and from which rank on they are named by those of higher ranks alone.
-ghost use Rattle.std.specs.Prelude.{◌≡◌, ◌↔◌, true, false, IfOk, OnOk, OnErr, IsTrue};
+ghost use Rattle.std.specs.Prelude.{◌≡◌, ◌↔◌, true, false, is_some, IfOk, OnOk, OnErr, IsTrue};
 ghost use Rattle.std.specs.Option.{option_copied};
 ghost use Rattle.std.specs.FinMap as map;
 ghost use Rattle.trace_types.specs.declared.slots.Entry.TheVariants.{Husk};
@@ -8,7 +8,7 @@ ghost use Rattle.object_heap.specs.TableView.{counters_at, are_zero, kept_at, mi
 ghost use Rattle.object_heap.specs.Gains.{IsSetAt};
 ghost use Rattle.object_heap.specs.Descent.{DescendTo, IsUnnamed};
 
-use crate::object::{Counters, Field, Object};
+use crate::object::{Counters, Object, SetField};
 use crate::ranks::{MAX_RANK, lower_from, rank_of, rank_over, slot_lower_from};
 use crate::table::Table;
 use share_tree::ShareTree;
@@ -139,8 +139,13 @@ impl Objects {
         self.table.insert(alloc, object, entry)
     }
 
-    /// A field of an object that stands as a value holds this from now on, set where it stands if no share holds it. Its counters stay.
-    pub fn set_field(&mut self, alloc: Global, object: u32, field: Field) -> Result<(), AllocError>
+    /// A field of an object that is alive holds this from now on, set where it stands if no share holds it. Its counters stay.
+    pub fn set_field(
+        &mut self,
+        alloc: Global,
+        object: u32,
+        field: SetField,
+    ) -> Result<(), AllocError>
         requires { HasField (map.get self.old.entries object) field.index }
         ensures ok { OnOk result (self.new ≡ record self.old { entries = map.insert self.old.entries object (with_field (map.get self.old.entries object) field.index field.slot) }) }
         ensures err { OnErr result (self.new ≡ self.old) }
@@ -158,7 +163,8 @@ impl Objects {
         self.table.remove(alloc, object)
     }
 
-    /// The value of an object is gone, and it has these counters. `part` is what stood there added to the sum.
+    /// A husk stands for an object that stood, in the place of what did, and it has these counters. `part` is what stood there added to
+    /// the sum.
     pub fn set_husk(
         &mut self,
         alloc: Global,
@@ -166,11 +172,12 @@ impl Objects {
         part: u64,
         counters: Counters,
     ) -> Result<(), AllocError>
+        requires { is_some (map.get self.old.entries object) ≡ true }
         ensures entries { OnOk result (self.new.entries ≡ map.insert self.old.entries object Husk) }
         ensures set { OnOk result (IsSetAt self.old.counts self.new.counts object counters) }
+        ensures err { OnErr result (self.new ≡ self.old) }
     {
-        let husk = Object::standing(alloc, Entry::Husk, counters)?;
-        self.table.replace(alloc, object, part, husk)
+        self.table.set_husk(alloc, object, part, counters)
     }
 
     /// Nothing stands for an object any more, and it has these counters. `part` is what stood there added to the sum. Its
@@ -184,9 +191,9 @@ impl Objects {
     ) -> Result<(), AllocError>
         ensures entries { OnOk result (self.new.entries ≡ map.remove self.old.entries object) }
         ensures set { OnOk result (IsSetAt self.old.counts self.new.counts object counters) }
+        ensures err { OnErr result (self.new ≡ self.old) }
     {
-        self.table
-            .replace(alloc, object, part, Object::named(counters))
+        self.table.free(alloc, object, part, counters)
     }
 
     /// An object has these counters from now on. What stands for it stays.

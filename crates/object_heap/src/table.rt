@@ -2,14 +2,15 @@
 ghost use Rattle.std.specs.Prelude.{◌≡◌, ◌↔◌, ℕ, true, false, is_some, Some, None, IfOk, OnOk, OnErr, IsTrue, ◌==◌, if◌then◌else◌};
 ghost use Rattle.std.specs.Option.{option_copied};
 ghost use Rattle.std.specs.FinMap as map;
+ghost use Rattle.trace_types.specs.declared.slots.Entry.TheVariants.{Husk};
 ghost use Rattle.ownership_model.specs.Changes.{HasField, with_field};
-ghost use Rattle.object_heap.specs.TableView.{counters_at, are_zero, kept_at, kept_of, with_entry, minus, plus, AreAmong, HasRoomFor, AreAlike, AllStand};
+ghost use Rattle.object_heap.specs.TableView.{counters_at, are_zero, kept_at, kept_of, minus, plus, AreAmong, HasRoomFor, AreAlike, AllStand};
 ghost use Rattle.object_heap.specs.Gains.{IsSetAt};
 
 use crate::object::{
-    Counters, Field, Less, More, NOTHING, Object, counters_of, entry_of, share_of,
+    Counters, Less, More, NOTHING, Object, SetField, TurnHusk, counters_of, entry_of, share_of,
 };
-use crate::weight::{added, set_field};
+use crate::weight::{added, field_change};
 use share_tree::ShareTree;
 use std::alloc::{AllocError, Global};
 use std::marker::Model;
@@ -135,28 +136,52 @@ impl Table {
         Ok(())
     }
 
-    /// This stands for an object from now on, or nothing, and it has these counters. `part` is what stood there added to the
-    /// sum.
-    pub fn replace(
+    /// Nothing stands for an object any more, and it has these counters. `part` is what stood there added to the sum.
+    pub fn free(
         &mut self,
         alloc: Global,
         object: u32,
         part: u64,
-        kept: Object,
+        counters: Counters,
     ) -> Result<(), AllocError>
-        ensures entries { OnOk result (self.new.entries ≡ with_entry self.old.entries object kept.0) }
-        ensures set { OnOk result (IsSetAt self.old.counts self.new.counts object kept.1) }
+        ensures entries { OnOk result (self.new.entries ≡ map.remove self.old.entries object) }
+        ensures set { OnOk result (IsSetAt self.old.counts self.new.counts object counters) }
         ensures err { OnErr result (self.new ≡ self.old) }
     {
         let rest = self.sum.wrapping_sub(part);
-        let sum = rest.wrapping_add(added(object, kept.entry()));
-        store(alloc, &mut self.kept, object, kept)?;
+        store(alloc, &mut self.kept, object, Object::named(counters))?;
+        self.sum = rest;
+        Ok(())
+    }
+
+    /// A husk stands for an object that stood, in the place of what did, and it has these counters. `part` is what stood there added to
+    /// the sum.
+    pub fn set_husk(
+        &mut self,
+        alloc: Global,
+        object: u32,
+        part: u64,
+        counters: Counters,
+    ) -> Result<(), AllocError>
+        requires { is_some (map.get self.old.entries object) ≡ true }
+        ensures entries { OnOk result (self.new.entries ≡ map.insert self.old.entries object Husk) }
+        ensures set { OnOk result (IsSetAt self.old.counts self.new.counts object counters) }
+        ensures err { OnErr result (self.new ≡ self.old) }
+    {
+        let rest = self.sum.wrapping_sub(part);
+        let sum = rest.wrapping_add(added(object, Some(&Entry::Husk)));
+        self.kept.update(alloc, object, &TurnHusk(counters))?;
         self.sum = sum;
         Ok(())
     }
 
-    /// A field of an object that stands as a value holds this from now on, set where it stands if no share holds it. Its counters stay.
-    pub fn set_field(&mut self, alloc: Global, object: u32, field: Field) -> Result<(), AllocError>
+    /// A field of an object that is alive holds this from now on, set where it stands if no share holds it. Its counters stay.
+    pub fn set_field(
+        &mut self,
+        alloc: Global,
+        object: u32,
+        field: SetField,
+    ) -> Result<(), AllocError>
         requires { HasField (map.get self.old.entries object) field.index }
         ensures ok { OnOk result (self.new ≡ record self.old { entries = map.insert self.old.entries object (with_field (map.get self.old.entries object) field.index field.slot) }) }
         ensures err { OnErr result (self.new ≡ self.old) }
@@ -246,12 +271,14 @@ impl Table {
     }
 }
 
-// What a field that is set adds to the sum.
-fn change_of(object: u32, entry: Option<&Entry>, field: Field) -> u64 {
-    match entry {
-        Some(Entry::Alive(fields)) => set_field(object, fields.as_slice(), field.index, field.slot),
-        Some(Entry::Husk) | None => 0,
-    }
+// What the sum changes by where a field is set.
+fn change_of(object: u32, entry: Option<&Entry>, field: SetField) -> u64
+    requires { HasField (option_copied entry) field.index }
+{
+    let Some(Entry::Alive(fields)) = entry else {
+        unreachable!()
+    };
+    field_change(object, fields.as_slice(), field.index, field.slot)
 }
 
 // Keeps this for an object, or nothing where nothing stands for it and nothing names it.

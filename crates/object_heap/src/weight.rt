@@ -53,15 +53,15 @@ fn of_fields(fields: &Sequence<Slot>) -> u64 {
     weight
 }
 
-// Fields of this weight, and one more.
+// The weight of fields of this weight with one slot more.
 fn and_slot(weight: u64, slot: Slot) -> u64 {
     weight
         .wrapping_mul(0x9E37_79B9_7F4A_7C15)
         .wrapping_add(slot.weight())
 }
 
-/// What it adds to the sum that a field of an object's value is set.
-pub fn set_field(object: u32, fields: &[Slot], index: u32, slot: Slot) -> u64 {
+/// What the sum changes by where a field of an object is set.
+pub fn field_change(object: u32, fields: &[Slot], index: u32, slot: Slot) -> u64 {
     let mut before: u64 = 2;
     let mut after: u64 = 2;
     for i in 0..fields.len() {

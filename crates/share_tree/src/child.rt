@@ -184,7 +184,7 @@ impl<C: Drop> Child<C> {
         requires fits { C.SPAN ≤ 2 ^ 32 }
         requires within { key < C.SPAN }
         requires able { IfSome (child_at C.at self.old key) (F.can how.now) }
-        ensures told { IfOk result (λ told. told ≡ unwrap_or (option_map (F.tells how.now) (child_at C.at self.old key)) false) }
+        ensures answer { IfOk result (λ b. b ≡ unwrap_or (option_map (F.answer how.now) (child_at C.at self.old key)) false) }
         ensures ok { OnOk result ((q : ℕ) → child_at C.at self.new q ≡ updated (child_at C.at self.old) key (option_map (F.to how.now) (child_at C.at self.old key)) q) }
         ensures err { OnErr result ((q : ℕ) → child_at C.at self.new q ≡ child_at C.at self.old q) }
     {
@@ -313,7 +313,7 @@ pub fn update_in<V, C: Level<V>, F: Update<V>>(
     requires fits { C.SPAN ≤ 2 ^ 32 }
     requires within { key < C.SPAN }
     requires able { IfSome (C.at (arc_value level.old) key) (F.can how.now) }
-    ensures told { IfOk result (λ told. told ≡ unwrap_or (option_map (F.tells how.now) (C.at (arc_value level.old) key)) false) }
+    ensures answer { IfOk result (λ b. b ≡ unwrap_or (option_map (F.answer how.now) (C.at (arc_value level.old) key)) false) }
     ensures ok { OnOk result ((q : ℕ) → C.at (arc_value level.new) q ≡ updated (C.at (arc_value level.old)) key (option_map (F.to how.now) (C.at (arc_value level.old) key)) q) }
     ensures err { OnErr result ((q : ℕ) → C.at (arc_value level.new) q ≡ C.at (arc_value level.old) q) }
 {
@@ -334,16 +334,16 @@ fn update_in_copy<V, C: Level<V>, F: Update<V>>(
     requires fits { C.SPAN ≤ 2 ^ 32 }
     requires within { key < C.SPAN }
     requires able { IfSome (C.at (arc_value level.old) key) (F.can how.now) }
-    ensures told { IfOk result (λ told. told ≡ unwrap_or (option_map (F.tells how.now) (C.at (arc_value level.old) key)) false) }
+    ensures answer { IfOk result (λ b. b ≡ unwrap_or (option_map (F.answer how.now) (C.at (arc_value level.old) key)) false) }
     ensures ok { OnOk result ((q : ℕ) → C.at (arc_value level.new) q ≡ updated (C.at (arc_value level.old)) key (option_map (F.to how.now) (C.at (arc_value level.old) key)) q) }
     ensures err { OnErr result ((q : ℕ) → C.at (arc_value level.new) q ≡ C.at (arc_value level.old) q) }
 {
     let Some(value) = level.get(key) else {
         return Ok(false);
     };
-    let (value, told) = how.updated(alloc, value)?;
+    let (value, answer) = how.updated(alloc, value)?;
     *level = level.with(alloc, key, value)?;
-    Ok(told)
+    Ok(answer)
 }
 
 // A level without an entry, changed where nobody else holds it. It says whether nothing is left.

@@ -192,7 +192,7 @@ impl<V: Drop> Root<V> {
         how: &F,
     ) -> Result<bool, AllocError>
         requires { IfSome (root_at self.old key) (F.can how.now) }
-        ensures told { IfOk result (λ told. told ≡ unwrap_or (option_map (F.tells how.now) (root_at self.old key)) false) }
+        ensures answer { IfOk result (λ b. b ≡ unwrap_or (option_map (F.answer how.now) (root_at self.old key)) false) }
         ensures ok { OnOk result ((q : ℕ) → root_at self.new q ≡ updated (root_at self.old) key (option_map (F.to how.now) (root_at self.old key)) q) }
         ensures err { OnErr result ((q : ℕ) → root_at self.new q ≡ root_at self.old q) }
     {

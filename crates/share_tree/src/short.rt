@@ -62,7 +62,7 @@ pub fn update<V, C: Level<V>, F: Update<V>>(
 ) -> Result<bool, AllocError>
     requires fits { C.SPAN ≤ 2 ^ 32 }
     requires able { IfSome (below C.SPAN (child_at C.at child.old) key) (F.can how.now) }
-    ensures told { IfOk result (λ told. told ≡ unwrap_or (option_map (F.tells how.now) (below C.SPAN (child_at C.at child.old) key)) false) }
+    ensures answer { IfOk result (λ b. b ≡ unwrap_or (option_map (F.answer how.now) (below C.SPAN (child_at C.at child.old) key)) false) }
     ensures ok { OnOk result ((q : ℕ) → below C.SPAN (child_at C.at child.new) q ≡ updated (below C.SPAN (child_at C.at child.old)) key (option_map (F.to how.now) (below C.SPAN (child_at C.at child.old) key)) q) }
     ensures err { OnErr result ((q : ℕ) → below C.SPAN (child_at C.at child.new) q ≡ below C.SPAN (child_at C.at child.old) q) }
 {

@@ -1,5 +1,7 @@
 //! What no clause says: that each call succeeds, and that a tree goes on where memory was refused once.
-use share_tree::ShareTree;
+ghost use Rattle.std.specs.Prelude.{⊤, ◌==◌};
+
+use share_tree::{ShareTree, Update};
 use std::alloc::{AllocError, Global};
 use std::test::Fail;
 use trace_types::same::Same;
@@ -10,6 +12,27 @@ struct Number(u32);
 impl Same for Number {
     fn same(&self, other: &Self) -> bool {
         self.0 == other.0
+    }
+}
+
+// This in the place of a number. It answers whether it was there before.
+struct Put(u32);
+
+impl Update<Number> for Put {
+    ghost can = { λ _ _. ⊤ };
+
+    ghost to = { λ put _. record { 0 = put.0 } };
+
+    ghost answer = { λ put number. number.0 == put.0 };
+
+    fn update(&self, _alloc: Global, number: &mut Number) -> Result<bool, AllocError> {
+        let was = number.0;
+        number.0 = self.0;
+        Ok(was == self.0)
+    }
+
+    fn updated(&self, _alloc: Global, number: &Number) -> Result<(Number, bool), AllocError> {
+        Ok((Number(self.0), number.0 == self.0))
     }
 }
 
@@ -78,6 +101,25 @@ fn share_stands_while_the_other_changes(rt: HostRuntime) -> Result<(), Fail> {
 }
 
 #[test]
+fn update_changes_what_is_there(rt: HostRuntime) -> Result<(), Fail> {
+    let alloc = rt.alloc();
+    let mut tree = tree_of(alloc, &[1, 2, 300])?;
+    assert!(rt; !tree.update(alloc, 2, &Put(7))?);
+    assert!(rt; tree.update(alloc, 2, &Put(7))?);
+    assert!(rt; !tree.update(alloc, 9, &Put(7))?);
+    assert_eq!(rt; number_at(&tree, 2), Some(7));
+    assert_eq!(rt; tree.keys(alloc)?.as_slice(), [1, 2, 300].as_slice());
+    let share = tree.share()?;
+    assert!(rt; tree.update(alloc, 2, &Put(7))?);
+    assert!(rt; !tree.update(alloc, 300, &Put(8))?);
+    assert!(rt; !tree.update(alloc, 9, &Put(7))?);
+    assert_eq!(rt; number_at(&tree, 300), Some(8));
+    assert_eq!(rt; number_at(&share, 300), Some(3000));
+    assert_eq!(rt; share.len(), 3);
+    Ok(())
+}
+
+#[test]
 fn walk_rises_to_the_greatest_key(rt: HostRuntime) -> Result<(), Fail> {
     let keys = [0, 15, 16, 4096, 65536, u32::MAX];
     let tree = tree_of(rt.alloc(), &keys)?;
@@ -119,8 +161,15 @@ fn refused_memory_leaves_the_tree(rt: HostRuntime) -> Result<(), Fail> {
     assert_eq!(rt; share.len(), 33);
     for i in 0..40u32 {
         let key = i.wrapping_mul(2654435761) % 4099;
-        if tree.remove(alloc, key).is_err() {
+        if tree.update(alloc, key, &Put(50)).is_err() {
             assert_eq!(rt; number_at(&tree, key), Some(i));
+            tree.update(alloc, key, &Put(50))?;
+        }
+    }
+    for i in 0..40u32 {
+        let key = i.wrapping_mul(2654435761) % 4099;
+        if tree.remove(alloc, key).is_err() {
+            assert_eq!(rt; number_at(&tree, key), Some(50));
             tree.remove(alloc, key)?;
         }
     }

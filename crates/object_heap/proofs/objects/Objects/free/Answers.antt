@@ -1,8 +1,8 @@
-use Rattle.std.proofs.Common.{ap, ◌∙◌, sym, subst}
+use Rattle.std.proofs.Common.{sym, subst}
 use Rattle.std.specs.Ordering.{nat_cmp}
 use Rattle.std.specs.FinMap.{FinMap}
 use Rattle.trace_types.specs.declared.slots.Entry.{Entry}
-use Rattle.object_heap.specs.TableView.{TableView, Kept, with_entry}
+use Rattle.object_heap.specs.TableView.{TableView}
 use Rattle.object_heap.specs.Descent.{AreRanked}
 use Rattle.object_heap.proofs.GainLemmas.{either_way}
 use Rattle.object_heap.proofs.DescentLemmas.{descend_remove}
@@ -13,6 +13,6 @@ invariant_of-self c =
     let ranks = c.self.inside.ranks in
     let from = c.self.inside.from in
     let old = c.self.inside.table in
-    either_way c.replace.result c.replace.ensures.entries c.replace.ensures.err
-    (λ is. subst (λ (es : FinMap nat_cmp Entry). AreRanked ranks from es) (sym (is ∙ ap (λ (k : Kept). with_entry old.entries c.args.object k.0) c.named.ensures)) (descend_remove ranks from c.args.object old.entries c.self.invariant))
+    either_way c.free.result c.free.ensures.entries c.free.ensures.err
+    (λ is. subst (λ (es : FinMap nat_cmp Entry). AreRanked ranks from es) (sym is) (descend_remove ranks from c.args.object old.entries c.self.invariant))
     (λ same. subst (λ (t : TableView). AreRanked ranks from t.entries) (sym same) c.self.invariant)

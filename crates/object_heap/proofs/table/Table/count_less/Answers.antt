@@ -12,30 +12,30 @@ update-requires c = among_kept c.self.inside.kept c.args.self.now c.self.view_is
 
 pub invariant_of-self-then-branch : goal.invariant_of-self-then-branch
 invariant_of-self-then-branch c =
-    (counted_less c.self.inside.kept c.args.self.now c.self.view_is c.args.object c.args.less c.update.new.self c.in_ok-update.ensures.ok _ c.in_ok-update.ensures.told c.self.invariant c.if-branch.true).0
+    (counted_less c.self.inside.kept c.args.self.now c.self.view_is c.args.object c.args.less c.update.new.self c.in_ok-update.ensures.ok _ c.in_ok-update.ensures.answer c.self.invariant c.if-branch.true).0
 
 pub returns-then-branch-clause-set : goal.returns-then-branch-clause-set
 returns-then-branch-clause-set c =
-    (counted_less c.self.inside.kept c.args.self.now c.self.view_is c.args.object c.args.less c.update.new.self c.in_ok-update.ensures.ok _ c.in_ok-update.ensures.told c.self.invariant c.if-branch.true).1.0
+    (counted_less c.self.inside.kept c.args.self.now c.self.view_is c.args.object c.args.less c.update.new.self c.in_ok-update.ensures.ok _ c.in_ok-update.ensures.answer c.self.invariant c.if-branch.true).1.0
 
 pub returns-then-branch-clause-entries : goal.returns-then-branch-clause-entries
 returns-then-branch-clause-entries c =
-    (counted_less c.self.inside.kept c.args.self.now c.self.view_is c.args.object c.args.less c.update.new.self c.in_ok-update.ensures.ok _ c.in_ok-update.ensures.told c.self.invariant c.if-branch.true).1.1
+    (counted_less c.self.inside.kept c.args.self.now c.self.view_is c.args.object c.args.less c.update.new.self c.in_ok-update.ensures.ok _ c.in_ok-update.ensures.answer c.self.invariant c.if-branch.true).1.1
 
 pub invariant_of-self-2 : goal.invariant_of-self-2
 invariant_of-self-2 c =
-    let same = left_whole c.self.inside.kept c.args.self.now c.self.view_is c.args.object c.args.less c.update.new.self c.in_ok-update.ensures.ok _ c.in_ok-update.ensures.told c.if-branch.false in
+    let same = left_whole c.self.inside.kept c.args.self.now c.self.view_is c.args.object c.args.less c.update.new.self c.in_ok-update.ensures.ok _ c.in_ok-update.ensures.answer c.if-branch.false in
     subst (λ m. IsLean m) (sym same) c.self.invariant
 
 pub minus-counters-requires : goal.minus-counters-requires
 minus-counters-requires c =
-    let same = left_whole c.self.inside.kept c.args.self.now c.self.view_is c.args.object c.args.less c.update.new.self c.in_ok-update.ensures.ok _ c.in_ok-update.ensures.told c.if-branch.false in
+    let same = left_whole c.self.inside.kept c.args.self.now c.self.view_is c.args.object c.args.less c.update.new.self c.in_ok-update.ensures.ok _ c.in_ok-update.ensures.answer c.if-branch.false in
     let seen = ap table_of same ∙ c.self.view_is in
     subst (λ (n : Counters). AreAmong c.args.less n) (sym (c.counters.ensures ∙ ap (λ (s : TableView). counters_at (get s.counts c.args.object)) seen)) c.requires
 
 pub returns-clause-set : goal.returns-clause-set
 returns-clause-set c =
-    let same = left_whole c.self.inside.kept c.args.self.now c.self.view_is c.args.object c.args.less c.update.new.self c.in_ok-update.ensures.ok _ c.in_ok-update.ensures.told c.if-branch.false in
+    let same = left_whole c.self.inside.kept c.args.self.now c.self.view_is c.args.object c.args.less c.update.new.self c.in_ok-update.ensures.ok _ c.in_ok-update.ensures.answer c.if-branch.false in
     let seen = ap table_of same ∙ c.self.view_is in
     let left = c.minus-counters.ensures ∙ ap (λ (n : Counters). minus n c.args.less) (c.counters.ensures ∙ ap (λ (s : TableView). counters_at (get s.counts c.args.object)) seen) in
     on_ok c.put_counters.result c.put_counters.ensures.set (λ set.
@@ -44,5 +44,5 @@ returns-clause-set c =
 
 pub returns-clause-entries : goal.returns-clause-entries
 returns-clause-entries c =
-    let same = left_whole c.self.inside.kept c.args.self.now c.self.view_is c.args.object c.args.less c.update.new.self c.in_ok-update.ensures.ok _ c.in_ok-update.ensures.told c.if-branch.false in
+    let same = left_whole c.self.inside.kept c.args.self.now c.self.view_is c.args.object c.args.less c.update.new.self c.in_ok-update.ensures.ok _ c.in_ok-update.ensures.answer c.if-branch.false in
     c.put_counters.ensures.entries ∙ ap (λ (s : TableView). s.entries) (ap table_of same ∙ c.self.view_is)

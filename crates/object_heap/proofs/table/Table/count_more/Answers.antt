@@ -1,4 +1,3 @@
-use Rattle.std.proofs.Common.{◌∙◌, sym}
 use Rattle.object_heap.proofs.GainLemmas.{on_ok}
 use Rattle.object_heap.proofs.MoreLemmas.{room_kept, counted_first, counted_more}
 use Rattle.object_heap.proofs.LessLemmas.{answered}
@@ -9,17 +8,17 @@ update-requires c = room_kept c.self.inside.kept c.args.self.now c.self.view_is 
 
 pub invariant_of-self-then-branch : goal.invariant_of-self-then-branch
 invariant_of-self-then-branch c =
-    (counted_more c.self.inside.kept c.args.self.now c.self.view_is c.args.object c.args.more c.update.new.self c.self.invariant c.requires.any c.in_ok-update.ensures.ok (answered _ _ _ c.in_ok-update.ensures.told c.if-branch.true)).0
+    (counted_more c.self.inside.kept c.args.self.now c.self.view_is c.args.object c.args.more c.update.new.self c.self.invariant c.requires.any c.in_ok-update.ensures.ok (answered _ _ _ c.in_ok-update.ensures.answer c.if-branch.true)).0
 
 pub returns-then-branch-clause-set : goal.returns-then-branch-clause-set
 returns-then-branch-clause-set c =
-    (counted_more c.self.inside.kept c.args.self.now c.self.view_is c.args.object c.args.more c.update.new.self c.self.invariant c.requires.any c.in_ok-update.ensures.ok (answered _ _ _ c.in_ok-update.ensures.told c.if-branch.true)).1.0
+    (counted_more c.self.inside.kept c.args.self.now c.self.view_is c.args.object c.args.more c.update.new.self c.self.invariant c.requires.any c.in_ok-update.ensures.ok (answered _ _ _ c.in_ok-update.ensures.answer c.if-branch.true)).1.0
 
 pub returns-then-branch-clause-entries : goal.returns-then-branch-clause-entries
 returns-then-branch-clause-entries c =
-    (counted_more c.self.inside.kept c.args.self.now c.self.view_is c.args.object c.args.more c.update.new.self c.self.invariant c.requires.any c.in_ok-update.ensures.ok (answered _ _ _ c.in_ok-update.ensures.told c.if-branch.true)).1.1
+    (counted_more c.self.inside.kept c.args.self.now c.self.view_is c.args.object c.args.more c.update.new.self c.self.invariant c.requires.any c.in_ok-update.ensures.ok (answered _ _ _ c.in_ok-update.ensures.answer c.if-branch.true)).1.1
 
 pub returns-clause-set : goal.returns-clause-set
 returns-clause-set c =
     on_ok c.put_counters.result c.put_counters.ensures.set (λ set.
-    counted_first c.self.inside.kept c.args.self.now c.self.view_is c.args.object c.args.more c.update.new.self c.put_counters.new.self.counts c.in_ok-update.ensures.ok (answered _ _ _ c.in_ok-update.ensures.told c.if-branch.false) set)
+    counted_first c.self.inside.kept c.args.self.now c.self.view_is c.args.object c.args.more c.update.new.self c.put_counters.new.self.counts c.in_ok-update.ensures.ok (answered _ _ _ c.in_ok-update.ensures.answer c.if-branch.false) set)

@@ -18,19 +18,19 @@ invariant_of-self-2 g c =
     let below : c.args.key < 2 ^ 32 = omega arith in
     let f = root_at c.self.inside.root in
     let to = g.F.Update.to c.args.how.now in
-    c.self.invariant ∙ sym (ap map.len (map_of-set_at to f (root_at c.update.new.self) c.args.key below c.in_ok-told.ensures.ok) ∙ len-set_at to _ c.args.key)
+    c.self.invariant ∙ sym (ap map.len (map_of-set_at to f (root_at c.update.new.self) c.args.key below c.in_ok-answer.ensures.ok) ∙ len-set_at to _ c.args.key)
 
-pub returns-clause-told : goal.returns-clause-told
-returns-clause-told g c =
+pub returns-clause-answer : goal.returns-clause-answer
+returns-clause-answer g c =
     let below : c.args.key < 2 ^ 32 = omega arith in
     let f = root_at c.self.inside.root in
     let there : map.get c.args.self.now c.args.key ≡ f c.args.key = ap (λ m. map.get m c.args.key) (sym c.self.view_is) ∙ get-map_of f c.args.key below in
-    c.in_ok-told.ensures.told ∙ ap (λ z. unwrap_or (option_map (g.F.Update.tells c.args.how.now) z) false) (sym there)
+    c.in_ok-answer.ensures.answer ∙ ap (λ z. unwrap_or (option_map (g.F.Update.answer c.args.how.now) z) false) (sym there)
 
 pub returns-clause-ok : goal.returns-clause-ok
 returns-clause-ok g c =
     let below : c.args.key < 2 ^ 32 = omega arith in
     let f = root_at c.self.inside.root in
     let to = g.F.Update.to c.args.how.now in
-    map_of-set_at to f (root_at c.update.new.self) c.args.key below c.in_ok-told.ensures.ok
+    map_of-set_at to f (root_at c.update.new.self) c.args.key below c.in_ok-answer.ensures.ok
     ∙ ap (λ m. set_at m c.args.key (option_map to (map.get m c.args.key))) c.self.view_is
