@@ -11,7 +11,7 @@ ghost use Rattle.trace_reader.specs.Writing.{line_of, lines_text, op_of_line};
 ghost use Rattle.trace_reader.specs.LineText.{text_ahead, field_text, elements_text, fields_text, to_text, text_before, text_after, text_between, line_text};
 
 use std::alloc::{AllocError, Global};
-use std::fmt::Write;
+use text_pieces::{push_decimal, push_labelled, push_name};
 use trace_types::kinds::{Field, Kind};
 use trace_types::ops::Op;
 use trace_types::trace::Trace;
@@ -83,11 +83,10 @@ fn push_between(text: &mut String, op: &Op) -> Result<(), AllocError>
     ensures text { OnOk result (string_bytes text.new ≡ string_bytes text.old ++ text_between op.now) }
     ensures within { OnOk result (IsTrue (is_within_limits op.now)) }
 {
-    let id = op.id();
-    let name = op.kind().name();
-    let thread = op.thread();
-    write!(text, "\"id\":{id},\"op\":\"{name}\",\"t\":{thread}")?;
-    Ok(())
+    push_labelled(text, "\"id\":", op.id() as u64)?;
+    text.push_str(",\"op\":\"")?;
+    push_name(text, op.kind().name())?;
+    push_labelled(text, "\",\"t\":", op.thread() as u64)
 }
 
 // The members whose names come before `id`.
@@ -185,15 +184,17 @@ fn push_after(text: &mut String, kind: &Kind) -> Result<(), AllocError>
 fn push_number(text: &mut String, name: &str, n: u32) -> Result<(), AllocError>
     ensures { OnOk result (string_bytes text.new ≡ string_bytes text.old ++ text_ahead name.now (decimal n)) }
 {
-    write!(text, "\"{name}\":{n},")?;
+    text.push('"')?;
+    text.push_str(name)?;
+    push_labelled(text, "\":", n as u64)?;
+    text.push(',')?;
     Ok(())
 }
 
 fn push_to(text: &mut String, to: u32) -> Result<(), AllocError>
     ensures { OnOk result (string_bytes text.new ≡ string_bytes text.old ++ to_text (Some (decimal to))) }
 {
-    write!(text, ",\"to\":{to}")?;
-    Ok(())
+    push_labelled(text, ",\"to\":", to as u64)
 }
 
 fn push_perhaps_to(text: &mut String, to: Option<u32>) -> Result<(), AllocError>
@@ -252,6 +253,5 @@ fn push_field(text: &mut String, field: Field) -> Result<(), AllocError>
 fn push_handle(text: &mut String, h: u32) -> Result<(), AllocError>
     ensures { OnOk result (string_bytes text.new ≡ string_bytes text.old ++ decimal h) }
 {
-    write!(text, "{h}")?;
-    Ok(())
+    push_decimal(text, h as u64)
 }
