@@ -6,6 +6,7 @@ use crate::lives::{Ending, Life};
 use crate::shown::Report;
 use ownership_model::{Holder, HuskLeft, Leak};
 use std::alloc::AllocError;
+use text_pieces::push_labelled;
 
 /// Adds a line for each object that was made.
 pub fn push_lives(text: &mut String, lives: &[Life]) -> Result<(), AllocError>
@@ -20,8 +21,7 @@ pub fn push_lives(text: &mut String, lives: &[Life]) -> Result<(), AllocError>
 fn push_life(text: &mut String, life: Life) -> Result<(), AllocError>
     ensures { OnOk result (string_bytes text.new ≡ string_bytes text.old ++ life_text life) }
 {
-    let object = life.object;
-    write!(text, "object {object}")?;
+    push_labelled(text, "object ", life.object as u64)?;
     push_fate(text, life.ending, life.freed)?;
     text.push('\n')?;
     Ok(())
@@ -45,9 +45,9 @@ fn push_ending(text: &mut String, ending: Ending) -> Result<(), AllocError>
     ensures { OnOk result (string_bytes text.new ≡ string_bytes text.old ++ ending_text ending) }
 {
     match ending {
-        Ending::Destroyed(id) => write!(text, " destroyed {id}"),
-        Ending::Unwrapped(id) => write!(text, " unwrapped {id}"),
-        Ending::Moved(id) => write!(text, " moved {id}"),
+        Ending::Destroyed(id) => push_labelled(text, " destroyed ", id as u64),
+        Ending::Unwrapped(id) => push_labelled(text, " unwrapped ", id as u64),
+        Ending::Moved(id) => push_labelled(text, " moved ", id as u64),
     }
 }
 
@@ -57,7 +57,7 @@ fn push_freed(text: &mut String, freed: Option<u32>) -> Result<(), AllocError>
     let Some(id) = freed else {
         return Ok(());
     };
-    write!(text, " freed {id}")
+    push_labelled(text, " freed ", id as u64)
 }
 
 /// Adds a line for each leaked object.
@@ -73,8 +73,8 @@ pub fn push_leaks(text: &mut String, leaks: &[Leak]) -> Result<(), AllocError>
 fn push_leak(text: &mut String, leak: &Leak) -> Result<(), AllocError>
     ensures { OnOk result (string_bytes text.new ≡ string_bytes text.old ++ leak_text leak.now) }
 {
-    let object = leak.object;
-    write!(text, "leak {object} held by")?;
+    push_labelled(text, "leak ", leak.object as u64)?;
+    text.push_str(" held by")?;
     push_holders(text, leak.holders.as_slice())?;
     text.push('\n')?;
     Ok(())
@@ -92,9 +92,8 @@ fn push_holders(text: &mut String, holders: &[Holder]) -> Result<(), AllocError>
 fn push_holder(text: &mut String, holder: Holder) -> Result<(), AllocError>
     ensures { OnOk result (string_bytes text.new ≡ string_bytes text.old ++ holder_text holder) }
 {
-    let object = holder.object;
-    let field = holder.field;
-    write!(text, " {object}.{field}")
+    push_labelled(text, " ", holder.object as u64)?;
+    push_labelled(text, ".", holder.field as u64)
 }
 
 /// Adds a line for each husk.
@@ -110,9 +109,8 @@ pub fn push_husks(text: &mut String, husks: &[HuskLeft]) -> Result<(), AllocErro
 fn push_husk(text: &mut String, husk: HuskLeft) -> Result<(), AllocError>
     ensures { OnOk result (string_bytes text.new ≡ string_bytes text.old ++ husk_text husk) }
 {
-    let object = husk.object;
-    let weak = husk.weak;
-    write!(text, "husk {object} weak {weak}")?;
+    push_labelled(text, "husk ", husk.object as u64)?;
+    push_labelled(text, " weak ", husk.weak)?;
     text.push('\n')?;
     Ok(())
 }
@@ -127,13 +125,13 @@ pub fn push_total(text: &mut String, report: &Report) -> Result<(), AllocError>
     let alive = living(report.lives());
     let leaks = report.leaks().leaked.len();
     let husks = report.leaks().husks.len();
-    write!(
-        text,
-        "total {operations} ops {skipped} skipped {objects} objects "
-    )?;
-    write!(text, "{alive} alive {leaks} leaks {husks} husks")?;
-    text.push('\n')?;
-    Ok(())
+    push_labelled(text, "total ", operations as u64)?;
+    push_labelled(text, " ops ", skipped as u64)?;
+    push_labelled(text, " skipped ", objects as u64)?;
+    push_labelled(text, " objects ", alive as u64)?;
+    push_labelled(text, " alive ", leaks as u64)?;
+    push_labelled(text, " leaks ", husks as u64)?;
+    text.push_str(" husks\n")
 }
 
 fn living(lives: &[Life]) -> usize

@@ -5,6 +5,7 @@ ghost use Rattle.leak_report.specs.Lines.{line_of, lines_of};
 ghost use Rattle.leak_report.specs.Text.{answer_text, reason_text, verdict_text, event_text, events_text, counts_text, outcome_text, line_text, lines_text};
 
 use std::alloc::AllocError;
+use text_pieces::{push_decimal, push_labelled, push_name};
 use trace_types::ops::Op;
 use trace_types::outcomes::{Answer, Counts, Event, Outcome, Reason, Verdict};
 use trace_types::stretches::Stretch;
@@ -32,9 +33,10 @@ fn push_lines(text: &mut String, ops: &[Op], outcomes: &[Outcome]) -> Result<(),
 fn push_line(text: &mut String, op: &Op, outcome: &Outcome) -> Result<(), AllocError>
     ensures { OnOk result (string_bytes text.new ≡ string_bytes text.old ++ line_text (line_of op.now outcome.now)) }
 {
-    let id = outcome.id;
-    let name = op.kind().name();
-    write!(text, "{id} {name} ")?;
+    push_decimal(text, outcome.id as u64)?;
+    text.push(' ')?;
+    push_name(text, op.kind().name())?;
+    text.push(' ')?;
     push_outcome(text, outcome)?;
     text.push('\n')?;
     Ok(())
@@ -53,7 +55,7 @@ fn push_verdict(text: &mut String, verdict: Verdict) -> Result<(), AllocError>
     ensures { OnOk result (string_bytes text.new ≡ string_bytes text.old ++ verdict_text verdict) }
 {
     match verdict {
-        Verdict::Did(answer) => text.push_str(answer_str(answer)),
+        Verdict::Did(answer) => push_answer(text, answer),
         Verdict::Skipped(reason) => {
             text.push_str("skipped ")?;
             push_reason(text, reason)
@@ -61,17 +63,17 @@ fn push_verdict(text: &mut String, verdict: Verdict) -> Result<(), AllocError>
     }
 }
 
-fn answer_str(answer: Answer) -> &'static str
-    ensures { result.now ≡ answer_text answer }
+fn push_answer(text: &mut String, answer: Answer) -> Result<(), AllocError>
+    ensures { OnOk result (string_bytes text.new ≡ string_bytes text.old ++ answer_text answer) }
 {
     match answer {
-        Answer::Made => "made",
-        Answer::Done => "done",
-        Answer::Yes => "yes",
-        Answer::No => "no",
-        Answer::Cloned => "cloned",
-        Answer::Moved => "moved",
-        Answer::Unique => "unique",
+        Answer::Made => text.push_str("made"),
+        Answer::Done => text.push_str("done"),
+        Answer::Yes => text.push_str("yes"),
+        Answer::No => text.push_str("no"),
+        Answer::Cloned => text.push_str("cloned"),
+        Answer::Moved => text.push_str("moved"),
+        Answer::Unique => text.push_str("unique"),
     }
 }
 
@@ -79,13 +81,13 @@ fn push_reason(text: &mut String, reason: Reason) -> Result<(), AllocError>
     ensures { OnOk result (string_bytes text.new ≡ string_bytes text.old ++ reason_text reason) }
 {
     match reason {
-        Reason::SameName(n) => write!(text, "SameName {n}"),
-        Reason::NotHeld(n) => write!(text, "NotHeld {n}"),
-        Reason::NoCell(n) => write!(text, "NoCell {n}"),
-        Reason::WrongKind(n) => write!(text, "WrongKind {n}"),
-        Reason::NoField(n) => write!(text, "NoField {n}"),
-        Reason::AlreadyHeld(n) => write!(text, "AlreadyHeld {n}"),
-        Reason::CellHeld(n) => write!(text, "CellHeld {n}"),
+        Reason::SameName(n) => push_labelled(text, "SameName ", n as u64),
+        Reason::NotHeld(n) => push_labelled(text, "NotHeld ", n as u64),
+        Reason::NoCell(n) => push_labelled(text, "NoCell ", n as u64),
+        Reason::WrongKind(n) => push_labelled(text, "WrongKind ", n as u64),
+        Reason::NoField(n) => push_labelled(text, "NoField ", n as u64),
+        Reason::AlreadyHeld(n) => push_labelled(text, "AlreadyHeld ", n as u64),
+        Reason::CellHeld(n) => push_labelled(text, "CellHeld ", n as u64),
     }
 }
 
@@ -95,10 +97,9 @@ fn push_counts(text: &mut String, counts: Option<Counts>) -> Result<(), AllocErr
     let Some(counts) = counts else {
         return Ok(());
     };
-    let object = counts.object;
-    let strong = counts.strong;
-    let weak = counts.weak;
-    write!(text, " #{object} {strong}/{weak}")
+    push_labelled(text, " #", counts.object as u64)?;
+    push_labelled(text, " ", counts.strong)?;
+    push_labelled(text, "/", counts.weak)
 }
 
 fn push_events(text: &mut String, events: &[Event]) -> Result<(), AllocError>
@@ -114,9 +115,9 @@ fn push_event(text: &mut String, event: Event) -> Result<(), AllocError>
     ensures { OnOk result (string_bytes text.new ≡ string_bytes text.old ++ event_text event) }
 {
     match event {
-        Event::Destroyed(o) => write!(text, " destroyed #{o}"),
-        Event::Unwrapped(o) => write!(text, " unwrapped #{o}"),
-        Event::Moved(o) => write!(text, " moved #{o}"),
-        Event::Freed(o) => write!(text, " freed #{o}"),
+        Event::Destroyed(o) => push_labelled(text, " destroyed #", o as u64),
+        Event::Unwrapped(o) => push_labelled(text, " unwrapped #", o as u64),
+        Event::Moved(o) => push_labelled(text, " moved #", o as u64),
+        Event::Freed(o) => push_labelled(text, " freed #", o as u64),
     }
 }
