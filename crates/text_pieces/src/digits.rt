@@ -1,5 +1,5 @@
 //! The digits of a number, alone and behind a label.
-ghost use Rattle.std.specs.Prelude.{◌≡◌, ◌++◌, decimal, string_bytes, OnOk, OnErr};
+ghost use Rattle.std.specs.Prelude.{◌≡◌, ◌⊎◌, ◌++◌, decimal, string_bytes, OnOk, OnErr};
 
 use itoa::Buffer;
 use std::alloc::AllocError;
@@ -24,7 +24,8 @@ pub fn push_decimal(text: &mut String, number: u64) -> Result<(), AllocError>
 // Inlined, so that a label that is known where it is added is stored there at once: a text of any length is copied by a call.
 #[inline(always)]
 pub fn push_labelled(text: &mut String, label: &str, number: u64) -> Result<(), AllocError>
-    ensures { OnOk result (string_bytes text.new ≡ string_bytes text.old ++ label.now ++ decimal number) }
+    ensures both { OnOk result (string_bytes text.new ≡ string_bytes text.old ++ label.now ++ decimal number) }
+    ensures front { OnErr result ((string_bytes text.new ≡ string_bytes text.old) ⊎ (string_bytes text.new ≡ string_bytes text.old ++ label.now)) }
 {
     text.push_str(label)?;
     push_decimal(text, number)
