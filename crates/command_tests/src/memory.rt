@@ -71,6 +71,20 @@ husk 3 weak 1
 total 7 ops 0 skipped 3 objects 2 alive 0 leaks 1 husks
 ";
 
+// No line is plain, so that each is read by its tokens, of which the scratch takes memory.
+const BY_TOKENS: &[u8] = b"{\"fields\":[],\"\\u0069d\":1,\"op\":\"new\",\"t\":0,\"to\":0}
+{\"fields\":[0],\"id\":2,\"op\":\"new\",\"t\":0,\"to\":1,\"at\":1.5}
+{\"h\":1,\"id\":3,\"op\":\"drop\",\"t\":0,\"in\":{\"file\":[\"main.rs\"]}}
+";
+
+const BY_TOKENS_REPORT: &str = "1 new made #1 1/0
+2 new made #2 1/0
+3 drop done #2 0/0 destroyed #2 destroyed #1 freed #1 freed #2
+object 1 destroyed 3 freed 3
+object 2 destroyed 3 freed 3
+total 3 ops 0 skipped 2 objects 0 alive 0 leaks 0 husks
+";
+
 fn trace_of(rt: &(impl Abort + AllocGlobal), input: &[u8]) -> Result<Trace, Fail> {
     let alloc = rt.alloc();
     match read_trace(alloc, input) {
@@ -182,4 +196,9 @@ fn nested_fields(rt: HostRuntime) -> Result<(), Fail> {
 #[test]
 fn make_mut(rt: HostRuntime) -> Result<(), Fail> {
     stands_refusal(&rt, MAKE_MUT, MAKE_MUT_REPORT, 1)
+}
+
+#[test]
+fn by_tokens(rt: HostRuntime) -> Result<(), Fail> {
+    stands_refusal(&rt, BY_TOKENS, BY_TOKENS_REPORT, 0)
 }

@@ -9,6 +9,8 @@ use Rattle.serde_json.specs.Read.{of_json, max_depth}
 use Rattle.trace_types.specs.declared.kinds.Field.{Field}
 use Rattle.trace_types.specs.declared.kinds.Field.TheVariants.{Held, Null, Me}
 use Rattle.trace_types.specs.declared.limits.TheConstants.{MAX_NAME, MAX_FIELDS}
+use Rattle.trace_types.specs.Names as Names
+use Rattle.trace_types.specs.declared.names.OpName.{OpName}
 use Rattle.trace_reader.specs.declared.fault.LineCause.{LineCause}
 use Rattle.trace_reader.specs.declared.fault.LineCause.TheVariants.{WrongType, Missing, OutOfRange}
 use Rattle.trace_reader.specs.declared.names.NumberName.{NumberName}
@@ -132,6 +134,7 @@ text_of other = None
 abbrev pub op_told : KeptText → Option (Option (List ℕ))
 op_told kept_text.Missing = None
 op_told (kept_text.Text s) = Some (Some s.now)
+op_told (kept_text.Named name) = Some (Some (Names.name_text name))
 op_told kept_text.Other = Some None
 
 -- what is kept of `fields`: where it is there, its elements, if it is an array
@@ -168,6 +171,11 @@ perhaps_told kept_number.Other = Err WrongType
 abbrev pub text_told : Option (Option (List ℕ)) → Result (List ℕ) LineCause
 text_told None = Err Missing
 text_told (Some o) = ok_or o WrongType
+
+-- the operation that a text names, if it names one, or the fault of the text
+abbrev pub named_by : Result (List ℕ) LineCause → Result (Option OpName) LineCause
+named_by (Ok s) = Ok (Names.name_of s)
+named_by (Err cause) = Err cause
 
 -- ---- the fields of a new object
 

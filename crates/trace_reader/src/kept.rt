@@ -1,6 +1,7 @@
 //! What is kept of an object's members: a place for each name that an operation may ask for.
 ghost use Rattle.std.specs.Prelude.{◌≡◌, Some, codes};
-ghost use Rattle.serde_json.specs.Data.{Data, Members, no_members, put};
+ghost use Rattle.serde_json.specs.Data.{Data, Members, no_members, put, string};
+ghost use Rattle.trace_types.specs.Names as Names;
 ghost use Rattle.trace_reader.specs.Looks.{told, look_of, listed, number_text, number_of_look, text_of};
 ghost use Rattle.trace_reader.specs.Looks.{op_told, elements_told, kept_at, Tells};
 
@@ -8,6 +9,7 @@ use crate::fault::LineCause;
 use crate::names::{NUMBERS, NumberName, place};
 use crate::seen::Seen;
 use trace_types::kinds::Field;
+use trace_types::names::OpName;
 
 /// What is kept of a member that has to be a number.
 #[derive(Clone, Copy, Debug)]
@@ -26,6 +28,8 @@ pub enum KeptNumber {
 pub enum KeptText<'a> {
     Missing,
     Text(&'a str),
+    /// the text that names the operation
+    Named(OpName),
     /// another value
     Other,
 }
@@ -81,6 +85,13 @@ impl<'a> KeptMembers<'a> {
             → Tells self.new (put (codes "op") d ms) }
     {
         self.op = op_of(seen);
+    }
+
+    /// Keeps `op`, a text that names an operation.
+    pub fn keep_op_name(&mut self, name: OpName)
+        ensures { (ms : Members) → Tells self.old ms → Tells self.new (put (codes "op") (string (Names.name_text name)) ms) }
+    {
+        self.op = KeptText::Named(name);
     }
 
     /// Keeps `fields`.

@@ -9,12 +9,14 @@ mod lines;
 mod members;
 mod names;
 mod op;
+mod plain;
 mod request;
 mod script;
 mod seen;
 mod tokens;
 mod trace;
 mod values;
+mod walks;
 mod write;
 
 pub use fault::{LineCause, LineFault, fault_line};

@@ -1,14 +1,15 @@
 //! The members of an operation, by their names.
-ghost use Rattle.std.specs.Prelude.{◌≡◌, ◌≤◌, Ok, Err, IfOk, IsTrue, MatchResult, codes};
+ghost use Rattle.std.specs.Prelude.{◌≡◌, ◌≤◌, IfOk, IsTrue, codes};
 ghost use Rattle.serde_json.specs.Data.{Members, object};
 ghost use Rattle.trace_types.specs.Limits.{is_perhaps_name};
 ghost use Rattle.trace_reader.specs.Members.{within, number_at, handle_at, perhaps_handle_at, text_at};
-ghost use Rattle.trace_reader.specs.Looks.{number_text, kept_at, op_told, Tells, number_told, perhaps_told, text_told};
+ghost use Rattle.trace_reader.specs.Looks.{number_text, kept_at, op_told, Tells, number_told, perhaps_told, text_told, named_by};
 
 use crate::fault::LineCause;
 use crate::kept::{KeptMembers, KeptNumber, KeptText};
 use crate::names::NumberName;
 use trace_types::limits::{MAX_INDEX, MAX_NAME};
+use trace_types::names::{OpName, read_name};
 
 /// A number from `low` to `high`.
 pub fn in_range(n: Option<u64>, low: u32, high: u32) -> Result<u32, LineCause>
@@ -91,22 +92,20 @@ fn kept_perhaps(kept: &KeptMembers<'_>, name: NumberName) -> Result<Option<u32>,
     }
 }
 
-/// The member `op`, a text.
-pub fn op_text<'a>(kept: &KeptMembers<'a>) -> Result<&'a str, LineCause>
-    ensures { (ms : Members) → Tells kept.now ms → MatchResult result
-        (λ text. text_at (codes "op") (object ms) ≡ Ok text.now)
-        (λ cause. text_at (codes "op") (object ms) ≡ Err cause) }
+/// The operation that the member `op`, a text, names, if it names one.
+pub fn op_name(kept: &KeptMembers<'_>) -> Result<Option<OpName>, LineCause>
+    ensures { (ms : Members) → Tells kept.now ms → result ≡ named_by (text_at (codes "op") (object ms)) }
 {
-    kept_text(kept.op)
+    kept_name(kept.op)
 }
 
-fn kept_text<'a>(op: KeptText<'a>) -> Result<&'a str, LineCause>
-    ensures { MatchResult result (λ text. text_told (op_told op.entry) ≡ Ok text.now)
-        (λ cause. text_told (op_told op.entry) ≡ Err cause) }
+fn kept_name(op: KeptText<'_>) -> Result<Option<OpName>, LineCause>
+    ensures { result ≡ named_by (text_told (op_told op.entry)) }
 {
     match op {
         KeptText::Missing => Err(LineCause::Missing),
-        KeptText::Text(text) => Ok(text),
+        KeptText::Text(text) => Ok(read_name(text)),
+        KeptText::Named(name) => Ok(Some(name)),
         KeptText::Other => Err(LineCause::WrongType),
     }
 }

@@ -51,11 +51,18 @@ pub fn place(name: NumberName) -> usize
 }
 
 /// The name that a text is, where an operation may ask for it.
-#[tactic(auto, using(std::proofs::lemmas::Slice::Eq::text_from_reads))]
 pub fn member_name(text: &str) -> Option<MemberName>
     ensures { IsNamed text.now result }
 {
-    match text.as_bytes() {
+    written_name(text.as_bytes())
+}
+
+/// The name that is written so, where an operation may ask for it.
+#[tactic(auto, using(std::proofs::lemmas::Slice::Eq::text_from_reads))]
+pub fn written_name(text: &[u8]) -> Option<MemberName>
+    ensures { IsNamed text.now result }
+{
+    match text {
         b"t" => Some(MemberName::Number(NumberName::Thread)),
         b"id" => Some(MemberName::Number(NumberName::Id)),
         b"op" => Some(MemberName::Op),

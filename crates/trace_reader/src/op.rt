@@ -1,10 +1,10 @@
 //! An operation: of a line, or of a value.
-ghost use Rattle.std.specs.Prelude.{◌≡◌, IfOk, IsTrue};
+ghost use Rattle.std.specs.Prelude.{◌≡◌, Ok, IfOk, IfSome, IsTrue, MatchResult};
 ghost use Rattle.serde_json.specs.Data.{Members, object};
 ghost use Rattle.serde_json.specs.Find.{as_object};
 ghost use Rattle.serde_json.specs.View.{view};
 ghost use Rattle.trace_types.specs.Limits.{is_kind};
-ghost use Rattle.trace_reader.specs.Members.{Gives};
+ghost use Rattle.trace_reader.specs.Members.{FailsAs, Gives};
 ghost use Rattle.trace_reader.specs.Looks.{Tells};
 ghost use Rattle.trace_reader.specs.Reading.{on_object};
 ghost use Rattle.trace_reader.specs.Reading as Reading;
@@ -13,16 +13,17 @@ ghost use Rattle.trace_reader.specs.Writing.{op_of_line};
 use crate::fault::LineCause;
 use crate::kept::KeptMembers;
 use crate::kinds;
-use crate::members::{number, op_text};
+use crate::members::{number, op_name};
 use crate::names::NumberName;
+use crate::plain::line::plain_members;
 use crate::tokens::line::{Unread, line_members};
 use crate::values::value_members;
+use crate::walks::LineScratch;
 use json::Scratch;
 use serde_json::Value;
 use std::alloc::Global;
 use trace_types::kinds::Kind;
 use trace_types::limits::{MAX_ID, MAX_THREAD};
-use trace_types::names::read_name;
 use trace_types::ops::Op;
 
 /// The operation that a line is, or its first fault.
@@ -31,7 +32,37 @@ use trace_types::ops::Op;
 /// those of the operation. Each is tried for `Missing`, `WrongType` and `OutOfRange` before the next one. The scratch is kept
 /// from line to line.
 #[tactic(auto, unfolding(crate::specs::Reading::read_op))]
-pub fn line_op(alloc: Global, line: &[u8], scratch: &mut Scratch) -> Result<Op, LineCause>
+pub fn line_op(alloc: Global, line: &[u8], scratch: &mut LineScratch) -> Result<Op, LineCause>
+    ensures { Gives result (op_of_line line.now) }
+{
+    if scratch.is_left_out() {
+        return token_op(alloc, line, &mut scratch.tokens);
+    }
+    let found = plain_op(alloc, line)?;
+    scratch.note(found.is_some());
+    match found {
+        Some(op) => Ok(op),
+        None => token_op(alloc, line, &mut scratch.tokens),
+    }
+}
+
+// The operation that a line is, or its first fault, where the line is plain.
+#[tactic(auto, unfolding(crate::specs::Reading::read_op))]
+fn plain_op(alloc: Global, line: &[u8]) -> Result<Option<Op>, LineCause>
+    ensures { MatchResult result (λ found. IfSome found (λ op. op_of_line line.now ≡ Ok op)) (λ cause. FailsAs cause (op_of_line line.now)) }
+{
+    let mut kept = KeptMembers::none();
+    if !plain_members(alloc, line, &mut kept)? {
+        return Ok(None);
+    }
+    let op = members_of_op(alloc, &kept)?;
+    Ok(Some(op))
+}
+
+// The operation that a line is, token by token. Apart, so that the walk over a plain line has few locals to set to zero.
+#[inline(never)]
+#[tactic(auto, unfolding(crate::specs::Reading::read_op))]
+fn token_op(alloc: Global, line: &[u8], scratch: &mut Scratch) -> Result<Op, LineCause>
     ensures { Gives result (op_of_line line.now) }
 {
     let mut kept = KeptMembers::none();
@@ -77,8 +108,7 @@ fn kind(alloc: Global, kept: &KeptMembers<'_>) -> Result<Kind, LineCause>
     ensures value { (ms : Members) → Tells kept.now ms → Gives result (Reading.kind_at (object ms)) }
     ensures within { IfOk result (λ k. IsTrue (is_kind k)) }
 {
-    let text = op_text(kept)?;
-    let Some(name) = read_name(text) else {
+    let Some(name) = op_name(kept)? else {
         return Err(LineCause::UnknownOp);
     };
     kinds::kind(alloc, name, kept)

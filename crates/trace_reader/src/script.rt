@@ -8,7 +8,7 @@ use crate::fault::{LineCause, LineFault};
 use crate::lines::{cut_line, is_blank, json};
 use crate::request::{RequestLine, read_request};
 use crate::trace::read_line;
-use json::Scratch;
+use crate::walks::LineScratch;
 use std::alloc::Global;
 use trace_types::limits::MAX_LINE;
 use trace_types::sequence::Sequence;
@@ -34,7 +34,7 @@ pub fn read_script(alloc: Global, bytes: &[u8], lone: bool) -> Result<Script, Li
     ensures line { IfErr result (λ e. (1 ≤ e.line) × (e.line ≤ length (lines_of bytes.now))) }
 {
     let mut trace = Trace::new(alloc);
-    let mut scratch = Scratch::new(alloc);
+    let mut scratch = LineScratch::new(alloc);
     let mut rest = bytes;
     let mut number = 1;
     'lines: loop {

@@ -7,7 +7,7 @@ ghost use Rattle.trace_reader.specs.Reading as Reading;
 use crate::fault::{LineCause, LineFault};
 use crate::lines::{cut_line, is_blank};
 use crate::op::line_op;
-use json::Scratch;
+use crate::walks::LineScratch;
 use std::alloc::Global;
 use trace_types::limits::MAX_LINE;
 use trace_types::ops::{Op, TraceFault};
@@ -24,7 +24,7 @@ pub fn read_trace(alloc: Global, bytes: &[u8]) -> Result<Trace, LineFault>
     ensures line { IfErr result (λ e. (1 ≤ e.line) × (e.line ≤ length (lines_of bytes.now))) }
 {
     let mut trace = Trace::new(alloc);
-    let mut scratch = Scratch::new(alloc);
+    let mut scratch = LineScratch::new(alloc);
     let mut rest = bytes;
     let mut number = 1;
     'lines: loop {
@@ -49,7 +49,7 @@ pub fn read_line(
     alloc: Global,
     line: &[u8],
     trace: &mut Trace,
-    scratch: &mut Scratch,
+    scratch: &mut LineScratch,
 ) -> Result<(), LineCause>
     ensures ok { OnOk result (after_line trace.old line.now ≡ Ok trace.new) }
     ensures fault { IfErr result (λ e. e ≢ LineCause.Memory → after_line trace.old line.now ≡ Err e) }
