@@ -12,7 +12,7 @@ mod whatif;
 pub use due::{Due, fault_due, too_long};
 pub use exits::Exit;
 pub use input::{InputFault, read_all};
-pub use replay::{report_on, report_on_run, serve_replay};
+pub use replay::{report_on, report_on_ops, report_on_run, serve_replay};
 pub use script::serve_script;
 pub use serve::write_due;
 pub use whatif::serve_whatif;

@@ -1,5 +1,6 @@
 //! The command `whatif`: a trace and one request in, the edited trace and its report out.
 ghost use Rattle.std.specs.Prelude.{◌≡◌, ◌++◌, ◌∷◌, [], codes, IfOk};
+ghost use Rattle.trace_types.specs.Trace.{IsTrace};
 ghost use Rattle.trace_reader.specs.Writing.{lines_text};
 ghost use Rattle.run_engine.specs.Edited.{edited_by};
 ghost use Rattle.edit_desk.specs.ReplyText.{reply_text};
@@ -11,14 +12,15 @@ ghost use Rattle.command_serve.specs.Whatif as specs;
 
 use crate::due::{Due, fault_due};
 use crate::exits::Exit;
-use crate::replay::report_on;
+use crate::replay::report_on_ops;
 use crate::serve::{Answers, serve};
 use edit_desk::{Reply, push_reply};
-use run_engine::{Refusal, apply};
+use run_engine::{Refusal, edited_ops};
 use std::alloc::{AllocError, Global};
-use trace_reader::{RequestLine, read_script, write_trace};
+use trace_reader::{RequestLine, read_script, write_ops};
 use trace_types::devices::{Sink, Source};
 use trace_types::edits::Batch;
+use trace_types::ops::Op;
 use trace_types::sequence::Sequence;
 use trace_types::trace::Trace;
 
@@ -69,8 +71,8 @@ fn only_batch(alloc: Global, requests: Sequence<RequestLine>) -> Batch
 fn edited_due(alloc: Global, trace: &Trace, batch: &Batch) -> Result<Due, AllocError>
     ensures { IfOk result (λ d. d ≡ edited_due (edited_by trace.now batch.now)) }
 {
-    match apply(alloc, trace, batch) {
-        Ok(edited) => Ok(Due::answer(told(alloc, &edited)?)),
+    match edited_ops(alloc, trace, batch) {
+        Ok(edited) => Ok(Due::answer(told(alloc, edited.as_slice())?)),
         Err(fault) => match fault.refusal() {
             Some(why) => Ok(Due::fault(refusal(alloc, why)?)),
             None => Err(AllocError),
@@ -79,12 +81,13 @@ fn edited_due(alloc: Global, trace: &Trace, batch: &Batch) -> Result<Due, AllocE
 }
 
 // The canonical lines of a trace, and its report.
-fn told(alloc: Global, trace: &Trace) -> Result<Vec<u8>, AllocError>
+fn told(alloc: Global, ops: &[Op]) -> Result<Vec<u8>, AllocError>
+    requires { IsTrace ops.now }
     ensures { IfOk result (λ text. text.items
-        ≡ lines_text trace.now ++ codes "--\n" ++ report_of_replay trace.now) }
+        ≡ lines_text ops.now ++ codes "--\n" ++ report_of_replay ops.now) }
 {
-    let mut text = write_trace(alloc, trace)?;
-    let report = report_on(alloc, trace)?;
+    let mut text = write_ops(alloc, ops)?;
+    let report = report_on_ops(alloc, ops)?;
     text.extend_from_slice(b"--\n")?;
     text.extend_from_slice(report.as_slice())?;
     Ok(text)

@@ -6,6 +6,6 @@ mod replay;
 mod run;
 mod segments;
 
-pub use editing::edits::{apply, try_size};
+pub use editing::edits::{apply, edited_ops, try_size};
 pub use editing::faults::{Refusal, RunFault};
 pub use run::Run;

@@ -24,4 +24,4 @@ pub use op::read_op;
 pub use request::{RequestLine, read_request};
 pub use script::{Script, read_script};
 pub use trace::read_trace;
-pub use write::{lines_read_back, write_line, write_trace};
+pub use write::{lines_read_back, write_line, write_ops, write_trace};

@@ -32,6 +32,14 @@ pub fn write_trace(alloc: Global, trace: &Trace) -> Result<Vec<u8>, AllocError>
     lines(alloc, trace.as_slice())
 }
 
+/// The canonical lines of operations, each with its newline: of operations that a caller has without a trace.
+pub fn write_ops(alloc: Global, ops: &[Op]) -> Result<Vec<u8>, AllocError>
+    ensures lines { IfOk result (λ text. text.items ≡ lines_text ops.now) }
+    ensures within { IfOk result (λ _. IsTrue (list_all is_within_limits ops.now)) }
+{
+    lines(alloc, ops)
+}
+
 /// The canonical lines of a trace read as the trace.
 pub fn lines_read_back()
     ensures { (ops : List Operation) → IsTrace ops → IsTrue (list_all is_within_limits ops) → read_trace (lines_text ops) ≡ Ok ops }

@@ -27,6 +27,22 @@ pub fn apply(alloc: Global, trace: &Trace, batch: &Batch) -> Result<Trace, RunFa
     Ok(copied(alloc, &ops)?)
 }
 
+/// The operations after the edits, as `apply` has them, with distinct numbers.
+///
+/// They are a list and no `Trace`: no number is looked up, and no index of the numbers is made, which a trace keeps where they don't rise.
+pub fn edited_ops(alloc: Global, trace: &Trace, batch: &Batch) -> Result<Vec<Op>, RunFault>
+    ensures ok { IfOk result (λ v. edited_by trace.now batch.now ≡ Ok v.items) }
+    ensures trace { IfOk result (λ v. IsTrace v.items) }
+    ensures fault { IfErr result (IsFaultOf (edited_by trace.now batch.now)) }
+    ensures empty { length batch.now ≡ 0 → result ≡ Err EmptyBatch }
+    ensures too_many { MAX_EDITS < length batch.now → result ≡ Err TooManyEdits }
+{
+    try_size(batch.len())?;
+    let ops = Listing::of(alloc, Original::of_trace(trace))?;
+    let ops = edited(ops, batch.as_slice())?;
+    Ok(ops.copies(alloc, 0, ops.len())?)
+}
+
 /// Whether a batch may have so many edits.
 pub fn try_size(len: usize) -> Result<(), RunFault>
     ensures ok { OnOk result ((0 < len) × (len ≤ MAX_EDITS)) }
