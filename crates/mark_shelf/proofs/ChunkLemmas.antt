@@ -8,7 +8,7 @@ use Rattle.std.proofs.lemmas.Bool.{ne_eqb}
 use Rattle.lru.specs.LruCache.{LruCache, promoted, put_entries}
 use Rattle.op_step.specs.Chunk.{Chunk}
 use Rattle.mark_shelf.specs.declared.names.ChunkName.{ChunkName}
-use Rattle.mark_shelf.specs.Shelf.{Shelf, name_eq, named}
+use Rattle.mark_shelf.specs.Shelf.{Shelf, name_eq, named, sought}
 use Rattle.mark_shelf.proofs.MarkLemmas.{take_front}
 
 abbrev pub AreBelow : ℕ → List (ℕ × Chunk) → Type 0
@@ -64,3 +64,7 @@ pub IfSome-named : (s : Shelf) (n : ChunkName) (k : ℕ) (c : Chunk) (answer : O
     → IfSome answer (λ d. d ≡ c) → IfSome answer (λ d. named s n ≡ Some d)
 IfSome-named s n k c None is there h = tt
 IfSome-named s n k c (Some d) is there h = named-there s n k c is there ∙ ap Some (sym h)
+
+-- and a look-up of its name brings it to the front
+pub sought-there : (s : Shelf) (n : ChunkName) (k : ℕ) (c : Chunk) → lookup (name_eq n) s.names ≡ Some k → lookup (nat_eq k) s.chunks ≡ Some c → record s { chunks = promoted (nat_eq k) s.chunks } ≡ sought s n
+sought-there s n k c is there = rw (is, there) refl

@@ -1,3 +1,4 @@
 mod FindLaws
 mod MarkLemmas
 mod ChunkLemmas
+mod JointLemmas

@@ -1,6 +1,7 @@
 //! Bounded lists of what serves a replay again: which checkpoints are kept, by last use, and which chunks were replayed.
 #![tactic(auto)]
 
+mod joints;
 mod laws;
 mod marks;
 mod memo;

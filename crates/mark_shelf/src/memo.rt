@@ -40,9 +40,10 @@ pub fn note(names: &mut IndexMap<ChunkName, u64>, most: usize, name: ChunkName, 
     }
 }
 
-/// The chunk again, if it begins with this heap and has these operations. A heap may be large: it is compared last, and only where its
-/// sum is that of the chunk's start, as it is of equal heaps.
-pub fn serving(chunk: &ChunkRun, heap: &Heap, ops: &[Op]) -> Option<ChunkRun>
+/// The chunk again, if it begins with this heap and has these operations. A heap may be large: it is compared last, unless the chunk is
+/// known to begin with it, and only where its sum is that of the chunk's start, as it is of equal heaps.
+pub fn serving(chunk: &ChunkRun, heap: &Heap, ops: &[Op], is_known: bool) -> Option<ChunkRun>
+    requires { IsTrue is_known → chunk.now.start ≡ heap.now }
     ensures same { IfSome result (λ c. c ≡ chunk.now) }
     ensures start { IfSome result (λ c. c.start ≡ heap.now) }
     ensures ops { IfSome result (λ c. c.ops ≡ ops.now) }
@@ -50,10 +51,16 @@ pub fn serving(chunk: &ChunkRun, heap: &Heap, ops: &[Op]) -> Option<ChunkRun>
     if !same_ops(chunk.ops(), ops) {
         return None;
     }
-    let start = chunk.start();
-    if start.sum() == heap.sum() && start.same(heap) {
+    if is_known || is_same(chunk.start(), heap) {
         chunk.share().ok()
     } else {
         None
     }
+}
+
+// Whether both are the same heap.
+fn is_same(start: &Heap, heap: &Heap) -> bool
+    ensures { IsTrue result → start.now ≡ heap.now }
+{
+    start.sum() == heap.sum() && start.same(heap)
 }

@@ -1,6 +1,9 @@
 //! The shelf.
-ghost use Rattle.std.specs.Prelude.{◌≡◌, ◌<◌, Some, IfOk, IfSome};
+ghost use Rattle.std.specs.Prelude.{◌≡◌, ◌<◌, Some, IfOk, IfSome, MatchOption};
+ghost use Rattle.std.specs.Map.{lookup};
+ghost use Rattle.ownership_model.specs.Step.{end_from};
 
+use crate::joints::{is_behind, join};
 use crate::marks::bring;
 use crate::memo::{keep, note, serving};
 use crate::names::ChunkName;
@@ -20,6 +23,7 @@ use trace_types::ops::Op;
 pub struct MarkShelf {
     marks: LruCache<u32, ()>,
     chunks: LruCache<u64, ChunkRun>,
+    joints: LruCache<u64, u64>,
     names: IndexMap<ChunkName, u64>,
     most_names: usize,
     next: u64,
@@ -31,6 +35,7 @@ impl Model for MarkShelf {
     ghost use Rattle.std.specs.Map.{keys_of};
     ghost use Rattle.indexmap.specs.IndexMap.{index_map_len};
     ghost use Rattle.mark_shelf.specs.Shelf.{Shelf, shelf_code};
+    ghost use Rattle.mark_shelf.specs.Joints.{AreJoints};
 
     ghost Value = { Shelf };
 
@@ -38,11 +43,12 @@ impl Model for MarkShelf {
 
     ghost view = { λ s. record { marks = keys_of s.marks.entries; chunks = s.chunks.entries; names = s.names.entries; most_marks = s.marks.cap; most_chunks = s.chunks.cap; most_names = s.most_names; next = s.next } };
 
-    ghost invariant = { λ s. AllByRecursion (λ e. e.0 < s.next) s.chunks.entries × (index_map_len s.names ≤ s.most_names) };
+    ghost invariant = { λ s. AllByRecursion (λ e. e.0 < s.next) s.chunks.entries × (index_map_len s.names ≤ s.most_names) × AreJoints s.chunks.entries s.next s.joints.entries };
 }
 
 impl MarkShelf {
-    ghost use Rattle.mark_shelf.specs.Shelf.{empty_shelf, Touches, Remembers, named, sought, name_of};
+    ghost use Rattle.mark_shelf.specs.Shelf.{empty_shelf, Touches, Remembers, remembered, named, sought, name_of, name_eq};
+    ghost use Rattle.mark_shelf.specs.Joints.{EndsWith};
 
     /// A shelf with nothing, and with room for so many checkpoints, chunks and names of chunks.
     pub fn new(alloc: Global, marks: usize, chunks: usize, names: usize) -> Result<Self, AllocError>
@@ -60,6 +66,7 @@ impl MarkShelf {
         Ok(MarkShelf {
             marks: LruCache::sparse(alloc, most_marks)?,
             chunks: LruCache::sparse(alloc, most_chunks)?,
+            joints: LruCache::sparse(alloc, most_chunks)?,
             names: IndexMap::new(alloc),
             most_names: names,
             next: 0,
@@ -85,17 +92,32 @@ impl MarkShelf {
     pub fn remember(&mut self, chunk: ChunkRun)
         ensures { Remembers self.old chunk self.new }
     {
+        self.remember_behind(chunk, None);
+    }
+
+    /// As `remember`, of a chunk that begins where the one with a number ends, if that is known: where the one is found behind the
+    /// other, no heap is walked then. Gives the number of the chunk, if it isn't lost.
+    pub fn remember_behind(&mut self, chunk: ChunkRun, before: Option<u64>) -> Option<u64>
+        requires { IfSome before (λ k. EndsWith self.old.chunks k chunk.start) }
+        ensures remembers { Remembers self.old chunk self.new }
+        ensures number { MatchOption result (self.new ≡ self.old) (λ n. (n ≡ self.old.next) × (self.new ≡ remembered self.old chunk)) }
+        ensures ends { IfSome result (λ n. EndsWith self.new.chunks n (end_from chunk.start chunk.ops)) }
+    {
         if self.next == u64::MAX {
-            return;
+            return None;
         }
         let Ok(_) = self.names.reserve(1) else {
-            return;
+            return None;
         };
         let name = ChunkName::of(chunk.ops());
-        if keep(&mut self.chunks, self.next, chunk) {
-            note(&mut self.names, self.most_names, name, self.next);
-            self.next += 1;
+        let number = self.next;
+        if !keep(&mut self.chunks, number, chunk) {
+            return None;
         }
+        note(&mut self.names, self.most_names, name, number);
+        join(&mut self.joints, number, before, number);
+        self.next += 1;
+        Some(number)
     }
 
     /// The chunk that the name of the operations stands for, if it begins with this heap and has these operations. It
@@ -106,16 +128,46 @@ impl MarkShelf {
         ensures ops { IfSome result (λ c. c.ops ≡ ops.now) }
         ensures named { IfSome result (λ c. named self.old (name_of ops.now) ≡ Some c) }
     {
+        let (_, chunk) = self.find_behind(heap, ops, None)?;
+        Some(chunk)
+    }
+
+    /// As `find`, with the number of the chunk, where the heap is that at which the chunk with a number ends, if that is known: a
+    /// chunk that was remembered or found behind that one begins with this heap, and none is walked.
+    pub fn find_behind(
+        &mut self,
+        heap: &Heap,
+        ops: &[Op],
+        before: Option<u64>,
+    ) -> Option<(u64, ChunkRun)>
+        requires { IfSome before (λ k. EndsWith self.old.chunks k heap.now) }
+        ensures shelf { self.new ≡ sought self.old (name_of ops.now) }
+        ensures start { IfSome result (λ r. r.1.start ≡ heap.now) }
+        ensures ops { IfSome result (λ r. r.1.ops ≡ ops.now) }
+        ensures named { IfSome result (λ r. named self.old (name_of ops.now) ≡ Some r.1) }
+        ensures number { IfSome result (λ r. lookup (name_eq (name_of ops.now)) self.old.names ≡ Some r.0) }
+        ensures ends { IfSome result (λ r. EndsWith self.new.chunks r.0 (end_from r.1.start r.1.ops)) }
+    {
         let name = ChunkName::of(ops);
         let number = *self.names.get(&name)?;
+        // This tells that no number comes twice.
+        let _count = self.chunks.len();
         let answer = match self.chunks.peek(&number) {
             None => {
                 self.names.shift_remove(&name);
                 return None;
             }
-            Some(chunk) => serving(chunk, heap, ops),
+            Some(chunk) => {
+                let is_known = is_behind(&self.chunks, &self.joints, number, before);
+                serving(chunk, heap, ops, is_known)
+            }
         };
         self.chunks.promote(&number);
-        answer
+        // So a joint stays as long as its chunk.
+        self.joints.promote(&number);
+        let chunk = answer?;
+        // Where the two are found again, one behind the other, no heap is walked.
+        join(&mut self.joints, number, before, self.next);
+        Some((number, chunk))
     }
 }

@@ -1,0 +1,26 @@
+-- Which chunks begin where others end.
+use Rattle.std.specs.Prelude.{◌≡◌, ◌<◌, ◌&&◌, ℕ, Bool, false, nat_eq, is_some, List, Contains, Option}
+use Rattle.std.specs.Option.{option_map_or}
+use Rattle.std.specs.Map.{lookup}
+use Rattle.ownership_model.specs.State.{State}
+use Rattle.ownership_model.specs.Step.{end_from}
+use Rattle.op_step.specs.Chunk.{Chunk}
+
+-- the chunk with a number, if it is there, ends with the state
+abbrev pub EndsWith : List (ℕ × Chunk) → ℕ → State → Type 0
+EndsWith chunks k state = (c : Chunk) → Contains chunks (k, c) → end_from c.start c.ops ≡ state
+
+-- the chunk with the first number, if it is there, begins where the one with the second ends
+pub record IsJoint (chunks : List (ℕ × Chunk)) (next : ℕ) (joint : ℕ × ℕ) : Type 0 where
+  pub meets : (c : Chunk) → Contains chunks (joint.0, c) → EndsWith chunks joint.1 c.start
+  -- both are below the number of the next chunk, which has no joint so far
+  pub first : joint.0 < next
+  pub second : joint.1 < next
+
+-- each of these is one
+abbrev pub AreJoints : List (ℕ × Chunk) → ℕ → List (ℕ × ℕ) → Type 0
+AreJoints chunks next joints = (j : ℕ × ℕ) → Contains joints j → IsJoint chunks next j
+
+-- whether the chunk with a number is joined to the one before, and that is there
+abbrev pub is_joined : List (ℕ × Chunk) → List (ℕ × ℕ) → ℕ → Option ℕ → Bool
+is_joined chunks joints n before = option_map_or (λ k. is_some (lookup (nat_eq k) chunks) && option_map_or (nat_eq k) (lookup (nat_eq n) joints) false) before false
