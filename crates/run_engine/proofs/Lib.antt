@@ -9,6 +9,7 @@ mod SpanLemmas
 mod StretchLemmas
 mod PieceLemmas
 mod MemoLemmas
+mod FreshLemmas
 mod PlaceLemmas
 mod RejoinLemmas
 mod ConvergeLemmas

@@ -17,6 +17,8 @@ pub mod Steps
 pub mod GivenUp
 pub mod Onward
 pub mod GoesOn
+pub mod FreshChunks
+pub mod Placed
 pub mod Cleared
 pub mod Loaded
 pub mod Revision

@@ -2,6 +2,7 @@
 pub mod ahead;
 pub mod converge;
 pub mod divergence;
+pub mod fresh;
 pub mod loading;
 pub mod piece;
 pub mod progress;

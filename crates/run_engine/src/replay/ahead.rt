@@ -6,6 +6,7 @@ ghost use Rattle.run_engine.specs.Memo.{IsSearched};
 ghost use Rattle.run_engine.specs.Onward.{cuts};
 ghost use Rattle.run_engine.specs.Steps.{AreTaken, HaveSteppedOn};
 ghost use Rattle.run_engine.specs.GoesOn.{MayGoOn, GoesOn, GoesAhead};
+ghost use Rattle.run_engine.specs.Placed.{IsPlaced};
 
 use crate::editing::listing::Listing;
 use crate::replay::piece::{Piece, STRIDE, found, joined, replayed_on, stepped};
@@ -28,8 +29,10 @@ pub fn go_ahead(
 ) -> Result<Piece, AllocError>
     requires may { MayGoOn ops.now.ops front to }
     requires trace { IsTrace ops.now.ops }
+    requires placed { IsPlaced shelf.old.chunks front }
     ensures goes_on { (old : List Operation) (marks : List ℕ) → IfOk result (λ f.
         GoesOn old ops.now.ops marks front f shelf.old shelf.new meter.old meter.new) }
+    ensures placed { IfOk result (IsPlaced shelf.new.chunks) }
     ensures there { IfOk result (λ f. f.len ≡ to) }
     ensures never_less { meter.old ≤ meter.new }
     ensures rise { meter.new + front.len ≤ meter.old + to }
@@ -51,7 +54,9 @@ fn step_ahead(
 ) -> Result<Piece, AllocError>
     requires may { MayGoOn ops.now.ops front to }
     requires trace { IsTrace ops.now.ops }
+    requires placed { IsPlaced shelf.old.chunks front }
     ensures goes_ahead { IfOk result (λ f. GoesAhead ops.now.ops front f (cuts front.len to)) }
+    ensures placed { IfOk result (IsPlaced shelf.new.chunks) }
     ensures searched { IsSearched shelf.old shelf.new }
     ensures stepped { (old : List Operation) (marks : List ℕ) → IfOk result (λ f.
         HaveSteppedOn old ops.now.ops marks shelf.old.chunks front.len f.len meter.old meter.new) }
@@ -83,7 +88,9 @@ fn next_cut(
     requires small { length next.items ≤ 64 }
     requires next { next.items ≡ slice_range ops.now.ops front.len (front.len + length next.items) }
     requires trace { IsTrace ops.now.ops }
+    requires placed { IsPlaced shelf.old.chunks front }
     ensures goes_ahead { IfOk result (λ f. GoesAhead ops.now.ops front f (front.len ∷ [])) }
+    ensures placed { IfOk result (IsPlaced shelf.new.chunks) }
     ensures searched { IsSearched shelf.old shelf.new }
     ensures taken { (old : List Operation) (marks : List ℕ) → IfOk result (λ _.
         AreTaken old marks shelf.old.chunks front.end next.items (length next.items)
@@ -92,7 +99,7 @@ fn next_cut(
     ensures never_less { meter.old ≤ meter.new }
     ensures rise { meter.new ≤ meter.old + length next.items }
 {
-    let known = found(alloc, &front.end, &next, shelf)?;
+    let known = found(alloc, &front.end, &next, front.kept, shelf)?;
     if let Some(piece) = known {
         let front = joined(alloc, front, piece)?;
         return Ok(front);

@@ -11,11 +11,12 @@ ghost use Rattle.run_engine.specs.Onward.{AreMarksLeft};
 ghost use Rattle.run_engine.specs.Memo.{IsSearched};
 ghost use Rattle.run_engine.specs.Steps.{AreTaken, AreStepped};
 ghost use Rattle.run_engine.specs.GoesOn.{MayGoOn, GoesOnBeside};
+ghost use Rattle.run_engine.specs.Placed.{IsPlaced, IsNext};
 ghost use Rattle.run_engine.specs.Divergence.{IsJoint};
 
 use crate::replay::ahead::go_ahead;
 use crate::replay::divergence::Divergence;
-use crate::replay::piece::{Piece, STRIDE, found, joined, stepped};
+use crate::replay::piece::{Next, Piece, STRIDE, found, joined, stepped};
 use crate::replay::progress::{Joint, Progress};
 use crate::replay::rejoin::{OldMark, rejoined_at};
 use crate::replay::revision::Revision;
@@ -50,10 +51,11 @@ fn next_piece(
     to: usize,
     shelf: &mut MarkShelf,
     meter: &mut Meter,
-) -> Result<(Piece, Joint), AllocError>
+) -> Result<(Next, Joint), AllocError>
     requires may { MayGoOn (new_trace revision.now) progress.now.front to }
     requires some { progress.now.front.len < to }
     requires joint { IsJoint revision.now progress.now.joint }
+    requires placed { IsPlaced shelf.old.chunks progress.now.front }
     ensures piece { IfOk result (λ p.
         IsPiece progress.now.front.end
         (slice_range (new_trace revision.now) progress.now.front.len to)
@@ -65,6 +67,7 @@ fn next_piece(
         AreTaken (old_trace revision.now) (old_marks revision.now) shelf.old.chunks
         progress.now.front.end (slice_range (new_trace revision.now) progress.now.front.len to)
         p.0.len meter.old meter.new) }
+    ensures next { IfOk result (λ p. IsNext shelf.new.chunks progress.now.front.end p.0) }
     ensures searched { IsSearched shelf.old shelf.new }
     ensures never_less { meter.old ≤ meter.new }
     ensures rise { meter.new + progress.now.front.len ≤ meter.old + to }
@@ -73,7 +76,7 @@ fn next_piece(
     let joint = progress.joint;
     let len = (to - front.len).min(STRIDE);
     let next = revision.ops.copies(alloc, front.len, front.len + len)?;
-    let known = found(alloc, &front.end, &next, shelf)?;
+    let known = found(alloc, &front.end, &next, front.kept, shelf)?;
     if let Some(piece) = known {
         return Ok((piece, joint));
     }
@@ -117,10 +120,12 @@ fn serve(
 ) -> Result<Progress, AllocError>
     requires may { MayGoOn (new_trace revision.now) progress.front leg.to }
     requires joint { IsJoint revision.now progress.joint }
+    requires placed { IsPlaced shelf.old.chunks progress.front }
     ensures beside { IfOk result (λ p.
         GoesOnBeside revision.now progress.front p.front shelf.old shelf.new
         meter.old meter.new) }
     ensures joint { IfOk result (λ p. IsJoint revision.now p.joint) }
+    ensures placed { IfOk result (λ p. IsPlaced shelf.new.chunks p.front) }
     ensures order { IfOk result (λ p. p.front.len ≤ leg.to) }
     ensures steps { IfOk result
         (λ p. meter.new + progress.front.len ≤ meter.old + p.front.len) }
@@ -156,10 +161,12 @@ fn advance(
 ) -> Result<Progress, AllocError>
     requires may { MayGoOn (new_trace revision.now) progress.front leg.to }
     requires joint { IsJoint revision.now progress.joint }
+    requires placed { IsPlaced shelf.old.chunks progress.front }
     ensures beside { IfOk result (λ p.
         GoesOnBeside revision.now progress.front p.front shelf.old shelf.new
         meter.old meter.new) }
     ensures joint { IfOk result (λ p. IsJoint revision.now p.joint) }
+    ensures placed { IfOk result (λ p. IsPlaced shelf.new.chunks p.front) }
     ensures there { IfOk result (λ p. p.front.len ≡ leg.to) }
     ensures never_less { meter.old ≤ meter.new }
     ensures rise { meter.new + progress.front.len ≤ meter.old + leg.to }
@@ -188,6 +195,7 @@ fn spliced(
         end,
         len,
         fresh: front.fresh,
+        kept: None,
         gone: front.gone,
     })
 }
@@ -207,6 +215,7 @@ pub fn converge(
     requires shared { ShareEnd (old_trace revision.now) (new_trace revision.now) seam.base seam.edited }
     requires begins { take front.len (new_trace revision.now)
         ≡ take front.len (old_trace revision.now) }
+    requires placed { IsPlaced shelf.old.chunks front }
     ensures run { IfOk result (λ r. IsRun r.segments r.end) }
     ensures trace { IfOk result (λ r. trace_of r.segments ≡ (new_trace revision.now)) }
     ensures marks { IfOk result (λ r.

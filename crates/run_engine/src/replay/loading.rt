@@ -8,6 +8,7 @@ ghost use Rattle.run_engine.specs.RunView.{load_view};
 ghost use Rattle.run_engine.specs.GivenUp.{given_up, name_at, names_at, IsTouched};
 ghost use Rattle.run_engine.specs.Loaded.{is_gone, kept_below, loaded_view};
 
+use crate::replay::fresh::Fresh;
 use crate::replay::piece::{Piece, STRIDE, joined, replayed_on, stepped};
 use crate::segments::blocks::Segments;
 use mark_shelf::MarkShelf;
@@ -37,7 +38,8 @@ pub fn loaded(
         segments: Segments::empty(alloc),
         end: Heap::empty(),
         len: 0,
-        fresh: Vec::new(alloc),
+        fresh: Fresh::none(alloc),
+        kept: None,
         gone: BTreeSet::new(alloc),
     };
     while front.len < ops.len() {
@@ -47,10 +49,10 @@ pub fn loaded(
         if is_gone(gone, at) {
             front = replayed_on(alloc, front, copies, meter)?;
         } else {
-            let piece = stepped(alloc, &front.end, copies, meter)?;
-            front = joined(alloc, front, piece)?;
+            let mut piece = stepped(alloc, &front.end, copies, meter)?;
             // of a whole trace no chunk is remembered, and one that stayed would keep its heaps
-            front.fresh.clear();
+            piece.stepped = None;
+            front = joined(alloc, front, piece)?;
         }
     }
     Ok(front)

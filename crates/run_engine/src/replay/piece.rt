@@ -1,11 +1,15 @@
 //! Pieces of a replay.
-ghost use Rattle.std.specs.Prelude.{◌≡◌, ◌++◌, ◌+◌, ◌^◌, ◌<◌, ◌≤◌, ◌∷◌, [], IfOk, OnOk, IfSome, IsTrue, length};
+ghost use Rattle.std.specs.Prelude.{◌≡◌, ◌++◌, ◌+◌, ◌^◌, ◌<◌, ◌≤◌, ℕ, List, ◌∷◌, [], None, IfOk, OnOk, IfSome, IsTrue, length};
 ghost use Rattle.trace_types.specs.Trace.{has_distinct_numbers};
 ghost use Rattle.ownership_model.specs.Step.{end_from, AreUnused};
 ghost use Rattle.op_step.specs.Meter.{raised};
+ghost use Rattle.op_step.specs.Chunk.{Chunk};
+ghost use Rattle.mark_shelf.specs.Joints.{EndsWith};
 ghost use Rattle.run_engine.specs.Segments.{bare_segment, IsPiece};
 ghost use Rattle.run_engine.specs.Memo.{IsAmong, IsSearched};
+ghost use Rattle.run_engine.specs.Placed.{IsPlaced, IsNext};
 
+use crate::replay::fresh::Fresh;
 use crate::segments::blocks::Segments;
 use crate::segments::segment::Segment;
 use mark_shelf::{MarkShelf, finds_what_was_there};
@@ -18,66 +22,83 @@ use trace_types::ops::Op;
 /// How many operations stand between neighbouring checkpoints where they are stepped.
 pub const STRIDE: usize = 64;
 
-/// A piece of a replay: its segments, the heap after them, how many operations they have, the chunks that were stepped for it, and the
-/// names of checkpoints that the shelf has answered so far.
+/// A piece of a replay: its segments, the heap after them, how many operations they have, the chunks that were stepped for it, the number
+/// of the shelf's chunk that ends with that heap, where one is known, and the names of checkpoints that the shelf has answered so far.
 #[derive(Drop)]
 pub struct Piece {
     pub segments: Segments,
     pub end: Heap,
     pub len: usize,
-    pub fresh: Vec<ChunkRun>,
+    pub fresh: Fresh,
+    pub kept: Option<u64>,
     pub gone: BTreeSet<u32>,
 }
 
-impl Piece {
-    /// A chunk as a piece, none of which is stepped.
+/// What a replay goes on with: its segments, the heap after them, how many operations they have, and the chunk that was stepped for it, or
+/// the number of that which the shelf has, where it is one.
+#[derive(Drop)]
+pub struct Next {
+    pub segments: Segments,
+    pub end: Heap,
+    pub len: usize,
+    pub stepped: Option<ChunkRun>,
+    pub kept: Option<u64>,
+}
+
+impl Next {
+    /// A chunk to go on with. Where it comes from is not told.
     pub fn of(alloc: Global, chunk: &ChunkRun) -> Result<Self, AllocError>
         requires { 0 < length chunk.now.ops }
         ensures piece { IfOk result
             (λ p. IsPiece chunk.now.start chunk.now.ops p.segments p.end p.len) }
         ensures whole { IfOk result (λ p. p.len ≡ length chunk.now.ops) }
+        ensures end { IfOk result (λ p. p.end ≡ end_from chunk.now.start chunk.now.ops) }
+        ensures stepped { IfOk result (λ p. p.stepped ≡ None) }
+        ensures kept { IfOk result (λ p. p.kept ≡ None) }
     {
         let segments = Segments::empty(alloc).push(alloc, Segment::of(alloc, chunk)?)?;
-        Ok(Piece {
+        Ok(Next {
             segments,
             end: chunk.end().share()?,
             len: chunk.ops().len(),
-            fresh: Vec::new(alloc),
-            gone: BTreeSet::new(alloc),
+            stepped: None,
+            kept: None,
         })
     }
 }
 
-/// A piece and the next behind it, with the answered names of the first.
-pub fn joined(alloc: Global, front: Piece, next: Piece) -> Result<Piece, AllocError>
-    requires { front.len + next.len < 2 ^ 64 }
+/// A piece and what it goes on with, with the answered names of the first.
+pub fn joined(alloc: Global, front: Piece, next: Next) -> Result<Piece, AllocError>
+    requires fits { front.len + next.len < 2 ^ 64 }
+    requires behind { IfSome next.stepped (λ c. IfSome front.fresh (λ s. s ≡ c.start)) }
     ensures segments { IfOk result
         (λ p. p.segments ≡ front.segments ++ next.segments) }
     ensures end { IfOk result (λ p. p.end ≡ next.end) }
     ensures len { IfOk result (λ p. p.len ≡ front.len + next.len) }
     ensures gone { IfOk result (λ p. p.gone ≡ front.gone) }
+    ensures placed { (chunks : List (ℕ × Chunk)) → IsNext chunks front.end next →
+        IfOk result (IsPlaced chunks) }
 {
     let segments = front.segments.append(alloc, next.segments)?;
     let mut fresh = front.fresh;
-    for chunk in next.fresh {
-        fresh.push(chunk)?;
-    }
+    fresh.go_on(next.stepped)?;
     Ok(Piece {
         segments,
         end: next.end,
         len: front.len + next.len,
         fresh,
+        kept: next.kept,
         gone: front.gone,
     })
 }
 
-/// Steps all the operations: a piece, which has the chunk.
+/// Steps all the operations, to go on with their chunk.
 pub fn stepped(
     alloc: Global,
     heap: &Heap,
     ops: Vec<Op>,
     meter: &mut Meter,
-) -> Result<Piece, AllocError>
+) -> Result<Next, AllocError>
     requires some { 0 < length ops.items }
     requires distinct { IsTrue (has_distinct_numbers ops.items) }
     requires unused { AreUnused heap.now ops.items }
@@ -86,32 +107,38 @@ pub fn stepped(
     ensures count { IfOk result (λ p. meter.new ≡ raised meter.old p.len) }
     ensures never_less { meter.old ≤ meter.new }
     ensures rise { meter.new ≤ meter.old + length ops.items }
+    ensures next { (chunks : List (ℕ × Chunk)) → IfOk result (IsNext chunks heap.now) }
 {
     let chunk = run_of(alloc, heap, ops, meter)?;
-    let mut piece = Piece::of(alloc, &chunk)?;
-    piece.fresh.push(chunk)?;
+    let mut piece = Next::of(alloc, &chunk)?;
+    piece.stepped = Some(chunk);
     Ok(piece)
 }
 
-/// A chunk that the shelf has, which begins with this heap and has these operations, as a piece.
+/// A chunk that the shelf has, which begins with this heap and has these operations, to go on with. The heap may be known to be that at
+/// which the shelf's chunk with a number ends.
 pub fn found(
     alloc: Global,
     heap: &Heap,
     ops: &[Op],
+    before: Option<u64>,
     shelf: &mut MarkShelf,
-) -> Result<Option<Piece>, AllocError>
-    requires { 0 < length ops.now }
+) -> Result<Option<Next>, AllocError>
+    requires some { 0 < length ops.now }
+    requires before { IfSome before (λ k. EndsWith shelf.old.chunks k heap.now) }
     ensures piece { IfOk result
         (λ o. IfSome o (λ p. IsPiece heap.now ops.now p.segments p.end p.len)) }
     ensures whole { IfOk result (λ o. IfSome o (λ p. p.len ≡ length ops.now)) }
     ensures there { IfOk result (λ o. IfSome o (λ _. IsAmong shelf.old.chunks heap.now ops.now)) }
+    ensures next { IfOk result (λ o. IfSome o (IsNext shelf.new.chunks heap.now)) }
     ensures searched { IsSearched shelf.old shelf.new }
 {
     finds_what_was_there();
-    let Some(chunk) = shelf.find(heap, ops) else {
+    let Some((number, chunk)) = shelf.find_behind(heap, ops, before) else {
         return Ok(None);
     };
-    let piece = Piece::of(alloc, &chunk)?;
+    let mut piece = Next::of(alloc, &chunk)?;
+    piece.kept = Some(number);
     Ok(Some(piece))
 }
 
@@ -131,6 +158,7 @@ pub fn replayed_on(
     ensures end { IfOk result (λ p. p.end ≡ end_from front.end ops.items) }
     ensures len { IfOk result (λ p. p.len ≡ front.len + length ops.items) }
     ensures gone { IfOk result (λ p. p.gone ≡ front.gone) }
+    ensures placed { (chunks : List (ℕ × Chunk)) → IfOk result (IsPlaced chunks) }
     ensures count { OnOk result (meter.new ≡ raised meter.old (length ops.items)) }
     ensures never_less { meter.old ≤ meter.new }
     ensures rise { meter.new ≤ meter.old + length ops.items }
@@ -140,11 +168,14 @@ pub fn replayed_on(
     let (outcomes, end) = replay_from(alloc, front.end, &ops, meter)?;
     let bare = Segment::bare(alloc, ops, outcomes)?;
     let segments = front.segments.push(alloc, bare)?;
+    let mut fresh = front.fresh;
+    fresh.leave();
     Ok(Piece {
         segments,
         end,
         len,
-        fresh: front.fresh,
+        fresh,
+        kept: None,
         gone: front.gone,
     })
 }

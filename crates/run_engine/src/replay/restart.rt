@@ -1,16 +1,19 @@
 //! Where the replay of an edited trace begins again.
-ghost use Rattle.std.specs.Prelude.{◌≡◌, ◌≤◌, [], IfOk, length, take};
+ghost use Rattle.std.specs.Prelude.{◌≡◌, ◌≤◌, ℕ, List, [], IfOk, length, take};
 ghost use Rattle.std.specs.Ordering.{nat_cmp};
 ghost use Rattle.std.specs.BTreeSet.{contains};
 ghost use Rattle.trace_types.specs.Trace.{IsTrace};
 ghost use Rattle.run_engine.specs.Segments.{trace_of, all_marks, IsRun, IsRestart, IsKept};
 ghost use Rattle.run_engine.specs.Bounds.{StepsAtMostFrom};
 ghost use Rattle.run_engine.specs.Onward.{AreNames, AreMarksDue};
+ghost use Rattle.op_step.specs.Chunk.{Chunk};
 ghost use Rattle.run_engine.specs.Steps.{AreSteppedFrom};
+ghost use Rattle.run_engine.specs.Placed.{IsPlaced};
 
 use crate::editing::head_and_tail::{head, tail};
 use crate::editing::listing::Listing;
 use crate::replay::converge::{Seam, converge};
+use crate::replay::fresh::Fresh;
 use crate::replay::piece::Piece;
 use crate::replay::revision::Revision;
 use crate::segments::blocks::Segments;
@@ -68,6 +71,7 @@ fn front(alloc: Global, revision: &Revision, head: usize) -> Result<Piece, Alloc
     ensures segments { IfOk result
         (λ f. f.segments ≡ take (length f.segments) revision.now.segments.now) }
     ensures gone { IfOk result (λ f. AreNames (contains nat_cmp f.gone) []) }
+    ensures placed { (chunks : List (ℕ × Chunk)) → IfOk result (IsPlaced chunks) }
 {
     let restart = greatest_mark(alloc, revision, head)?;
     let kept = revision.segments.stretch(alloc, 0, restart.index)?;
@@ -75,7 +79,8 @@ fn front(alloc: Global, revision: &Revision, head: usize) -> Result<Piece, Alloc
         segments: kept,
         end: restart.heap,
         len: restart.at,
-        fresh: Vec::new(alloc),
+        fresh: Fresh::none(alloc),
+        kept: None,
         gone: BTreeSet::new(alloc),
     })
 }

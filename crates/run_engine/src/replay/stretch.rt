@@ -1,14 +1,16 @@
 //! Stretches of an old run that serve again.
-ghost use Rattle.std.specs.Prelude.{◌≡◌, ℕ, [], ◌+◌, ◌-◌, ◌<◌, ◌≤◌, IfOk, IfSome, IsTrue, length, take, drop, slice_range};
+ghost use Rattle.std.specs.Prelude.{◌≡◌, ℕ, List, [], ◌+◌, ◌-◌, ◌<◌, ◌≤◌, IfOk, IfSome, IsTrue, length, take, drop, slice_range};
 ghost use Rattle.ownership_model.specs.State.{nothing_held};
 ghost use Rattle.ownership_model.specs.Step.{end_from};
 ghost use Rattle.run_engine.specs.Segments.{trace_of, marks_from, BeginsMarked, IsRun, IsPiece};
 ghost use Rattle.run_engine.specs.OldRun.{old_trace, old_marks, new_trace};
 ghost use Rattle.run_engine.specs.Divergence.{IsJoint};
 ghost use Rattle.run_engine.specs.NewMarks.{AreNeighbours};
+ghost use Rattle.op_step.specs.Chunk.{Chunk};
 ghost use Rattle.run_engine.specs.Steps.{IsOldStretch};
+ghost use Rattle.run_engine.specs.Placed.{IsNext};
 
-use crate::replay::piece::Piece;
+use crate::replay::piece::Next;
 use crate::replay::progress::Joint;
 use crate::replay::revision::Revision;
 use crate::segments::blocks::Segments;
@@ -16,7 +18,6 @@ use crate::segments::seek::segment_at;
 use agreement::Checkpoint;
 use object_heap::Heap;
 use std::alloc::{AllocError, Global};
-use std::collections::BTreeSet;
 
 /// The old stretch between neighbouring checkpoints that the operations from `at` on come from, if it begins with this heap,
 /// they are all of it, and it doesn't go past `to`; and how many old operations stand before its end.
@@ -29,7 +30,7 @@ pub fn old_stretch(
     at: usize,
     to: usize,
     joint: Joint,
-) -> Result<Option<(Piece, usize)>, AllocError>
+) -> Result<Option<(Next, usize)>, AllocError>
     requires some { at < to }
     requires within { to ≤ length (new_trace revision.now) }
     requires heap { heap.now ≡ end_from nothing_held (take at (new_trace revision.now)) }
@@ -44,6 +45,8 @@ pub fn old_stretch(
         p.0.segments p.0.end p.0.len)) }
     ensures base { IfOk result (λ o. IfSome o (λ p.
         p.0.end ≡ end_from nothing_held (take p.1 (old_trace revision.now)))) }
+    ensures next { (chunks : List (ℕ × Chunk)) →
+        IfOk result (λ o. IfSome o (λ p. IsNext chunks heap.now p.0)) }
 {
     let Some(alike) = revision.ops.alike(at) else {
         return Ok(None);
@@ -73,12 +76,12 @@ pub fn old_stretch(
     let Some(after) = heap_at(alloc, old, revision.end, j)? else {
         return Ok(None);
     };
-    let piece = Piece {
+    let piece = Next {
         segments,
         end: after,
         len,
-        fresh: Vec::new(alloc),
-        gone: BTreeSet::new(alloc),
+        stepped: None,
+        kept: None,
     };
     Ok(Some((piece, from + len)))
 }

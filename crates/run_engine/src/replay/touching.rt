@@ -1,8 +1,7 @@
-//! The names of a replay's checkpoints are touched on a shelf, and the shelf remembers its chunks.
+//! The names of a replay's checkpoints are touched on a shelf.
 ghost use Rattle.std.specs.Prelude.{◌≡◌, ◌+◌, ◌≤◌, ◌∷◌, [], OnOk, option_to_list};
 ghost use Rattle.std.specs.Ordering.{nat_cmp};
 ghost use Rattle.std.specs.BTreeSet.{contains};
-ghost use Rattle.run_engine.specs.Memo.{HasSameMarks};
 ghost use Rattle.run_engine.specs.GivenUp.{names_at};
 ghost use Rattle.run_engine.specs.Onward.{cuts, AreAnswered};
 
@@ -10,7 +9,6 @@ use crate::editing::listing::Listing;
 use crate::replay::piece::STRIDE;
 use crate::segments::names::add_name;
 use mark_shelf::MarkShelf;
-use op_step::ChunkRun;
 use std::alloc::AllocError;
 use std::collections::BTreeSet;
 
@@ -61,14 +59,4 @@ pub fn inner_name(ops: &Listing, at: usize) -> Option<u32>
     }
     let op = ops.at(at - 1);
     Some(op.id())
-}
-
-/// Has the shelf remember the last of the chunks, as many as it has room for: those before them would not stay.
-pub fn remember_all(shelf: &mut MarkShelf, chunks: Vec<ChunkRun>)
-    ensures { HasSameMarks shelf.old shelf.new }
-{
-    let passed = chunks.len().saturating_sub(shelf.most_chunks());
-    for chunk in chunks.into_iter().skip(passed) {
-        shelf.remember(chunk);
-    }
 }

@@ -59,6 +59,9 @@ returns-then-is_among-clause-goes_ahead c =
       gone = c.in_ok-front-2.ensures.gone;
     }
 
+pub returns-then-is_among-clause-placed : goal.returns-then-is_among-clause-placed
+returns-then-is_among-clause-placed c = c.in_ok-front-2.ensures.placed c.found.new.shelf.chunks
+
 pub returns-clause-goes_ahead : goal.returns-clause-goes_ahead
 returns-clause-goes_ahead c =
     let joined = c.in_ok-front-3.ensures in

@@ -19,6 +19,7 @@ loop-front-init c = record {
         (IsWay-none c.args.ops.now.ops old c.args.front.len (marks_from 0 c.args.front.segments) (contains nat_cmp c.args.front.gone));
     gone = refl;
   };
+  placed = c.requires.placed;
   behind = omega arith;
   before = c.requires.may.order;
   aligned = λ lt. omega arith;
@@ -55,6 +56,7 @@ loop-front-preserved c =
             (subst (λ g. IsWay c.args.ops.now.ops old c.loop-front.front.len (c.loop-front.front.len + length c.in_ok-next.next.items) (c.loop-front.front.len ∷ []) (marks_from 0 c.loop-front.front.segments) (marks_from 0 c.in_ok-front.front.segments) (contains nat_cmp g)) h.ahead.gone (rw there at on.goes_ahead.way old)));
         gone = on.goes_ahead.gone ∙ h.ahead.gone;
       };
+      placed = on.placed;
       behind = omega (arith, h.behind, there);
       before = omega (arith, long, there);
       aligned = λ lt. omega (arith, z, h.behind, long, there);

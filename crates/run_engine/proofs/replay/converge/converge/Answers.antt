@@ -34,6 +34,7 @@ advance-requires c = record {
     within = moved-within _ _ c.args.seam.base c.args.seam.edited c.loop-i.at c.requires.shared (place-within c.args.revision.now.segments.now c.loop-i.i c.loop-i.at c.loop-i.invariant.place.place) c.if-at-seam.true;
   };
   joint = c.loop-i.invariant.joint;
+  placed = c.loop-i.invariant.placed;
 }
 
 pub overflow_add-leg : goal.overflow_add-leg
@@ -172,6 +173,7 @@ loop-i-init c = record {
       c.args.revision.now.holds.kept.run.full c.last_from-first.ensures.last.within c.last_from-first.ensures.last.place c.last_from-first.ensures.last.before c.requires.may.reached c.requires.may.order;
   beside = GoesOn-none (trace_of c.args.revision.now.segments.now) c.args.revision.now.ops.now.ops (all_marks c.args.revision.now.segments.now) c.args.front c.args.shelf.now c.args.meter.now c.requires.may.reached;
   joint = ap (end_from nothing_held) c.requires.begins;
+  placed = c.requires.placed;
   known = IsDivergence-joint c.args.revision.now c.none-divergence.result (record { edited = c.args.front.len; base = c.args.front.len }) c.none-divergence.ensures.within c.none-divergence.ensures.edited c.none-divergence.ensures.base (ap (end_from nothing_held) c.requires.begins);
   never_less = omega arith;
 }
@@ -210,6 +212,7 @@ loop-i-preserved c =
                 cc);
             beside = GoesOn-next _ _ _ _ _ _ _ _ _ _ _ _ c.loop-i.invariant.beside w.in_ok-progress.ensures.beside;
             joint = w.in_ok-progress.ensures.joint;
+            placed = w.in_ok-progress.ensures.placed;
             known = w.in_ok-found.ensures.known;
             never_less = omega (arith, c.loop-i.invariant.never_less, w.advance.ensures.never_less);
           })
@@ -221,6 +224,7 @@ loop-i-preserved c =
                 (λ marked behind agrees. let f : is_some c.at-segment.result.mark ≡ false = ap is_some (sym w.in_default.ensures) in cc);
             beside = c.loop-i.invariant.beside;
             joint = c.loop-i.invariant.joint;
+            placed = c.loop-i.invariant.placed;
             known = c.loop-i.invariant.known;
             never_less = c.loop-i.invariant.never_less;
           })
@@ -232,6 +236,7 @@ loop-i-preserved c =
                 (λ marked behind agrees. let lt : c.loop-i.at < c.args.seam.base = w.if-at-seam.false in omega arith);
             beside = c.loop-i.invariant.beside;
             joint = c.loop-i.invariant.joint;
+            placed = c.loop-i.invariant.placed;
             known = c.loop-i.invariant.known;
             never_less = c.loop-i.invariant.never_less;
           })

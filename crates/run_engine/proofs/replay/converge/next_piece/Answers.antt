@@ -35,6 +35,9 @@ returns-clause-piece c =
     let piece = rw c.in_ok-next.ensures at c.in_ok-piece.ensures.piece in
     IsPiece-of-more c.args.progress.now.front.end _ (drop c.args.progress.now.front.len c.args.revision.now.ops.now.ops) (c.args.progress.now.front.len + c.min-len.result - c.args.progress.now.front.len) (c.args.to - c.args.progress.now.front.len) _ _ (omega arith) piece
 
+pub returns-in-Some-stretch-clause-next : goal.returns-in-Some-stretch-clause-next
+returns-in-Some-stretch-clause-next c = rw c.in-Some-stretch.is at (c.in_ok-stretch.ensures.next c.found.new.shelf.chunks)
+
 pub returns-in-Some-stretch-clause-joint : goal.returns-in-Some-stretch-clause-joint
 returns-in-Some-stretch-clause-joint c =
     let piece = rw c.in-Some-stretch.is at c.in_ok-stretch.ensures.piece in

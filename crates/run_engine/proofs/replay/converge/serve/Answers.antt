@@ -6,19 +6,33 @@ use Rattle.run_engine.proofs.PieceLemmas.{IsReached-next, marks_from-piece}
 use Rattle.run_engine.proofs.OnwardLemmas.{IsOnward-piece}
 use Rattle.run_engine.proofs.SteppedLemmas.{HaveStepped-next}
 use Rattle.run_engine.proofs.GoesOnLemmas.{GoesOn-none, GoesOn-next}
+use Rattle.run_engine.proofs.FreshLemmas.{EndsWith-fewer, begins-there}
 use Rattle.run_engine.proofs.replay.converge.serve.Goals as goal
 
 pub loop-progress-init : goal.loop-progress-init
 loop-progress-init c = record {
   beside = GoesOn-none (trace_of c.args.revision.now.segments.now) c.args.revision.now.ops.now.ops (all_marks c.args.revision.now.segments.now) c.args.progress.front c.args.shelf.now c.args.meter.now c.requires.may.reached;
   joint = c.requires.joint;
+  placed = c.requires.placed;
   order = c.requires.may.order;
   never_less = omega arith;
   steps = omega arith;
 }
 
-pub joined-requires : goal.joined-requires
-joined-requires c =
+pub next_piece-requires-clause-placed : goal.next_piece-requires-clause-placed
+next_piece-requires-clause-placed c =
+    let placed = c.loop-progress.invariant.placed in
+    record {
+      fresh = placed.fresh;
+      kept = EndsWith-fewer c.loop-progress.shelf.chunks c.touch_at.new.shelf.chunks c.loop-progress.progress.front.kept c.loop-progress.progress.front.end c.in_ok-touch_at.ensures.answered.touched.fewer placed.kept;
+    }
+
+pub joined-requires-clause-behind : goal.joined-requires-clause-behind
+joined-requires-clause-behind c =
+    begins-there c.in_ok-piece.piece.stepped c.loop-progress.progress.front.fresh c.loop-progress.progress.front.end c.in_ok-piece.ensures.next.start_is c.loop-progress.invariant.placed.fresh
+
+pub joined-requires-clause-fits : goal.joined-requires-clause-fits
+joined-requires-clause-fits c =
     let piece = c.in_ok-piece.ensures.piece in
     let long : c.in_ok-piece.piece.len ≤ c.args.leg.to - c.loop-progress.progress.front.len = omega (arith, piece.fits, length-take (c.args.leg.to - c.loop-progress.progress.front.len) (drop c.loop-progress.progress.front.len c.args.revision.now.ops.now.ops)) in
     omega (arith, long, c.loop-progress.invariant.order, c.requires.may.within, c.args.revision.now.holds.trace.few)
@@ -32,6 +46,7 @@ loop-progress-preserved-then-at-next c =
     record {
       beside = GoesOn-next _ _ _ _ _ _ _ _ _ _ _ _ h.beside (on.goes_on (trace_of old) (all_marks old));
       joint = h.joint;
+      placed = on.placed;
       order = omega (arith, on.there, c.next_start-next.ensures.within);
       never_less = omega (arith, h.never_less, on.never_less);
       steps = omega (arith, h.steps, on.rise, on.there);
@@ -60,6 +75,7 @@ loop-progress-preserved c =
     record {
       beside = GoesOn-next _ _ _ _ _ _ _ _ _ _ _ _ h.beside on;
       joint = c.in_ok-piece.ensures.joint;
+      placed = joined.placed c.next_piece.new.shelf.chunks c.in_ok-piece.ensures.next;
       order = omega (arith, joined.len, long, order);
       never_less = omega (arith, h.never_less, c.in_ok-piece.ensures.never_less);
       steps = omega (arith, h.steps, c.in_ok-piece.ensures.steps, joined.len);

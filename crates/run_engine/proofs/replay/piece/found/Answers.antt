@@ -8,10 +8,17 @@ returns-clause-there c =
     (c.finds_what_was_there.ensures.there c.args.shelf.now (name_of c.args.ops.now) c.in-Some.chunk c.in-Some.ensures.named)
 
 pub returns-in_default-clause-searched : goal.returns-in_default-clause-searched
-returns-in_default-clause-searched c = rw c.find.ensures.shelf (IsSearched-sought c.args.shelf.now (name_of c.args.ops.now) (c.finds_what_was_there.ensures.fewer c.args.shelf.now (name_of c.args.ops.now)))
+returns-in_default-clause-searched c = rw c.find_behind.ensures.shelf (IsSearched-sought c.args.shelf.now (name_of c.args.ops.now) (c.finds_what_was_there.ensures.fewer c.args.shelf.now (name_of c.args.ops.now)))
 
 pub returns-in_err-piece-clause-searched : goal.returns-in_err-piece-clause-searched
-returns-in_err-piece-clause-searched c = rw c.find.ensures.shelf (IsSearched-sought c.args.shelf.now (name_of c.args.ops.now) (c.finds_what_was_there.ensures.fewer c.args.shelf.now (name_of c.args.ops.now)))
+returns-in_err-piece-clause-searched c = rw c.find_behind.ensures.shelf (IsSearched-sought c.args.shelf.now (name_of c.args.ops.now) (c.finds_what_was_there.ensures.fewer c.args.shelf.now (name_of c.args.ops.now)))
 
 pub returns-clause-searched : goal.returns-clause-searched
-returns-clause-searched c = rw c.find.ensures.shelf (IsSearched-sought c.args.shelf.now (name_of c.args.ops.now) (c.finds_what_was_there.ensures.fewer c.args.shelf.now (name_of c.args.ops.now)))
+returns-clause-searched c = rw c.find_behind.ensures.shelf (IsSearched-sought c.args.shelf.now (name_of c.args.ops.now) (c.finds_what_was_there.ensures.fewer c.args.shelf.now (name_of c.args.ops.now)))
+
+pub returns-clause-next : goal.returns-clause-next
+returns-clause-next c = record {
+  start_is = rw c.in_ok-piece.ensures.stepped tt;
+  end_is = rw c.in_ok-piece.ensures.stepped tt;
+  kept = rw c.in_ok-piece.ensures.end c.in-Some.ensures.ends;
+}

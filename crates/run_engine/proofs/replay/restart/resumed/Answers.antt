@@ -29,6 +29,9 @@ converge-requires-clause-begins c =
     (same-front c.args.ops.now.base c.args.ops.now.ops c.head-first.result c.in_ok-front.front.len
     (rw c.of-revision.ensures.segments at c.in_ok-front.ensures.kept).greatest.early c.head-first.ensures.same)
 
+pub converge-requires-clause-placed : goal.converge-requires-clause-placed
+converge-requires-clause-placed c = c.in_ok-front.ensures.placed c.args.shelf.now.chunks
+
 pub returns-in_err-front-clause-bound : goal.returns-in_err-front-clause-bound
 returns-in_err-front-clause-bound c = bounded-none c.args.ops.now.base c.args.ops.now.ops _ _
 

@@ -48,6 +48,7 @@ returns c =
           (after ∙ ap (λ j. end_from nothing_held (trace_of (take j c.args.revision.now.segments.now))) m));
       base = after ∙ ap (end_from nothing_held) (trace_of-front c.args.revision.now.segments.now c.next_marked-j.result (c.in-Some.alike.from + (c.args.at - c.in-Some.alike.at) + c.ops_len-len.result)
           (stretch-behind c.args.revision.now.segments.now c.in_ok-segments.segments c.in-Some-segment_at.i c.next_marked-j.result _ c.ops_len-len.result (omega arith) c.in_ok-segments.ensures c.in-Some-segment_at.ensures.place c.ops_len-len.ensures.value));
+      next = λ chunks. record { start_is = tt; end_is = tt; kept = tt };
     }
 
 pub has_heap-requires : goal.has_heap-requires

@@ -1,0 +1,114 @@
+//! The chunks that were stepped for a replay, which a shelf then remembers.
+ghost use Rattle.std.specs.Prelude.{◌≡◌, None, Some, true, IfSome, OnOk, option_map};
+ghost use Rattle.ownership_model.specs.Step.{end_from};
+ghost use Rattle.mark_shelf.specs.Joints.{EndsWith};
+ghost use Rattle.run_engine.specs.Memo.{HasSameMarks};
+
+use mark_shelf::MarkShelf;
+use op_step::ChunkRun;
+use std::alloc::{AllocError, Global};
+use std::collections::VecDeque;
+use std::marker::Model;
+
+/// A chunk that was stepped, and whether right behind the one before it in the list.
+#[derive(Drop)]
+pub struct FreshChunk {
+    chunk: ChunkRun,
+    follows: bool,
+}
+
+/// The chunks that were stepped for a replay, in order. Contracts see the heap at which the last of them ends, as long as the replay is
+/// known to stand there.
+#[derive(Drop)]
+pub struct Fresh {
+    chunks: VecDeque<FreshChunk>,
+    is_last: bool,
+}
+
+impl Model for Fresh {
+    ghost use Rattle.std.specs.Prelude.{Option, None, if◌then◌else◌};
+    ghost use Rattle.std.specs.Coded.{coded_option};
+    ghost use Rattle.ownership_model.specs.State.{State};
+    ghost use Rattle.object_heap.specs.StateCode.{state_code};
+    ghost use Rattle.run_engine.specs.FreshChunks.{end_after, AreLinked};
+
+    ghost Value = { Option State };
+
+    ghost coded = { coded_option state_code };
+
+    ghost view = { λ f. if f.is_last then end_after None f.chunks.items else None };
+
+    ghost invariant = { λ f. AreLinked None f.chunks.items };
+}
+
+impl Fresh {
+    /// No chunk.
+    pub fn none(alloc: Global) -> Self
+        ensures { result ≡ None }
+    {
+        Fresh {
+            chunks: VecDeque::new(alloc),
+            is_last: false,
+        }
+    }
+
+    /// Adds a chunk, which begins where the replay stands, and behind which it then stands.
+    pub fn push(&mut self, chunk: ChunkRun) -> Result<(), AllocError>
+        requires { IfSome self.old (λ s. s ≡ chunk.start) }
+        ensures { OnOk result (self.new ≡ Some (end_from chunk.start chunk.ops)) }
+    {
+        let follows = self.is_last;
+        self.chunks.push_back(FreshChunk { chunk, follows })?;
+        self.is_last = true;
+        Ok(())
+    }
+
+    /// The replay goes on without a chunk.
+    pub fn leave(&mut self)
+        ensures { self.new ≡ None }
+    {
+        self.is_last = false;
+    }
+
+    /// The replay goes on, with the chunk that was stepped for it, if one was.
+    pub fn go_on(&mut self, stepped: Option<ChunkRun>) -> Result<(), AllocError>
+        requires { IfSome stepped (λ c. IfSome self.old (λ s. s ≡ c.start)) }
+        ensures { OnOk result (self.new ≡ option_map (λ c. end_from c.start c.ops) stepped) }
+    {
+        match stepped {
+            Some(chunk) => self.push(chunk),
+            None => {
+                self.leave();
+                Ok(())
+            }
+        }
+    }
+}
+
+/// Has the shelf remember the last of the chunks, as many as it has room for: those before them would not stay.
+pub fn remember_all(shelf: &mut MarkShelf, chunks: Fresh)
+    ensures { HasSameMarks shelf.old shelf.new }
+{
+    let most = shelf.most_chunks();
+    let mut chunks = chunks.chunks;
+    while chunks.len() > most {
+        chunks.pop_front();
+    }
+    let mut last = None;
+    while let Some(fresh) = chunks.pop_front() {
+        last = remember_next(shelf, fresh, last);
+    }
+}
+
+// Has the shelf remember a chunk, of which it is known whether it begins where the one ends that it remembered last, and gives its number.
+fn remember_next(shelf: &mut MarkShelf, fresh: FreshChunk, last: Option<u64>) -> Option<u64>
+    requires { fresh.follows ≡ true → IfSome last (λ k. EndsWith shelf.old.chunks k fresh.chunk.start) }
+    ensures marks { HasSameMarks shelf.old shelf.new }
+    ensures ends { IfSome result (λ n. EndsWith shelf.new.chunks n (end_from fresh.chunk.start fresh.chunk.ops)) }
+{
+    if fresh.follows {
+        shelf.remember_behind(fresh.chunk, last)
+    } else {
+        shelf.remember_behind(fresh.chunk, None)
+    }
+}
