@@ -13,13 +13,14 @@ use crate::leaf::Leaf;
 use crate::level::Level;
 use crate::node::{Node, over};
 use crate::short;
+use crate::twig::Twig;
 use crate::update::Update;
 use std::alloc::{AllocError, Global};
 use std::sync::Arc;
 use trace_types::same::Same;
 
 // A level for each hexadecimal digit of a key, the high one first.
-type TwoLevels<V> = Node<Node<Leaf<V>>>;
+type TwoLevels<V> = Node<Twig<V>>;
 
 type FiveLevels<V> = Node<Node<Node<TwoLevels<V>>>>;
 
