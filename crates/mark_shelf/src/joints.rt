@@ -5,8 +5,8 @@ ghost use Rattle.mark_shelf.specs.Joints.{is_joined};
 use lru::LruCache;
 use op_step::ChunkRun;
 
-/// Notes that a chunk begins where the one before it ends, if there is one, with a number below another. Where memory is refused, that is
-/// forgotten.
+/// Notes that a chunk begins where the one before it ends, if there is one and its number is below `below`. Where memory is refused, that
+/// is forgotten.
 pub fn join(joints: &mut LruCache<u64, u64>, number: u64, before: Option<u64>, below: u64)
     ensures { (j : ℕ × ℕ) → Contains joints.new.entries j → Contains joints.old.entries j ⊎ ((j.0 ≡ number) × (before ≡ Some j.1) × (j.1 < below)) }
 {

@@ -1,15 +1,13 @@
 -- Chunks that were stepped one behind the other, and where a replay stands behind them.
-use Rattle.std.proofs.Common.{◌≡◌, ℕ, true, List, [], ◌∷◌, ◌++◌, drop, refl, sym, subst, ◌∙◌}
-use Rattle.std.specs.Prelude.{Option, Some, None, IfSome, option_map}
+use Rattle.std.proofs.Common.{◌≡◌, ℕ, true, List, [], ◌∷◌, ◌++◌, refl, sym, subst, ◌∙◌}
+use Rattle.std.specs.Prelude.{Option, Some, None, IfSome}
 use Rattle.ownership_model.specs.State.{State}
 use Rattle.ownership_model.specs.Step.{end_from}
 use Rattle.op_step.specs.Chunk.{Chunk}
 use Rattle.mark_shelf.specs.Joints.{EndsWith}
 use Rattle.run_engine.specs.declared.replay.fresh.FreshChunk.{FreshChunk}
-use Rattle.run_engine.specs.declared.replay.piece.Piece.{Piece}
 use Rattle.run_engine.specs.FreshChunks.{end_after, AreLinked}
 use Rattle.run_engine.specs.Memo.{AreSome}
-use Rattle.run_engine.specs.Placed.{IsPlaced}
 
 -- behind one chunk more, that is where it ends
 pub end_after-push : (before : Option State) (fs : List FreshChunk) (f : FreshChunk) → end_after before (fs ++ f ∷ []) ≡ Some (end_from f.chunk.start f.chunk.ops)
@@ -21,20 +19,10 @@ pub AreLinked-push : (before : Option State) (fs : List FreshChunk) (f : FreshCh
 AreLinked-push before [] f h begins = (begins, tt)
 AreLinked-push before (g ∷ fs) f h begins = (h.0, AreLinked-push (Some (end_from g.chunk.start g.chunk.ops)) fs f h.1 begins)
 
--- the first of some chunks gone, the others stay linked
-pub AreLinked-drop : (before : Option State) (fs : List FreshChunk) → AreLinked before fs → (b : Option State) × AreLinked b (drop 1 fs)
-AreLinked-drop before [] h = (before, h)
-AreLinked-drop before (f ∷ fs) h = (Some (end_from f.chunk.start f.chunk.ops), h.1)
-
 -- chunks that are linked, the first, if it follows, to the one with a number
 abbrev pub AreBehind : List (ℕ × Chunk) → Option ℕ → List FreshChunk → Type 0
 AreBehind chunks last [] = Unit {0}
 AreBehind chunks last (f ∷ fs) = (f.follows ≡ true → IfSome last (λ k. EndsWith chunks k f.chunk.start)) × AreLinked (Some (end_from f.chunk.start f.chunk.ops)) fs
-
--- to none, whatever is before them
-pub AreBehind-none : (chunks : List (ℕ × Chunk)) (before : Option State) (fs : List FreshChunk) → AreLinked before fs → AreBehind chunks None fs
-AreBehind-none chunks before [] h = tt
-AreBehind-none chunks before (f ∷ fs) h = (λ _. tt, h.1)
 
 -- to one that ends where they are linked
 pub AreBehind-next : (chunks : List (ℕ × Chunk)) (last : Option ℕ) (state : State) (fs : List FreshChunk) → AreLinked (Some state) fs → IfSome last (λ k. EndsWith chunks k state) → AreBehind chunks last fs
@@ -47,15 +35,7 @@ begins-there None fresh state h k = tt
 begins-there (Some c) None state h k = tt
 begins-there (Some c) (Some s) state h k = k ∙ sym h
 
--- and the front stands where it ends
-pub ends-there : (stepped : Option Chunk) (state : State) → IfSome stepped (λ c. end_from c.start c.ops ≡ state) → IfSome (option_map (λ (c : Chunk). end_from c.start c.ops) stepped) (λ s. s ≡ state)
-ends-there None state h = tt
-ends-there (Some c) state h = h
-
 -- where chunks go, what is known of the others stays
 pub EndsWith-fewer : (all some : List (ℕ × Chunk)) (o : Option ℕ) (state : State) → AreSome some all → IfSome o (λ k. EndsWith all k state) → IfSome o (λ k. EndsWith some k state)
 EndsWith-fewer all some None state fewer h = tt
 EndsWith-fewer all some (Some k) state fewer h = λ c there. h c (fewer (k, c) there)
-
-pub IsPlaced-fewer : (all some : List (ℕ × Chunk)) (front : Piece) → AreSome some all → IsPlaced all front → IsPlaced some front
-IsPlaced-fewer all some front fewer h = record { fresh = h.fresh; kept = EndsWith-fewer all some front.kept front.end fewer h.kept }

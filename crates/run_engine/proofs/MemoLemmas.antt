@@ -1,13 +1,12 @@
 -- Chunks that a shelf had.
-use Rattle.std.proofs.Common.{◌≡◌, ℕ, ◌-◌, ◌^◌, ◌<◌, Bool, true, false, List, nat_eq, ◌∙◌, refl, ap, subst}
+use Rattle.std.proofs.Common.{◌≡◌, ℕ, Bool, true, false, List, nat_eq, ◌∙◌, refl, subst}
 use Rattle.std.specs.Prelude.{Contains, Option, Some, None, is_some, if◌then◌else◌}
 use Rattle.std.specs.Option.{option_map_or}
 use Rattle.std.specs.Map.{lookup}
-use mathlib.Core.Logic.{⊎_elim}
 use Rattle.trace_types.specs.Operation.{Operation}
 use Rattle.ownership_model.specs.State.{State}
 use Rattle.op_step.specs.Chunk.{Chunk}
-use Rattle.mark_shelf.specs.Shelf.{Shelf, Remembers, remembered, used, sought, name_eq}
+use Rattle.mark_shelf.specs.Shelf.{Shelf, used, sought, name_eq}
 use Rattle.mark_shelf.specs.declared.names.ChunkName.{ChunkName}
 use Rattle.run_engine.specs.Memo.{IsAmong, HasSameMarks, IsSearched}
 
@@ -16,17 +15,8 @@ IsAmong-found chunks c start ops begins goes h =
     let same : c ≡ record { start = start; ops = ops } = λ i. record { start = begins i; ops = goes i } in
     (h.0, subst (λ (d : Chunk). Contains chunks (h.0, d)) same h.1)
 
-pub HasSameMarks-none : (s : Shelf) → HasSameMarks s s
-HasSameMarks-none s = record { marks = refl; most_marks = refl; most_chunks = refl; most_names = refl }
-
 pub HasSameMarks-next : (a b c : Shelf) → HasSameMarks a b → HasSameMarks b c → HasSameMarks a c
 HasSameMarks-next a b c h k = record { marks = k.marks ∙ h.marks; most_marks = k.most_marks ∙ h.most_marks; most_chunks = k.most_chunks ∙ h.most_chunks; most_names = k.most_names ∙ h.most_names }
-
-pub HasSameMarks-remembered : (a b c : Shelf) (k : Chunk) → HasSameMarks a b → Remembers b k c → HasSameMarks a c
-HasSameMarks-remembered a b c k h r = ⊎_elim
-    (λ (t : (b.next < 2 ^ 64 - 1) × (c ≡ remembered b k)). record { marks = ap (λ (s : Shelf). s.marks) t.1 ∙ h.marks; most_marks = ap (λ (s : Shelf). s.most_marks) t.1 ∙ h.most_marks; most_chunks = ap (λ (s : Shelf). s.most_chunks) t.1 ∙ h.most_chunks; most_names = ap (λ (s : Shelf). s.most_names) t.1 ∙ h.most_names })
-    (λ (t : c ≡ b). record { marks = ap (λ (s : Shelf). s.marks) t ∙ h.marks; most_marks = ap (λ (s : Shelf). s.most_marks) t ∙ h.most_marks; most_chunks = ap (λ (s : Shelf). s.most_chunks) t ∙ h.most_chunks; most_names = ap (λ (s : Shelf). s.most_names) t ∙ h.most_names })
-    r
 
 -- a look-up changes no name of a checkpoint, and no room
 either : (s a b : Shelf) (t : Bool) → HasSameMarks s a → HasSameMarks s b → HasSameMarks s (if t then a else b)

@@ -277,15 +277,6 @@ scalar_me text rest s is tells d = record {
 
 -- ---- values of a member
 
-pub value_of_scalar : (text rest : List ℕ) (s : Seen) (scalar : IsScalar text s rest) → IsValue text scalar.datum rest
-value_of_scalar text rest s scalar =
-    let is = scalar.reads fresh refl in record {
-      read = λ depth deep. ap (λ ts. converted of_json (value depth ts)) is ∙ scalar.is depth (tokens_at after_value rest);
-      shorter = omega (arith, ap length is);
-      fewer = scalar.fewer;
-      ascii = scalar.ascii;
-    }
-
 pub value_of_op : (text rest : List ℕ) (name : OpName) → text ≡ 34 ∷ Names.name_text name ++ 34 ∷ rest → IsDelimited rest → IsValue text (string (Names.name_text name)) rest
 value_of_op text rest name is d =
     let s = Names.name_text name in

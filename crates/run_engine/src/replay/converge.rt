@@ -190,11 +190,13 @@ fn spliced(
     ensures gone { IfOk result (λ p. p.gone ≡ front.gone) }
 {
     let segments = front.segments.append(alloc, rest)?;
+    let mut fresh = front.fresh;
+    fresh.leave();
     Ok(Piece {
         segments,
         end,
         len,
-        fresh: front.fresh,
+        fresh,
         kept: None,
         gone: front.gone,
     })

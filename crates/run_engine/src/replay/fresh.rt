@@ -22,6 +22,7 @@ pub struct FreshChunk {
 #[derive(Drop)]
 pub struct Fresh {
     chunks: VecDeque<FreshChunk>,
+    // whether the replay stands where the last of them ends
     is_last: bool,
 }
 

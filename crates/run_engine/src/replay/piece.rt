@@ -46,7 +46,7 @@ pub struct Next {
 }
 
 impl Next {
-    /// A chunk to go on with. Where it comes from is not told.
+    /// A chunk to go on with. Whether it was stepped, or which of the shelf's it is, is for the caller to tell.
     pub fn of(alloc: Global, chunk: &ChunkRun) -> Result<Self, AllocError>
         requires { 0 < length chunk.now.ops }
         ensures piece { IfOk result
