@@ -177,3 +177,36 @@ fn refused_memory_leaves_the_tree(rt: HostRuntime) -> Result<(), Fail> {
     assert_eq!(rt; share.len(), 33);
     Ok(())
 }
+
+// The same for keys side by side, so that a node over leaves is copied with a few of them and gets more.
+#[test]
+fn refused_memory_leaves_neighbours(rt: HostRuntime) -> Result<(), Fail> {
+    let alloc = rt.alloc();
+    let mut tree = ShareTree::<Number>::empty();
+    let mut share = tree.share()?;
+    for i in 0..48u32 {
+        let key = i.wrapping_mul(7) % 48;
+        let len = tree.len();
+        if tree.insert(alloc, key, Number(i)).is_err() {
+            assert_eq!(rt; tree.len(), len);
+            assert!(rt; !tree.contains_key(key));
+            tree.insert(alloc, key, Number(i))?;
+        }
+        if i % 12 == 0 {
+            share = tree.share()?;
+        }
+    }
+    assert_eq!(rt; tree.len(), 48);
+    assert_eq!(rt; share.len(), 37);
+    share = tree.share()?;
+    for i in 0..40u32 {
+        let key = i.wrapping_mul(7) % 48;
+        if tree.remove(alloc, key).is_err() {
+            assert_eq!(rt; number_at(&tree, key), Some(i));
+            tree.remove(alloc, key)?;
+        }
+    }
+    assert_eq!(rt; tree.len(), 8);
+    assert_eq!(rt; share.len(), 48);
+    Ok(())
+}
