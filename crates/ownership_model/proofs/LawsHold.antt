@@ -3,6 +3,7 @@
 use Rattle.std.proofs.Common.{arith}
 use Rattle.ownership_model.specs.Laws.{AgreementHolds, PatchesHold, SoundnessHolds, ReleasesInTurn, CascadeHolds, BoundsHold, AppendsHold, TouchedHolds, ScopesHold}
 use Rattle.ownership_model.specs.Before.{OldTracesReplayAsBefore}
+use Rattle.ownership_model.specs.FootprintLaws.{FootprintsHold, StretchesAreTaken, PartsStayAlike}
 use Rattle.ownership_model.specs.ReachLaws.{ReachIsLeast, NamedAreReached, LeakedAreUnreached, HoldersHold}
 use Rattle.ownership_model.proofs.ReleaseLemmas.{release-nil, release-cons, work_drops}
 use Rattle.ownership_model.proofs.DropLemmas.{sound-drop_first, sound-release}
@@ -15,6 +16,10 @@ use Rattle.ownership_model.proofs.RemainsLemmas.{is_patched, patched_both, patch
 use Rattle.ownership_model.proofs.LaterLemmas.{stops_later}
 use Rattle.ownership_model.proofs.ReplayLemmas.{appends_hold, nothing_sound, nothing_taken, distinct_new}
 use Rattle.ownership_model.proofs.TouchedLemmas.{end_outside}
+use Rattle.ownership_model.proofs.AlikeLemmas.{release_alike, taken-nil, taken-cons}
+use Rattle.ownership_model.proofs.AlikeSteps.{step_alike}
+use Rattle.ownership_model.proofs.OutsideLemmas.{step_kept, run_kept}
+use Rattle.ownership_model.proofs.TakenLemmas.{replay_alike, stretches_taken, parts_alike}
 use Rattle.ownership_model.proofs.FitLemmas.{bounds_hold}
 use Rattle.ownership_model.proofs.BeforeLemmas.{as_before}
 use Rattle.ownership_model.proofs.ScopeLemmas.{changed_scoped}
@@ -63,6 +68,25 @@ appends = appends_hold
 
 pub touched : TouchedHolds
 touched = λ m ops. end_outside ops m
+
+pub footprints : FootprintsHold
+footprints = record {
+  none_taken = taken-nil;
+  first_taken = taken-cons;
+  drops = λ k m n p a c. let e = release_alike k m n p c a in record { events = e.events; alike = e.alike; weights = e.moves; taken = e.taken };
+  steps = λ k m n op a c.
+      let d = step_alike k m n op c a in
+      record { outcome = d.steps.outcome; alike = d.steps.alike; weights = d.steps.moves; scopes = d.steps.scopes; footprint = d.keys; moved = d.moved };
+  replays = replay_alike;
+  kept_by_step = step_kept;
+  kept_by_replay = λ k m ops sound distinct unused. run_kept k ops m sound (joined.replays m ops sound distinct unused).0;
+}
+
+pub taken_over : StretchesAreTaken
+taken_over = stretches_taken
+
+pub parts_stay : PartsStayAlike
+parts_stay = parts_alike
 
 pub old_traces : OldTracesReplayAsBefore
 old_traces = as_before

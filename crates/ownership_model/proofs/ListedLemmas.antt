@@ -58,7 +58,7 @@ module _ {X : Type 0} where
   abbrev map_of : List (ℕ × X) → FinMap nat_cmp X
   map_of es = from_entries es
 
-  get-map_of : (es : List (ℕ × X)) (q : ℕ) → get (map_of es) q ≡ look q es
+  pub get-map_of : (es : List (ℕ × X)) (q : ℕ) → get (map_of es) q ≡ look q es
   get-map_of [] q = get-empty nat_cmp q
   get-map_of (e ∷ es) q = get_inserted (map_of es) e.0 e.1 q ∙ ap (λ r. if e.0 == q then Some e.1 else r) (get-map_of es q)
 
@@ -110,7 +110,7 @@ module _ {X : Type 0} where
 count-shown : (s : Slot) (m : Lists) (pending : List Item) → IsApart m → weight (names_alike s) (shown m) pending ≡ count s m pending
 count-shown s m pending apart = omega (arith, total-map_of (holding_weight (names_alike s)) m.handles apart.handles, total-map_of (names_alike s) m.cells apart.cells, total-map_of (entry_weight (names_alike s)) m.objects apart.objects)
 
-work-shown : (m : Lists) (pending : List Item) → IsApart m → work (shown m) pending ≡ total_in alive_size m.objects + length pending
+pub work-shown : (m : Lists) (pending : List Item) → IsApart m → work (shown m) pending ≡ total_in alive_size m.objects + length pending
 work-shown m pending apart = omega (arith, total-map_of alive_size m.objects apart.objects)
 
 -- ---- changes
@@ -126,7 +126,7 @@ change_apart m (TurnHusk o) a = record { handles = a.handles; cells = a.cells; o
 objects-shown : (m : Lists) (x : List (ℕ × Entry)) (y : FinMap nat_cmp Entry) → from_entries x ≡ y → shown (record m { objects = x }) ≡ record (shown m) { objects = y }
 objects-shown m x y e = λ i. record { handles = from_entries m.handles; cells = from_entries m.cells; objects = e i; scopes = m.scopes }
 
-change-shown : (m : Lists) (c : Change) → shown (change_in m c) ≡ changed_by (shown m) c
+pub change-shown : (m : Lists) (c : Change) → shown (change_in m c) ≡ changed_by (shown m) c
 change-shown m (SetHandle t h x) = λ i. record { handles = set-map_of h x m.handles i; cells = from_entries m.cells; objects = from_entries m.objects; scopes = kept_or_entered (sym (get-map_of m.handles h) i) t h m.scopes }
 change-shown m (EndHandle h) = λ i. record { handles = cut-map_of h m.handles i; cells = from_entries m.cells; objects = from_entries m.objects; scopes = left h m.scopes }
 change-shown m (SetCell c s) = λ i. record { handles = from_entries m.handles; cells = set-map_of c s m.cells i; objects = from_entries m.objects; scopes = m.scopes }
@@ -137,11 +137,11 @@ change-shown m (SetField o i s) =
 change-shown m (Make o fields) = objects-shown m (set o (Alive fields) m.objects) (insert (from_entries m.objects) o (Alive fields)) (set-map_of o (Alive fields) m.objects)
 change-shown m (TurnHusk o) = objects-shown m (set o Husk m.objects) (insert (from_entries m.objects) o Husk) (set-map_of o Husk m.objects)
 
-changes_apart : (changes : List Change) (m : Lists) → IsApart m → IsApart (changes_in m changes)
+pub changes_apart : (changes : List Change) (m : Lists) → IsApart m → IsApart (changes_in m changes)
 changes_apart [] m a = a
 changes_apart (c ∷ changes) m a = changes_apart changes (change_in m c) (change_apart m c a)
 
-changes-shown : (changes : List Change) (m : Lists) → shown (changes_in m changes) ≡ changed (shown m) changes
+pub changes-shown : (changes : List Change) (m : Lists) → shown (changes_in m changes) ≡ changed (shown m) changes
 changes-shown [] m = refl
 changes-shown (c ∷ changes) m = changes-shown changes (change_in m c) ∙ ap (λ s. changed s changes) (change-shown m c)
 
@@ -154,18 +154,18 @@ fate-shown m (item.Slot (Weak o)) rest a =
     λ i. if sym (count-shown (Weak o) m rest a) i == 0 && (is_husk (sym (get-map_of m.objects o) i) && (ends o rest == 0)) then Goes o else Stays
 fate-shown m (item.End o) rest a = λ i. if sym (count-shown (Weak o) m rest a) i == 0 then Goes o else Stays
 
-record Leaves (x : Left) (d : Dropped) : Type 0 where
-  state : shown x.state ≡ d.state
-  events : x.events ≡ d.events
-  pending : x.pending ≡ d.pending
-  apart : IsApart x.state
+pub record Leaves (x : Left) (d : Dropped) : Type 0 where
+  pub state : shown x.state ≡ d.state
+  pub events : x.events ≡ d.events
+  pub pending : x.pending ≡ d.pending
+  pub apart : IsApart x.state
 
 left_by-shown : (m : Lists) (rest : List Item) (f : Fate) → IsApart m → Leaves (meet_in m rest f) (left_by (shown m) rest f)
 left_by-shown m rest Stays a = record { state = refl; events = refl; pending = refl; apart = a }
 left_by-shown m rest (Falls o fields) a = record { state = change-shown m (TurnHusk o); events = refl; pending = refl; apart = change_apart m (TurnHusk o) a }
 left_by-shown m rest (Goes o) a = record { state = objects-shown m (cut o m.objects) (remove (from_entries m.objects) o) (cut-map_of o m.objects); events = refl; pending = refl; apart = record { handles = a.handles; cells = a.cells; objects = cut_apart o m.objects a.objects } }
 
-drop-shown : (m : Lists) (x : Item) (rest : List Item) → IsApart m → Leaves (meet_in m rest (fate_in m x rest)) (drop_first (shown m) x rest)
+pub drop-shown : (m : Lists) (x : Item) (rest : List Item) → IsApart m → Leaves (meet_in m rest (fate_in m x rest)) (drop_first (shown m) x rest)
 drop-shown m x rest a = subst (λ f. Leaves (meet_in m rest (fate_in m x rest)) (left_by (shown m) rest f)) (fate-shown m x rest a) (left_by-shown m rest (fate_in m x rest) a)
 
 record Ends (x : Ended) (es : List Event) (r : Released) : Type 0 where
@@ -200,7 +200,7 @@ elements-shown m (field.Held h ∷ fields) = λ i. Read h (sym (get-map_of m.han
 elements-shown m (field.Null ∷ fields) = ap (λ es. Null ∷ es) (elements-shown m fields)
 elements-shown m (field.Me ∷ fields) = ap (λ es. Me ∷ es) (elements-shown m fields)
 
-held-shown : (m : Lists) (h : Option ℕ) → look_if h m.handles ≡ held_by (shown m) h
+pub held-shown : (m : Lists) (h : Option ℕ) → look_if h m.handles ≡ held_by (shown m) h
 held-shown m None = refl
 held-shown m (Some h) = sym (get-map_of m.handles h)
 
@@ -212,7 +212,7 @@ seen-shown : (m : Lists) (o : Option ℕ) → IsApart m → seen_in m o ≡ seen
 seen-shown m None a = refl
 seen-shown m (Some o) a = λ i. record { entry = sym (get-map_of m.objects o) i; strong = sym (count-shown (Strong o) m [] a) i; weak = sym (count-shown (Weak o) m [] a) i }
 
-view-shown : (m : Lists) (k : Members) → IsApart m → view_in m k ≡ view_at (shown m) k
+pub view-shown : (m : Lists) (k : Members) → IsApart m → view_in m k ≡ view_at (shown m) k
 view-shown m k a =
     let object : seen_in m (named_in (look_if k.first m.handles)) ≡ seen (shown m) (named_in (held_by (shown m) k.first)) =
     seen-shown m (named_in (look_if k.first m.handles)) a ∙ ap (λ h. seen (shown m) (named_in h)) (held-shown m k.first) in
@@ -229,10 +229,10 @@ counts-shown : (m : Lists) (o : Option ℕ) → IsApart m → counts_in m o ≡ 
 counts-shown m None a = refl
 counts-shown m (Some o) a = λ i. Some (record { object = o; strong = sym (count-shown (Strong o) m [] a) i; weak = sym (count-shown (Weak o) m [] a) i })
 
-record Steps (x : Stepped) (y : real.Stepped) : Type 0 where
-  state : shown x.state ≡ y.state
-  outcome : x.outcome ≡ y.outcome
-  apart : IsApart x.state
+pub record Steps (x : Stepped) (y : real.Stepped) : Type 0 where
+  pub state : shown x.state ≡ y.state
+  pub outcome : x.outcome ≡ y.outcome
+  pub apart : IsApart x.state
 
 carried-shown : (m : Lists) (id : ℕ) (p : Plan) → IsApart m → Steps (carried_in m id p) (carried_out (shown m) id p)
 carried-shown m id (Skip why) a = record { state = refl; outcome = refl; apart = a }
@@ -248,7 +248,7 @@ carried-shown m id (Act answer changes event pending object) a =
       apart = e.apart;
     }
 
-step-shown : (m : Lists) (op : Operation) → IsApart m → Steps (step_in m op) (step (shown m) op)
+pub step-shown : (m : Lists) (op : Operation) → IsApart m → Steps (step_in m op) (step (shown m) op)
 unfolding step
 step-shown m op a = subst (λ (v : View). Steps (step_in m op) (carried_out (shown m) op.id (row op v))) (view-shown m (members (scope_of op.thread m.scopes) op.kind) a) (carried-shown m op.id (row op (view_in m (members (scope_of op.thread m.scopes) op.kind))) a)
 

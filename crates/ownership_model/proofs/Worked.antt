@@ -16,10 +16,10 @@ use Rattle.ownership_model.specs.State.{nothing_held}
 use Rattle.ownership_model.specs.Step.{outcomes_from}
 use Rattle.ownership_model.proofs.ListedLemmas.{replayed}
 
-abbrev op : ℕ → Kind → Operation
+abbrev pub op : ℕ → Kind → Operation
 op id k = record { id = id; thread = 0; kind = k }
 
-abbrev by : ℕ → ℕ → Kind → Operation
+abbrev pub by : ℕ → ℕ → Kind → Operation
 by t id k = record { id = id; thread = t; kind = k }
 
 abbrev skipped : ℕ → Reason → Outcome

@@ -17,7 +17,10 @@ pub mod Patch
 pub mod Cascade
 pub mod Reach
 pub mod Touched
+pub mod Alike
+pub mod Footprint
 pub mod Leaks
 pub mod Falling
+pub mod FootprintLaws
 pub mod Laws
 pub mod ReachLaws

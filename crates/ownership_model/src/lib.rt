@@ -2,6 +2,7 @@
 #![tactic(auto)]
 
 pub mod effects;
+pub mod key;
 pub mod laws;
 pub mod leaks;
 pub mod link;
@@ -11,6 +12,7 @@ pub mod questions;
 pub mod reach_laws;
 pub mod remaining;
 
+pub use key::Key;
 pub use leaks::{Holder, HuskLeft, Leak, Leaks};
 pub use link::Link;
 pub use plan::{Plan, Stop};
