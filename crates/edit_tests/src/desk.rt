@@ -69,12 +69,17 @@ fn assert_replies(rt: &impl Abort, alloc: Global, desk: &mut Desk) -> Result<(),
     Ok(())
 }
 
+// All five requests, and the desk after them.
+fn assert_asked(rt: &impl Abort, alloc: Global, desk: &mut Desk) -> Result<(), Fail> {
+    assert_replies(rt, alloc, desk)?;
+    assert_changed_once(rt, desk)
+}
+
 #[test]
 fn desk_replies(rt: HostRuntime) -> Result<(), Fail> {
     let alloc = rt.alloc();
     let mut desk = opened(alloc)?;
-    assert_replies(&rt, alloc, &mut desk)?;
-    assert_changed_once(&rt, &desk)
+    assert_asked(&rt, alloc, &mut desk)
 }
 
 #[test]
@@ -86,12 +91,14 @@ fn replies_are_told(rt: HostRuntime) -> Result<(), Fail> {
     Ok(())
 }
 
-// What is prepared is the next version and its entry.
-fn assert_prepared(rt: &impl Abort, prepared: &Prepared) {
+// What is prepared is the next version and its entry. The desk is as it was.
+fn assert_prepared(rt: &impl Abort, desk: &Desk, prepared: &Prepared) {
     assert_eq!(rt; prepared.published().version(), 1);
     assert_eq!(rt; prepared.published().run().len(), 0);
     assert_eq!(rt; prepared.entry().session, 2);
     assert_eq!(rt; prepared.entry().reply, Reply::Accepted(1));
+    assert_eq!(rt; desk.version(), 0);
+    assert_eq!(rt; desk.len(), 0);
 }
 
 // The desk with what was prepared.
@@ -103,16 +110,22 @@ fn assert_committed(rt: &impl Abort, desk: &Desk) {
     assert_eq!(rt; desk.opening().len(), 1);
 }
 
-// A request of session 2 is prepared, which changes no version, and then committed.
-fn assert_commits(rt: &impl Abort, alloc: Global, desk: &mut Desk) -> Result<(), Fail>
+// A request of session 2 is prepared, which changes no version, and then committed: the reply.
+fn committed(rt: &impl Abort, alloc: Global, desk: &mut Desk) -> Result<Reply, Fail>
     requires { desk.old.standing.history ≡ [] }
 {
     let batch = removal(alloc, 1, 1)?;
     let prepared = desk.prepare(alloc, 2, Request { base: 0, batch })?;
-    assert_prepared(rt, &prepared);
-    assert_eq!(rt; desk.version(), 0);
-    assert_eq!(rt; desk.len(), 0);
-    assert_eq!(rt; desk.commit(prepared), Reply::Accepted(1));
+    assert_prepared(rt, desk, &prepared);
+    Ok(desk.commit(prepared))
+}
+
+// Does so, and looks at the desk then.
+fn assert_commits(rt: &impl Abort, alloc: Global, desk: &mut Desk) -> Result<(), Fail>
+    requires { desk.old.standing.history ≡ [] }
+{
+    assert_eq!(rt; committed(rt, alloc, desk)?, Reply::Accepted(1));
+    assert_committed(rt, desk);
     Ok(())
 }
 
@@ -120,9 +133,7 @@ fn assert_commits(rt: &impl Abort, alloc: Global, desk: &mut Desk) -> Result<(),
 fn prepared_request_counts_when_committed(rt: HostRuntime) -> Result<(), Fail> {
     let alloc = rt.alloc();
     let mut desk = opened(alloc)?;
-    assert_commits(&rt, alloc, &mut desk)?;
-    assert_committed(&rt, &desk);
-    Ok(())
+    assert_commits(&rt, alloc, &mut desk)
 }
 
 // How many operations the version would have without its one operation, or none where that is refused.
@@ -134,18 +145,34 @@ fn len_without_it(alloc: Global, published: &Published) -> Result<Option<usize>,
     }
 }
 
-#[test]
-fn version_asked_what_if_stays(rt: HostRuntime) -> Result<(), Fail> {
-    let alloc = rt.alloc();
-    let desk = opened(alloc)?;
-    let share = desk.published().share()?;
-    assert_eq!(rt; len_without_it(alloc, &share)?, Some(0));
+// The version without its one operation, and its lines.
+fn assert_asked_what_if(rt: &impl Abort, alloc: Global, share: &Published) -> Result<(), Fail> {
+    assert_eq!(rt; len_without_it(alloc, share)?, Some(0));
     let text = export(alloc, share.run())?;
     assert!(rt;
         text.as_slice() == b"{\"fields\":[],\"id\":1,\"op\":\"new\",\"t\":0,\"to\":0}\n".as_slice()
     );
+    Ok(())
+}
+
+// A share of the version that stands is asked.
+fn ask_share(rt: &impl Abort, alloc: Global, desk: &Desk) -> Result<(), Fail> {
+    let share = desk.published().share()?;
+    assert_asked_what_if(rt, alloc, &share)
+}
+
+// The desk is as it was afterwards.
+fn assert_version_stays(rt: &impl Abort, alloc: Global, desk: &Desk) -> Result<(), Fail> {
+    ask_share(rt, alloc, desk)?;
     assert_eq!(rt; desk.version(), 0);
     Ok(())
+}
+
+#[test]
+fn version_asked_what_if_stays(rt: HostRuntime) -> Result<(), Fail> {
+    let alloc = rt.alloc();
+    let desk = opened(alloc)?;
+    assert_version_stays(&rt, alloc, &desk)
 }
 
 // As many requests for a version that isn't there as a history has room for.
@@ -156,13 +183,18 @@ fn fill(rt: &impl Abort, alloc: Global, desk: &mut Desk) -> Result<(), Fail> {
     Ok(())
 }
 
+// After that no request is answered.
+fn assert_full(rt: &impl Abort, alloc: Global, desk: &mut Desk) -> Result<(), Fail> {
+    fill(rt, alloc, desk)?;
+    assert_eq!(rt; asked(alloc, desk, 0, 0, 1)?, Reply::HistoryFull);
+    assert_eq!(rt; desk.len(), MAX_ENTRIES);
+    assert_eq!(rt; desk.version(), 0);
+    Ok(())
+}
+
 #[test]
 fn full_history(rt: HostRuntime) -> Result<(), Fail> {
     let alloc = rt.alloc();
     let mut desk = opened(alloc)?;
-    fill(&rt, alloc, &mut desk)?;
-    assert_eq!(rt; asked(alloc, &mut desk, 0, 0, 1)?, Reply::HistoryFull);
-    assert_eq!(rt; desk.len(), MAX_ENTRIES);
-    assert_eq!(rt; desk.version(), 0);
-    Ok(())
+    assert_full(&rt, alloc, &mut desk)
 }

@@ -1,11 +1,12 @@
 //! Edits far apart, and a difference that lasts: what stands between is taken as it is, or passed without a look.
 use crate::meetings::{leaked_pairs, with_fields};
-use crate::small_runs::{after, after_two, is_replay, run_of};
-use crate::small_traces::{add, add_pairs, change, insertion, new, op_of, two};
+use crate::small_runs::{is_replay, with_both, with_edited, with_run};
+use crate::small_traces::{add, add_pairs, batch, change, insertion, new, op_of, two};
 use run_engine::{Run, apply};
 use std::alloc::Global;
+use std::process::Abort;
 use std::test::Fail;
-use trace_types::edits::Edit;
+use trace_types::edits::{Batch, Edit};
 use trace_types::kinds::{Field, Kind};
 use trace_types::trace::Trace;
 
@@ -24,17 +25,24 @@ fn many_live(alloc: Global) -> Result<Trace, Fail> {
     Ok(trace)
 }
 
+// Operation 100 asks for another object's counts, and so does one more near the end.
+fn far_apart(alloc: Global) -> Result<Batch, Fail> {
+    let asks = change(100, Kind::Counts { h: 1_002 })?;
+    let more = insertion(3_900, 5_000, Kind::Counts { h: 1_003 })?;
+    two(alloc, asks, more)
+}
+
 #[test]
 fn stretches_between_far_edits_are_kept(rt: HostRuntime) -> Result<(), Fail> {
     let alloc = rt.alloc();
-    let run = run_of(alloc, many_live(alloc)?)?;
-    let asks = change(100, Kind::Counts { h: 1_002 })?;
-    let more = insertion(3_900, 5_000, Kind::Counts { h: 1_003 })?;
-    let (edited, steps) = after_two(alloc, &run, asks, more)?;
-    // 64 operations from 64 on, and 65 from 3840 on
-    assert_eq!(rt; steps, 129);
-    assert!(rt; is_replay(alloc, &edited)?);
-    Ok(())
+    let edits = far_apart(alloc)?;
+    let trace = many_live(alloc)?;
+    with_both(alloc, trace, edits, |_, edited, steps| {
+        // 64 operations from 64 on, and 65 from 3840 on
+        assert_eq!(rt; steps, 129);
+        assert!(rt; is_replay(alloc, edited)?);
+        Ok(())
+    })
 }
 
 // The clone that this operation of leaking pairs makes, with another label: it ends two operations on.
@@ -43,52 +51,75 @@ fn labelled(id: u32) -> Result<Edit, Fail> {
     Ok(Edit::Change { id, op })
 }
 
+// Two clones far apart get another label.
+fn assert_kept_under_remains(rt: &impl Abort, alloc: Global, run: &Run) -> Result<(), Fail> {
+    let edits = two(alloc, labelled(203)?, labelled(4_003)?)?;
+    with_edited(alloc, run, edits, |edited, steps| {
+        assert_eq!(rt; steps, 128);
+        assert!(rt; is_replay(alloc, edited)?);
+        Ok(())
+    })
+}
+
 // The remains of the first edit are laid over all checkpoints that the second batch passes.
 #[test]
 fn stretches_under_remains_are_kept(rt: HostRuntime) -> Result<(), Fail> {
     let alloc = rt.alloc();
-    let first = run_of(alloc, leaked_pairs(alloc, 4_096)?)?;
-    let (run, _) = with_fields(alloc, &first, &[Field::Null, Field::Null])?;
-    let (edited, steps) = after_two(alloc, &run, labelled(203)?, labelled(4_003)?)?;
-    assert_eq!(rt; steps, 128);
-    assert!(rt; is_replay(alloc, &edited)?);
-    Ok(())
+    with_run(alloc, leaked_pairs(alloc, 4_096)?, |first| {
+        let (run, _) = with_fields(alloc, first, &[Field::Null, Field::Null])?;
+        assert_kept_under_remains(&rt, alloc, &run)
+    })
 }
 
-// Leaking pairs. Handle 30 is made by operation 5000, behind 64 others, and ends with operation 5001, at place 3001.
-fn ended_late(alloc: Global) -> Result<Run, Fail> {
+// Handle 30 is made by operation 5000, behind 64 others, and ends with operation 5001, at place 3001.
+fn late_end(alloc: Global) -> Result<Batch, Fail> {
     let made = insertion(64, 5_000, Kind::Null { to: 30 })?;
     let ended = insertion(3_000, 5_001, Kind::Drop { h: 30 })?;
-    let trace = apply(
-        alloc,
-        &leaked_pairs(alloc, 4_096)?,
-        &two(alloc, made, ended)?,
-    )?;
-    run_of(alloc, trace)
+    two(alloc, made, ended)
+}
+
+// Leaking pairs, and that handle.
+fn ended_late(alloc: Global) -> Result<Trace, Fail> {
+    let edits = late_end(alloc)?;
+    let trace = leaked_pairs(alloc, 4_096)?;
+    Ok(apply(alloc, &trace, &edits)?)
+}
+
+// The handle holds a Weak to no allocation in place of a null pointer.
+fn weak() -> Result<Edit, Fail> {
+    change(5_000, Kind::WeakNew { to: 30 })
 }
 
 #[test]
 fn heaps_meet_where_a_handle_ends(rt: HostRuntime) -> Result<(), Fail> {
     let alloc = rt.alloc();
-    let run = ended_late(alloc)?;
-    let (edited, steps) = after(alloc, &run, change(5_000, Kind::WeakNew { to: 30 })?)?;
-    // from 64 to 3008
-    assert_eq!(rt; steps, 2_944);
-    assert!(rt; edited.end().same(run.end()));
-    assert!(rt; is_replay(alloc, &edited)?);
-    Ok(())
+    let edits = batch(alloc, weak()?)?;
+    let trace = ended_late(alloc)?;
+    with_both(alloc, trace, edits, |run, edited, steps| {
+        // from 64 to 3008
+        assert_eq!(rt; steps, 2_944);
+        assert!(rt; edited.end().same(run.end()));
+        assert!(rt; is_replay(alloc, edited)?);
+        Ok(())
+    })
+}
+
+// The same, and an object of a pair that leaks has one field more.
+fn weak_and_longer(alloc: Global) -> Result<Batch, Fail> {
+    let longer = change(98, new(alloc, 1, &[Field::Null, Field::Null])?)?;
+    two(alloc, weak()?, longer)
 }
 
 // What the first operations change beside the handle is still known where it ends.
 #[test]
 fn leaked_pair_differs_while_a_handle_does(rt: HostRuntime) -> Result<(), Fail> {
     let alloc = rt.alloc();
-    let run = ended_late(alloc)?;
-    let weak = change(5_000, Kind::WeakNew { to: 30 })?;
-    let longer = change(98, new(alloc, 1, &[Field::Null, Field::Null])?)?;
-    let (edited, steps) = after_two(alloc, &run, weak, longer)?;
-    assert_eq!(rt; steps, 2_944);
-    assert!(rt; !edited.end().same(run.end()));
-    assert!(rt; is_replay(alloc, &edited)?);
-    Ok(())
+    let edits = weak_and_longer(alloc)?;
+    let trace = ended_late(alloc)?;
+    with_both(alloc, trace, edits, |run, edited, steps| {
+        assert_eq!(rt; steps, 2_944);
+        assert!(rt; !edited.end().same(run.end()));
+        assert!(rt; is_replay(alloc, edited)?);
+        Ok(())
+    })
 }

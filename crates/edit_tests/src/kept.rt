@@ -1,7 +1,7 @@
 //! How many checkpoints a desk keeps, and which stretches it steps no second time.
 ghost use Rattle.std.specs.Prelude.{◌<◌};
 
-use crate::small_runs::run_of;
+use crate::small_runs::{has_marks, run_of, with_run};
 use crate::small_traces::{add, add_pairs, batch, broken_cycle, change, insertion, new, set, two};
 use edit_desk::{Desk, KEPT_CHUNKS, KEPT_MARKS, KEPT_NAMES, Reply, Request};
 use mark_shelf::MarkShelf;
@@ -65,26 +65,35 @@ fn most_marks(rt: &impl Abort, alloc: Global, desk: &mut Desk) -> Result<usize, 
     Ok(most)
 }
 
-#[test]
-fn two_thousand_requests(rt: HostRuntime) -> Result<(), Fail> {
-    let alloc = rt.alloc();
-    let mut desk = Desk::open(alloc, null_trace(alloc, 20_000)?)?;
-    assert_eq!(rt; most_marks(&rt, alloc, &mut desk)?, 1_026);
+fn assert_most_marks(rt: &impl Abort, alloc: Global, desk: &mut Desk) -> Result<(), Fail> {
+    assert_eq!(rt; most_marks(rt, alloc, desk)?, 1_026);
     Ok(())
 }
 
-// The checkpoints that a desk keeps of a trace as it opens.
-fn opening_marks(alloc: Global, trace: Trace) -> Result<Sequence<usize>, Fail> {
-    let mut shelf = MarkShelf::new(alloc, KEPT_MARKS, KEPT_CHUNKS, KEPT_NAMES)?;
-    let run = Run::load_kept(alloc, &trace, &mut shelf, &mut Meter::new())?;
-    Ok(run.marks(alloc)?)
+#[test]
+fn two_thousand_requests(rt: HostRuntime) -> Result<(), Fail> {
+    let alloc = rt.alloc();
+    let trace = null_trace(alloc, 20_000)?;
+    let mut desk = Desk::open(alloc, trace)?;
+    assert_most_marks(&rt, alloc, &mut desk)
+}
+
+// Lends the run of a trace that is loaded over a shelf.
+fn with_kept<F: FnOnce(&mut Run, &mut MarkShelf) -> Result<(), Fail>>(
+    alloc: Global,
+    trace: &Trace,
+    shelf: &mut MarkShelf,
+    judge: F,
+) -> Result<(), Fail>
+    requires { F.IsAlwaysCallable judge }
+{
+    let mut run = Run::load_kept(alloc, trace, shelf, &mut Meter::new())?;
+    judge(&mut run, shelf)
 }
 
 // Of the checkpoints of a long trace the last ones are kept, and the first and the end.
-#[test]
-fn long_trace_is_opened(rt: HostRuntime) -> Result<(), Fail> {
-    let alloc = rt.alloc();
-    let marks = opening_marks(alloc, null_trace(alloc, 100_000)?)?;
+fn assert_last_marks(rt: &impl Abort, alloc: Global, run: &Run) -> Result<(), Fail> {
+    let marks = run.marks(alloc)?;
     let marks = marks.as_slice();
     assert_eq!(rt; marks.len(), KEPT_MARKS + 2);
     assert_eq!(rt; marks.first().copied(), Some(0));
@@ -94,24 +103,75 @@ fn long_trace_is_opened(rt: HostRuntime) -> Result<(), Fail> {
     Ok(())
 }
 
+#[test]
+fn long_trace_is_opened(rt: HostRuntime) -> Result<(), Fail> {
+    let alloc = rt.alloc();
+    let trace = null_trace(alloc, 100_000)?;
+    let mut shelf = MarkShelf::new(alloc, KEPT_MARKS, KEPT_CHUNKS, KEPT_NAMES)?;
+    with_kept(
+        alloc,
+        &trace,
+        &mut shelf,
+        |run, _| assert_last_marks(&rt, alloc, run),
+    )
+}
+
 // A run after an edit over a shelf, and how many operations were stepped for it.
-fn over(alloc: Global, run: &Run, edits: Batch, shelf: &mut MarkShelf) -> Result<(Run, u64), Fail> {
+fn over(
+    alloc: Global,
+    run: &Run,
+    edits: &Batch,
+    shelf: &mut MarkShelf,
+) -> Result<(Run, u64), Fail> {
     let mut meter = Meter::new();
-    let edited = run.edited(alloc, &edits, shelf, &mut meter)?;
+    let edited = run.edited(alloc, edits, shelf, &mut meter)?;
     Ok((edited, meter.count()))
 }
 
-// The shelf has room for two: the restart's name and the new ones are touched, and the checkpoints of others are given up.
+// Puts in the run's place what it is after an edit over a shelf, and tells how many operations were stepped for that.
+fn step_over(
+    alloc: Global,
+    run: &mut Run,
+    edits: &Batch,
+    shelf: &mut MarkShelf,
+) -> Result<u64, Fail> {
+    let (edited, steps) = over(alloc, run, edits, shelf)?;
+    *run = edited;
+    Ok(steps)
+}
+
+// How many operations are stepped for an edit over a shelf.
+fn steps_over(alloc: Global, run: &Run, edits: &Batch, shelf: &mut MarkShelf) -> Result<u64, Fail> {
+    let (_edited, steps) = over(alloc, run, edits, shelf)?;
+    Ok(steps)
+}
+
+// The restart's name and the new ones are touched, and the checkpoints of others are given up.
+fn assert_touched_stay(
+    rt: &impl Abort,
+    alloc: Global,
+    run: &mut Run,
+    shelf: &mut MarkShelf,
+) -> Result<(), Fail> {
+    let edits = inserted(alloc, 100, 1_000)?;
+    step_over(alloc, run, &edits, shelf)?;
+    let wanted = [0usize, 128, 129, 193, 257, 321, 385, 449, 513, 577, 641];
+    assert!(rt; has_marks(alloc, run, wanted.as_slice())?);
+    Ok(())
+}
+
+// The shelf has room for two.
+fn assert_two_stay(rt: &impl Abort, alloc: Global, run: &mut Run) -> Result<(), Fail> {
+    let mut shelf = MarkShelf::new(alloc, 2, 1, 1)?;
+    assert_touched_stay(rt, alloc, run, &mut shelf)
+}
+
 #[test]
 fn touched_checkpoints_stay(rt: HostRuntime) -> Result<(), Fail> {
     let alloc = rt.alloc();
-    let run = run_of(alloc, null_trace(alloc, 640)?)?;
-    let mut shelf = MarkShelf::new(alloc, 2, 1, 1)?;
-    let (run, _) = over(alloc, &run, inserted(alloc, 100, 1_000)?, &mut shelf)?;
-    let marks = run.marks(alloc)?;
-    let wanted = [0usize, 128, 129, 193, 257, 321, 385, 449, 513, 577, 641];
-    assert!(rt; marks.as_slice() == wanted.as_slice());
-    Ok(())
+    let trace = null_trace(alloc, 640)?;
+    let mut run = run_of(alloc, trace)?;
+    assert_two_stay(&rt, alloc, &mut run)
 }
 
 // An object, and behind it others that come and go.
@@ -139,10 +199,22 @@ fn assert_steps(
     shelf: &mut MarkShelf,
 ) -> Result<(), Fail> {
     for (turn, due) in [192u64, 192, 128].iter().enumerate() {
-        let (edited, steps) = over(alloc, run, first_made(alloc, turn)?, shelf)?;
-        assert_eq!(rt; steps, *due);
-        *run = edited;
+        let edits = first_made(alloc, turn)?;
+        assert_eq!(rt; step_over(alloc, run, &edits, shelf)?, *due);
     }
+    Ok(())
+}
+
+// Then two checkpoints are left.
+fn assert_first_serves(
+    rt: &impl Abort,
+    alloc: Global,
+    run: &mut Run,
+    shelf: &mut MarkShelf,
+) -> Result<(), Fail> {
+    assert_steps(rt, alloc, run, shelf)?;
+    let marks = run.marks(alloc)?;
+    assert_eq!(rt; marks.as_slice().len(), 2);
     Ok(())
 }
 
@@ -151,10 +223,32 @@ fn assert_steps(
 #[test]
 fn chunk_behind_a_checkpoint_given_up(rt: HostRuntime) -> Result<(), Fail> {
     let alloc = rt.alloc();
+    let trace = pairs(alloc)?;
     let mut shelf = MarkShelf::new(alloc, 1, 8, 8)?;
-    let mut run = Run::load_kept(alloc, &pairs(alloc)?, &mut shelf, &mut Meter::new())?;
-    assert_steps(&rt, alloc, &mut run, &mut shelf)?;
-    assert_eq!(rt; run.marks(alloc)?.as_slice().len(), 2);
+    with_kept(alloc, &trace, &mut shelf, |run, shelf| {
+        assert_first_serves(&rt, alloc, run, shelf)
+    })
+}
+
+// An object, and behind it two stretches and a half of others that come and go.
+fn fewer_pairs(alloc: Global) -> Result<Trace, Fail> {
+    let mut trace = Trace::new(alloc);
+    add(&mut trace, 1, new(alloc, 0, &[])?)?;
+    add_pairs(alloc, &mut trace, 2, 160)?;
+    Ok(trace)
+}
+
+// The edit is made twice.
+fn assert_last_serve(
+    rt: &impl Abort,
+    alloc: Global,
+    run: &Run,
+    shelf: &mut MarkShelf,
+) -> Result<(), Fail> {
+    for due in [160u64, 64].iter() {
+        let edits = first_made(alloc, 0)?;
+        assert_eq!(rt; steps_over(alloc, run, &edits, shelf)?, *due);
+    }
     Ok(())
 }
 
@@ -162,16 +256,10 @@ fn chunk_behind_a_checkpoint_given_up(rt: HostRuntime) -> Result<(), Fail> {
 #[test]
 fn last_chunks_of_an_edit_stay(rt: HostRuntime) -> Result<(), Fail> {
     let alloc = rt.alloc();
-    let mut trace = Trace::new(alloc);
-    add(&mut trace, 1, new(alloc, 0, &[])?)?;
-    add_pairs(alloc, &mut trace, 2, 160)?;
-    let run = run_of(alloc, trace)?;
-    let mut shelf = MarkShelf::new(alloc, 8, 2, 8)?;
-    for due in [160u64, 64].iter() {
-        let (_, steps) = over(alloc, &run, first_made(alloc, 0)?, &mut shelf)?;
-        assert_eq!(rt; steps, *due);
-    }
-    Ok(())
+    with_run(alloc, fewer_pairs(alloc)?, |run| {
+        let mut shelf = MarkShelf::new(alloc, 8, 2, 8)?;
+        assert_last_serve(&rt, alloc, run, &mut shelf)
+    })
 }
 
 // The operation makes a Weak to no allocation in place of a null pointer.
@@ -179,25 +267,25 @@ fn dangling(id: u32) -> Result<Edit, Fail> {
     change(id, Kind::WeakNew { to: 0 })
 }
 
-// A run in which a stretch of 128 operations follows behind 64, since the checkpoint in it is given up.
-fn with_a_long_stretch(alloc: Global) -> Result<Run, Fail> {
-    let mut run = run_of(alloc, null_trace(alloc, 256)?)?;
+// How many operations an edit of operations 1 and 249 steps, where a stretch of 128 operations follows behind 64, since the checkpoint
+// in it is given up: the long stretch may serve.
+fn rise_with_a_long_stretch(
+    alloc: Global,
+    run: &mut Run,
+    shelf: &mut MarkShelf,
+) -> Result<u64, Fail> {
     if !run.give_up(128) {
         return Err(Fail::from("no checkpoint"));
     }
-    Ok(run)
+    let edits = two(alloc, dangling(1)?, dangling(249)?)?;
+    steps_over(alloc, run, &edits, shelf)
 }
 
-// How many operations an edit of operations 1 and 249 of that run steps: the long stretch may serve.
+// The same of a run that is loaded for it.
 fn rise_over(alloc: Global, shelf: &mut MarkShelf) -> Result<u64, Fail> {
-    let run = with_a_long_stretch(alloc)?;
-    let (_, steps) = over(
-        alloc,
-        &run,
-        two(alloc, dangling(1)?, dangling(249)?)?,
-        shelf,
-    )?;
-    Ok(steps)
+    let trace = null_trace(alloc, 256)?;
+    let mut run = run_of(alloc, trace)?;
+    rise_with_a_long_stretch(alloc, &mut run, shelf)
 }
 
 // The operations as a chunk that begins with nothing.
@@ -208,15 +296,36 @@ fn chunk(alloc: Global, trace: &Trace) -> Result<ChunkRun, Fail> {
     Ok(chunk)
 }
 
+// The shelf knows the operations from 65 to 128 as a chunk.
+fn remember_nulls(alloc: Global, shelf: &mut MarkShelf) -> Result<(), Fail> {
+    let trace = nulls(alloc, 65, 128)?;
+    let chunk = chunk(alloc, &trace)?;
+    shelf.remember(chunk);
+    Ok(())
+}
+
+// How many operations that edit steps over a shelf that knows them.
+fn rise_over_nulls(alloc: Global, shelf: &mut MarkShelf) -> Result<u64, Fail> {
+    remember_nulls(alloc, shelf)?;
+    rise_over(alloc, shelf)
+}
+
+// The same over a shelf that knows nothing, or that chunk.
+fn rise_over_new(alloc: Global, knows: bool) -> Result<u64, Fail> {
+    let mut shelf = MarkShelf::new(alloc, 8, 8, 8)?;
+    if knows {
+        rise_over_nulls(alloc, &mut shelf)
+    } else {
+        rise_over(alloc, &mut shelf)
+    }
+}
+
 // A chunk of the shelf serves before an old stretch does, also where that is longer: then 64 operations more are stepped.
 #[test]
 fn chunk_serves_before_an_old_stretch(rt: HostRuntime) -> Result<(), Fail> {
     let alloc = rt.alloc();
-    let mut shelf = MarkShelf::new(alloc, 8, 8, 8)?;
-    assert_eq!(rt; rise_over(alloc, &mut shelf)?, 128);
-    let mut shelf = MarkShelf::new(alloc, 8, 8, 8)?;
-    shelf.remember(chunk(alloc, &nulls(alloc, 65, 128)?)?);
-    assert_eq!(rt; rise_over(alloc, &mut shelf)?, 192);
+    assert_eq!(rt; rise_over_new(alloc, false)?, 128);
+    assert_eq!(rt; rise_over_new(alloc, true)?, 192);
     Ok(())
 }
 
@@ -253,7 +362,8 @@ fn assert_rises(rt: &impl Abort, alloc: Global, desk: &mut Desk) -> Result<(), F
 #[test]
 fn memo_by_content(rt: HostRuntime) -> Result<(), Fail> {
     let alloc = rt.alloc();
-    let mut desk = Desk::open(alloc, broken_cycle(alloc)?)?;
+    let trace = broken_cycle(alloc)?;
+    let mut desk = Desk::open(alloc, trace)?;
     assert_rises(&rt, alloc, &mut desk)
 }
 
@@ -282,11 +392,17 @@ fn step_others(alloc: Global, desk: &mut Desk, others: u32, again: bool) -> Resu
 
 // How many operations a desk steps for the first stretch without operation 2, which it stepped before so many other stretches, each
 // of a name of its own. Where it is asked for `again`, it was also found not long ago.
+fn rise_behind(alloc: Global, desk: &mut Desk, others: u32, again: bool) -> Result<u64, Fail> {
+    take_and_put(alloc, desk)?;
+    step_others(alloc, desk, others, again)?;
+    rise(alloc, desk, Edit::Remove { id: 2 })
+}
+
+// The same of a desk that is opened for it.
 fn rise_after(alloc: Global, others: u32, again: bool) -> Result<u64, Fail> {
-    let mut desk = Desk::open(alloc, null_trace(alloc, 1_280)?)?;
-    take_and_put(alloc, &mut desk)?;
-    step_others(alloc, &mut desk, others, again)?;
-    rise(alloc, &mut desk, Edit::Remove { id: 2 })
+    let trace = null_trace(alloc, 1_280)?;
+    let mut desk = Desk::open(alloc, trace)?;
+    rise_behind(alloc, &mut desk, others, again)
 }
 
 // A stretch is found among the last 256, itself among them: behind it come that with operation 2 and the others.

@@ -1,8 +1,9 @@
 //! A trace with as many operations as there may be, and its edits.
-use crate::small_runs::{after, assert_refused, run_of};
+use crate::small_runs::{assert_refused, with_edited, with_run};
 use crate::small_traces::{add, batch, insertion};
-use run_engine::RunFault;
+use run_engine::{Run, RunFault};
 use std::alloc::Global;
+use std::process::Abort;
 use std::test::Fail;
 use trace_types::edits::Edit;
 use trace_types::kinds::Kind;
@@ -19,18 +20,32 @@ fn full_trace(alloc: Global) -> Result<Trace, Fail> {
     Ok(trace)
 }
 
+// One operation more is refused.
+fn assert_is_full(rt: &impl Abort, alloc: Global, run: &Run) -> Result<(), Fail> {
+    let last = MAX_OPS as u32;
+    let more = batch(alloc, insertion(last, last + 1, Kind::Null { to: 0 })?)?;
+    assert_refused(rt, alloc, run, more, RunFault::TooMany(0));
+    Ok(())
+}
+
 // The last operation stands behind the last checkpoint but the end.
+fn assert_last_goes(rt: &impl Abort, alloc: Global, run: &Run) -> Result<(), Fail> {
+    let last = MAX_OPS as u32;
+    let edits = batch(alloc, Edit::Remove { id: last })?;
+    with_edited(alloc, run, edits, |edited, steps| {
+        assert_eq!(rt; steps, 63);
+        assert_eq!(rt; edited.len(), MAX_OPS - 1);
+        Ok(())
+    })
+}
+
 #[test]
 fn full_trace_is_edited(rt: HostRuntime) -> Result<(), Fail> {
     let alloc = rt.alloc();
     let trace = full_trace(alloc)?;
     assert_eq!(rt; trace.len(), MAX_OPS);
-    let run = run_of(alloc, trace)?;
-    let last = MAX_OPS as u32;
-    let more = batch(alloc, insertion(last, last + 1, Kind::Null { to: 0 })?)?;
-    assert_refused(&rt, alloc, &run, more, RunFault::TooMany(0));
-    let (edited, steps) = after(alloc, &run, Edit::Remove { id: last })?;
-    assert_eq!(rt; steps, 63);
-    assert_eq!(rt; edited.len(), MAX_OPS - 1);
-    Ok(())
+    with_run(alloc, trace, |run| {
+        assert_is_full(&rt, alloc, run)?;
+        assert_last_goes(&rt, alloc, run)
+    })
 }

@@ -1,6 +1,8 @@
 //! Where the replay of an edited trace stops: at a checkpoint where the heaps agree, and at no other.
-use crate::small_runs::{after, after_two, are_marks, counts, did, leaks, run_of, skipped, tells};
-use crate::small_traces::{add, add_pairs, broken_cycle, change, insertion, new, set};
+use crate::small_runs::{
+    after, are_marks, counts, did, leaks, skipped, tells, with_both, with_edited, with_run,
+};
+use crate::small_traces::{add, add_pairs, batch, broken_cycle, change, insertion, new, set, two};
 use leak_report::find_leaks;
 use object_heap::Heap;
 use op_step::Meter;
@@ -10,7 +12,7 @@ use run_engine::Run;
 use std::alloc::Global;
 use std::process::Abort;
 use std::test::Fail;
-use trace_types::edits::Edit;
+use trace_types::edits::{Batch, Edit};
 use trace_types::kinds::{Field, Kind};
 use trace_types::outcomes::{Answer, Event, Reason};
 use trace_types::trace::Trace;
@@ -65,19 +67,38 @@ fn assert_leak(rt: &impl Abort, alloc: Global, run: &Run) -> Result<(), Fail> {
     Ok(())
 }
 
+// The run of the broken cycle, which was replayed whole.
+fn assert_loaded(rt: &impl Abort, alloc: Global, run: &Run, steps: u64) -> Result<(), Fail> {
+    assert_eq!(rt; steps, 1011);
+    assert_eq!(rt; run.len(), 1011);
+    assert!(rt; are_marks(alloc, run, &[], 0, 1011)?);
+    assert!(rt; ends_both(run, 10));
+    Ok(())
+}
+
+// That run before and after the edit.
+fn assert_leak_after_edit(
+    rt: &impl Abort,
+    alloc: Global,
+    run: &Run,
+    steps: u64,
+) -> Result<(), Fail> {
+    assert_loaded(rt, alloc, run, steps)?;
+    let edits = batch(alloc, Edit::Remove { id: 8 })?;
+    with_edited(alloc, run, edits, |edited, steps| {
+        assert_eq!(rt; steps, 63);
+        assert_leak(rt, alloc, edited)?;
+        assert_no_leak(rt, alloc, run)
+    })
+}
+
 #[test]
 fn leak_after_edit(rt: HostRuntime) -> Result<(), Fail> {
     let alloc = rt.alloc();
+    let trace = broken_cycle(alloc)?;
     let mut meter = Meter::new();
-    let run = Run::load(alloc, &broken_cycle(alloc)?, &mut meter)?;
-    assert_eq!(rt; meter.count(), 1011);
-    assert_eq!(rt; run.len(), 1011);
-    assert!(rt; are_marks(alloc, &run, &[], 0, 1011)?);
-    assert!(rt; ends_both(&run, 10));
-    let (edited, steps) = after(alloc, &run, Edit::Remove { id: 8 })?;
-    assert_eq!(rt; steps, 63);
-    assert_leak(&rt, alloc, &edited)?;
-    assert_no_leak(&rt, alloc, &run)
+    let run = Run::load(alloc, &trace, &mut meter)?;
+    assert_leak_after_edit(&rt, alloc, &run, meter.count())
 }
 
 // An object with a Weak to it, and two objects that come to hold each other, of which the first keeps that Weak.
@@ -114,14 +135,16 @@ fn broken_cycle_with_weak(alloc: Global) -> Result<Trace, Fail> {
 #[test]
 fn weak_count_differs(rt: HostRuntime) -> Result<(), Fail> {
     let alloc = rt.alloc();
-    let run = run_of(alloc, broken_cycle_with_weak(alloc)?)?;
-    assert!(rt; tells(&run, 1013, did(1014, Answer::Yes, counts(1, 1, 0), &[])));
-    let (edited, steps) = after(alloc, &run, Edit::Remove { id: 10 })?;
-    // no old checkpoint agrees
-    assert_eq!(rt; steps, 1013);
-    assert!(rt; tells(&edited, 1012, did(1014, Answer::No, counts(1, 1, 1), &[])));
-    assert!(rt; is_leaked_pair(alloc, &edited, 3, 4)?);
-    Ok(())
+    let edits = batch(alloc, Edit::Remove { id: 10 })?;
+    let trace = broken_cycle_with_weak(alloc)?;
+    with_both(alloc, trace, edits, |run, edited, steps| {
+        assert!(rt; tells(run, 1013, did(1014, Answer::Yes, counts(1, 1, 0), &[])));
+        // no old checkpoint agrees
+        assert_eq!(rt; steps, 1013);
+        assert!(rt; tells(edited, 1012, did(1014, Answer::No, counts(1, 1, 1), &[])));
+        assert!(rt; is_leaked_pair(alloc, edited, 3, 4)?);
+        Ok(())
+    })
 }
 
 // An object that holds itself by its field, until that is taken; then it goes.
@@ -154,26 +177,35 @@ fn assert_alive(rt: &impl Abort, run: &Run) {
 #[test]
 fn husk_or_alive(rt: HostRuntime) -> Result<(), Fail> {
     let alloc = rt.alloc();
-    let run = run_of(alloc, husk(alloc)?)?;
-    assert!(rt; tells(&run, 1007, did(1008, Answer::No, counts(1, 0, 1), &[])));
-    let (edited, steps) = after(alloc, &run, Edit::Remove { id: 5 })?;
-    assert!(rt; steps <= 1007);
-    assert_alive(&rt, &edited);
-    assert_eq!(rt; leaks(alloc, &edited)?, 0);
-    Ok(())
+    let edits = batch(alloc, Edit::Remove { id: 5 })?;
+    let trace = husk(alloc)?;
+    with_both(alloc, trace, edits, |run, edited, steps| {
+        assert!(rt; tells(run, 1007, did(1008, Answer::No, counts(1, 0, 1), &[])));
+        assert!(rt; steps <= 1007);
+        assert_alive(&rt, edited);
+        assert_eq!(rt; leaks(alloc, edited)?, 0);
+        Ok(())
+    })
+}
+
+// An object is made at the front, and dropped in the second stretch.
+fn made_and_dropped(alloc: Global) -> Result<Batch, Fail> {
+    let made = insertion(0, 2000, new(alloc, 20, &[])?)?;
+    let dropped = insertion(100, 2001, Kind::Drop { h: 20 })?;
+    two(alloc, made, dropped)
 }
 
 #[test]
 fn shifted_stop(rt: HostRuntime) -> Result<(), Fail> {
     let alloc = rt.alloc();
-    let run = run_of(alloc, broken_cycle(alloc)?)?;
-    let made = insertion(0, 2000, new(alloc, 20, &[])?)?;
-    let dropped = insertion(100, 2001, Kind::Drop { h: 20 })?;
-    let (edited, steps) = after_two(alloc, &run, made, dropped)?;
-    assert_eq!(rt; steps, 130);
-    assert_eq!(rt; edited.len(), 1013);
-    assert!(rt; are_marks(alloc, &edited, &[0, 64, 128], 130, 1013)?);
-    Ok(())
+    let edits = made_and_dropped(alloc)?;
+    let trace = broken_cycle(alloc)?;
+    with_both(alloc, trace, edits, |_, edited, steps| {
+        assert_eq!(rt; steps, 130);
+        assert_eq!(rt; edited.len(), 1013);
+        assert!(rt; are_marks(alloc, edited, &[0, 64, 128], 130, 1013)?);
+        Ok(())
+    })
 }
 
 // The run where the null pointer that breaks the cycle is not made: what should put it into a field is skipped.
@@ -192,17 +224,25 @@ fn assert_broken_by_weak(rt: &impl Abort, alloc: Global, run: &Run) -> Result<()
     Ok(())
 }
 
+// A `Weak::new` comes where the null pointer was.
+fn reinsert(rt: &impl Abort, alloc: Global, run: &Run) -> Result<(), Fail> {
+    let edits = batch(alloc, insertion(6, 7, Kind::WeakNew { to: 4 })?)?;
+    with_edited(alloc, run, edits, |edited, steps| {
+        assert_eq!(rt; steps, 64);
+        assert_broken_by_weak(rt, alloc, edited)
+    })
+}
+
 #[test]
 fn remove_and_reinsert(rt: HostRuntime) -> Result<(), Fail> {
     let alloc = rt.alloc();
-    let run = run_of(alloc, broken_cycle(alloc)?)?;
-    let (first, steps) = after(alloc, &run, Edit::Remove { id: 7 })?;
-    assert_eq!(rt; steps, 63);
-    assert_not_broken(&rt, alloc, &first)?;
-    let weak = insertion(6, 7, Kind::WeakNew { to: 4 })?;
-    let (second, steps) = after(alloc, &first, weak)?;
-    assert_eq!(rt; steps, 64);
-    assert_broken_by_weak(&rt, alloc, &second)
+    let edits = batch(alloc, Edit::Remove { id: 7 })?;
+    let trace = broken_cycle(alloc)?;
+    with_both(alloc, trace, edits, |_, first, steps| {
+        assert_eq!(rt; steps, 63);
+        assert_not_broken(&rt, alloc, first)?;
+        reinsert(&rt, alloc, first)
+    })
 }
 
 /// Pairs of objects that come to hold each other and are let go: each pair leaks.
@@ -229,45 +269,90 @@ pub fn with_fields(alloc: Global, run: &Run, fields: &[Field]) -> Result<(Run, u
     after(alloc, run, change(98, new(alloc, 1, fields)?)?)
 }
 
-// Gives that object one field, and then two again: what ends each of these runs, and how many operations were stepped.
-fn turned(rt: &impl Abort, alloc: Global, run: &Run, one: &Heap, two: &Heap) -> Result<Run, Fail> {
-    let (back, steps) = with_fields(alloc, run, &[Field::Null])?;
-    assert_eq!(rt; steps, 64);
-    assert!(rt; back.end().same(one));
-    let (again, steps) = with_fields(alloc, &back, &[Field::Null, Field::Null])?;
-    assert_eq!(rt; steps, 64);
-    assert!(rt; again.end().same(two));
-    Ok(again)
+// Puts such a run in the place of this one, and tells how many operations were stepped.
+fn give_fields(alloc: Global, run: &mut Run, fields: &[Field]) -> Result<u64, Fail> {
+    let (edited, steps) = with_fields(alloc, run, fields)?;
+    *run = edited;
+    Ok(steps)
 }
 
-// Does so ten times, from a run that gives the object two fields, where the first run gives it one.
-fn turned_often(rt: &impl Abort, alloc: Global, run: &mut Run, first: &Run) -> Result<(), Fail> {
-    let longer = run.end().share()?;
-    assert!(rt; !longer.same(first.end()));
+// Gives that object so many fields: what ends this run, and how many operations were stepped.
+fn turn(
+    rt: &impl Abort,
+    alloc: Global,
+    run: &mut Run,
+    fields: &[Field],
+    end: &Heap,
+) -> Result<(), Fail> {
+    assert_eq!(rt; give_fields(alloc, run, fields)?, 64);
+    assert!(rt; run.end().same(end));
+    Ok(())
+}
+
+// Gives that object one field, and then two again, ten times: what ends each of these runs is known.
+fn turn_often(
+    rt: &impl Abort,
+    alloc: Global,
+    run: &mut Run,
+    one: &Heap,
+    two: &Heap,
+) -> Result<(), Fail> {
     for _ in 0..10u32 {
-        *run = turned(rt, alloc, run, first.end(), &longer)?;
+        turn(rt, alloc, run, &[Field::Null], one)?;
+        turn(rt, alloc, run, &[Field::Null, Field::Null], two)?;
     }
     Ok(())
+}
+
+// Does so from a run that gives the object two fields, where the first run gives it one.
+fn turn_from(rt: &impl Abort, alloc: Global, run: &mut Run, first: &Run) -> Result<(), Fail> {
+    let longer = run.end().share()?;
+    assert!(rt; !longer.same(first.end()));
+    turn_often(rt, alloc, run, first.end(), &longer)
+}
+
+// Whether the run ends with the heap of the replay of this trace from nothing.
+fn ends_as(alloc: Global, run: &Run, trace: &Trace) -> Result<bool, Fail> {
+    let (_, end) = replay(alloc, trace, &mut Meter::new())?;
+    Ok(run.end().same(&end))
 }
 
 // Whether the run ends with the heap of the replay of its trace from nothing.
 fn ends_as_replay(alloc: Global, run: &Run) -> Result<bool, Fail> {
     let trace = run.trace(alloc)?;
-    let (_, end) = replay(alloc, &trace, &mut Meter::new())?;
-    Ok(run.end().same(&end))
+    ends_as(alloc, run, &trace)
+}
+
+// The replay begins again at the last checkpoint, in which all of these are exchanged, and goes to the end.
+fn assert_end_is_replayed(rt: &impl Abort, alloc: Global, run: &Run) -> Result<(), Fail> {
+    let edits = batch(alloc, Edit::Remove { id: 16_384 })?;
+    with_edited(alloc, run, edits, |shorter, steps| {
+        assert_eq!(rt; steps, 63);
+        assert!(rt; ends_as_replay(alloc, shorter)?);
+        Ok(())
+    })
+}
+
+// The run that gives the object two fields, which 64 operations were stepped for. It is changed often, and then the last operation goes.
+fn assert_turns(
+    rt: &impl Abort,
+    alloc: Global,
+    run: &mut Run,
+    steps: u64,
+    first: &Run,
+) -> Result<(), Fail> {
+    assert_eq!(rt; steps, 64);
+    turn_from(rt, alloc, run, first)?;
+    assert_end_is_replayed(rt, alloc, run)
 }
 
 // The pair leaks either way. It is changed more often than a checkpoint lists remains.
 #[test]
 fn leaked_pair_changes_near_the_front(rt: HostRuntime) -> Result<(), Fail> {
     let alloc = rt.alloc();
-    let first = run_of(alloc, leaked_pairs(alloc, 16_384)?)?;
-    let (mut run, steps) = with_fields(alloc, &first, &[Field::Null, Field::Null])?;
-    assert_eq!(rt; steps, 64);
-    turned_often(&rt, alloc, &mut run, &first)?;
-    // The replay begins again at the last checkpoint, in which all of these are exchanged, and goes to the end.
-    let (shorter, steps) = after(alloc, &run, Edit::Remove { id: 16_384 })?;
-    assert_eq!(rt; steps, 63);
-    assert!(rt; ends_as_replay(alloc, &shorter)?);
-    Ok(())
+    let trace = leaked_pairs(alloc, 16_384)?;
+    with_run(alloc, trace, |first| {
+        let (mut run, steps) = with_fields(alloc, first, &[Field::Null, Field::Null])?;
+        assert_turns(&rt, alloc, &mut run, steps, first)
+    })
 }

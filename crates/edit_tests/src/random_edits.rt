@@ -134,23 +134,37 @@ impl Tally {
     }
 }
 
-// The run after edits, which is that of a replay, or none where they are refused.
-fn edited_once(
+// Counts an edit that was made, where its run is that of a replay.
+fn count(
     alloc: Global,
     run: &Run,
+    edited: &Run,
+    steps: u64,
+    tally: &mut Tally,
+) -> Result<(), Fail> {
+    if !is_replay(alloc, edited)? {
+        return Err(Fail::from("another replay"));
+    }
+    tally.count(edited.end().same(run.end()), steps);
+    Ok(())
+}
+
+// Puts the run after edits in the run's place, and says whether it did: it did not where they are refused.
+fn edit_once(
+    alloc: Global,
+    run: &mut Run,
     edits: &Batch,
     shelf: &mut MarkShelf,
     tally: &mut Tally,
-) -> Result<Option<Run>, Fail> {
+) -> Result<bool, Fail> {
     let mut meter = Meter::new();
     let Ok(edited) = run.edited(alloc, edits, shelf, &mut meter) else {
-        return Ok(None);
+        return Ok(false);
     };
-    if !is_replay(alloc, &edited)? {
-        return Err(Fail::from("another replay"));
-    }
-    tally.count(edited.end().same(run.end()), meter.count());
-    Ok(Some(edited))
+    let counted = count(alloc, run, &edited, meter.count(), tally);
+    *run = edited;
+    counted?;
+    Ok(true)
 }
 
 // The edits of a turn.
@@ -182,22 +196,27 @@ fn edited_often(
         let turns = dice.roll(3) == 0;
         let edits = rolled_edits(alloc, dice, turns, is_there, 1000 + turn)?;
         // an operation that went in an earlier turn can't be edited
-        if let Some(edited) = edited_once(alloc, run, &edits, shelf, &mut tally)? {
+        if edit_once(alloc, run, &edits, shelf, &mut tally)? {
             is_there = is_there != turns;
-            *run = edited;
         }
     }
     Ok(tally)
 }
 
-// The edits of one trace.
-fn told(alloc: Global, seed: u32) -> Result<Tally, Fail> {
-    let mut dice = Dice { state: seed };
-    let mut run = run_of(alloc, rolled_trace(alloc, &mut dice)?)?;
+// The edits of one trace's run.
+fn told_of(alloc: Global, dice: &mut Dice, run: &mut Run, seed: u32) -> Result<Tally, Fail> {
     // a shelf with few names answers most that an edit touches
     let marks = if seed % 2 == 0 { 64 } else { 3 };
     let mut shelf = MarkShelf::new(alloc, marks, 32, 32)?;
-    edited_often(alloc, &mut dice, &mut run, &mut shelf)
+    edited_often(alloc, dice, run, &mut shelf)
+}
+
+// The edits of one trace.
+fn told(alloc: Global, seed: u32) -> Result<Tally, Fail> {
+    let mut dice = Dice { state: seed };
+    let trace = rolled_trace(alloc, &mut dice)?;
+    let mut run = run_of(alloc, trace)?;
+    told_of(alloc, &mut dice, &mut run, seed)
 }
 
 #[test]

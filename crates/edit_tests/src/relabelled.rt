@@ -1,6 +1,6 @@
 //! An operation of another label: where the replay stops, and what the report says.
-use crate::small_runs::{after, run_of};
-use crate::small_traces::{add, add_of, add_pairs, new, op_of};
+use crate::small_runs::with_both;
+use crate::small_traces::{add, add_of, add_pairs, batch, new, op_of};
 use leak_report::report::report;
 use leak_report::{report_of_stretches, text_of};
 use object_heap::Heap;
@@ -8,9 +8,10 @@ use op_step::Meter;
 use op_step::replay::replay;
 use run_engine::Run;
 use std::alloc::Global;
+use std::process::Abort;
 use std::test::Fail;
 use trace_reader::read_trace;
-use trace_types::edits::Edit;
+use trace_types::edits::{Batch, Edit};
 use trace_types::kinds::{Field, Kind};
 use trace_types::ops::Op;
 use trace_types::outcomes::Outcome;
@@ -22,15 +23,10 @@ fn run_shown(alloc: Global, run: &Run) -> Result<String, Fail> {
     Ok(text_of(alloc, &shown)?)
 }
 
-// The report of the run of a trace, where one operation has become another, and how many operations this edit steps.
-fn reported_with(alloc: Global, trace: Trace, changed: Op) -> Result<(String, u64), Fail> {
-    let run = run_of(alloc, trace)?;
-    let edit = Edit::Change {
-        id: changed.id(),
-        op: changed,
-    };
-    let (edited, steps) = after(alloc, &run, edit)?;
-    Ok((run_shown(alloc, &edited)?, steps))
+// An operation becomes another.
+fn changed(alloc: Global, changed: Op) -> Result<Batch, Fail> {
+    let id = changed.id();
+    batch(alloc, Edit::Change { id, op: changed })
 }
 
 const TWO_LABELS: &str = "\
@@ -44,15 +40,7 @@ const TWO_LABELS: &str = "\
 {\"id\":8,\"op\":\"scope_end\",\"t\":1}
 ";
 
-#[test]
-fn scope_end_relabelled(rt: HostRuntime) -> Result<(), Fail> {
-    let alloc = rt.alloc();
-    let trace = read_trace(alloc, TWO_LABELS.as_bytes())?;
-    let other = op_of(5, 1, new(alloc, 4, &[Field::Held(2)])?)?;
-    let (text, _) = reported_with(alloc, trace, other)?;
-    assert_eq!(rt;
-        text.as_str(),
-        "\
+const RELABELLED: &str = "\
 1 new made #1 1/0
 2 new made #2 1/0
 3 clone done #2 2/0
@@ -65,9 +53,23 @@ object 1 destroyed 6 freed 6
 object 2 destroyed 7 freed 7
 object 5 destroyed 7 freed 7
 total 8 ops 0 skipped 3 objects 0 alive 0 leaks 0 husks
-"
-    );
-    Ok(())
+";
+
+// Operation 5 with the other label.
+fn fifth(alloc: Global) -> Result<Batch, Fail> {
+    changed(alloc, op_of(5, 1, new(alloc, 4, &[Field::Held(2)])?)?)
+}
+
+#[test]
+fn scope_end_relabelled(rt: HostRuntime) -> Result<(), Fail> {
+    let alloc = rt.alloc();
+    let edits = fifth(alloc)?;
+    let trace = read_trace(alloc, TWO_LABELS.as_bytes())?;
+    with_both(alloc, trace, edits, |_, edited, _| {
+        let text = run_shown(alloc, edited)?;
+        assert_eq!(rt; text.as_str(), RELABELLED);
+        Ok(())
+    })
 }
 
 // A handle of label 0 or 1, objects that come and go, and the end of the scope of label 1 far behind.
@@ -95,18 +97,32 @@ fn reported(alloc: Global, trace: &Trace) -> Result<String, Fail> {
     shown(alloc, trace, outcomes.as_slice(), &end)
 }
 
-// Two states that differ in the label of a handle alone do not agree, so that the old checkpoints are not taken.
-#[test]
-fn scopes_differ(rt: HostRuntime) -> Result<(), Fail> {
-    let alloc = rt.alloc();
-    let other = op_of(1, 1, Kind::Null { to: 0 })?;
-    let (text, steps) = reported_with(alloc, far_scope_end(alloc, 0)?, other)?;
-    assert_eq!(rt; steps, 131);
-    let wanted = reported(alloc, &far_scope_end(alloc, 1)?)?;
+// The report of such a trace whose handle has label 1.
+fn wanted(alloc: Global) -> Result<String, Fail> {
+    let trace = far_scope_end(alloc, 1)?;
+    reported(alloc, &trace)
+}
+
+// The handle gets label 1 by an edit.
+fn assert_relabelled(rt: &impl Abort, alloc: Global, edited: &Run) -> Result<(), Fail> {
+    let text = run_shown(alloc, edited)?;
+    let wanted = wanted(alloc)?;
     assert!(rt; text.as_str() == wanted.as_str());
     assert!(rt;
         text.as_str()
             .contains("\n130 scope_end done\n131 drop skipped NotHeld 0\n")
     );
     Ok(())
+}
+
+// Two states that differ in the label of a handle alone do not agree, so that the old checkpoints are not taken.
+#[test]
+fn scopes_differ(rt: HostRuntime) -> Result<(), Fail> {
+    let alloc = rt.alloc();
+    let edits = changed(alloc, op_of(1, 1, Kind::Null { to: 0 })?)?;
+    let trace = far_scope_end(alloc, 0)?;
+    with_both(alloc, trace, edits, |_, edited, steps| {
+        assert_eq!(rt; steps, 131);
+        assert_relabelled(&rt, alloc, edited)
+    })
 }

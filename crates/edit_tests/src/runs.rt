@@ -1,12 +1,13 @@
 //! Runs of small traces, and what edits make of them.
-use crate::small_runs::{after, after_two, are_marks, assert_refused, has_outcome, run_of};
+use crate::small_runs::{
+    are_marks, assert_refused, has_outcome, run_of, with_both, with_edited, with_run,
+};
 use crate::small_traces::{add_cycle, batch, broken_cycle, change, insertion, new, op_of, two};
-use op_step::Meter;
 use run_engine::{Run, RunFault, apply};
 use std::alloc::Global;
 use std::process::Abort;
 use std::test::Fail;
-use trace_types::edits::Edit;
+use trace_types::edits::{Batch, Edit};
 use trace_types::kinds::Kind;
 use trace_types::sequence::Sequence;
 use trace_types::trace::Trace;
@@ -30,15 +31,21 @@ fn lent(alloc: Global, run: &Run) -> Result<usize, Fail> {
     Ok(lent)
 }
 
+// The trace of a cycle that stays.
+fn cycle(alloc: Global) -> Result<Trace, Fail> {
+    let mut trace = Trace::new(alloc);
+    add_cycle(alloc, &mut trace)?;
+    Ok(trace)
+}
+
 #[test]
 fn outcomes_are_copied_or_lent(rt: HostRuntime) -> Result<(), Fail> {
     let alloc = rt.alloc();
-    let mut trace = Trace::new(alloc);
-    add_cycle(alloc, &mut trace)?;
-    let run = run_of(alloc, trace)?;
-    assert_copied(&rt, alloc, &run)?;
-    assert_eq!(rt; lent(alloc, &run)?, 6);
-    Ok(())
+    with_run(alloc, cycle(alloc)?, |run| {
+        assert_copied(&rt, alloc, run)?;
+        assert_eq!(rt; lent(alloc, run)?, 6);
+        Ok(())
+    })
 }
 
 // Operation 3 with another label, whose outcome is the same.
@@ -47,31 +54,57 @@ fn labelled() -> Result<Edit, Fail> {
     Ok(Edit::Change { id: 3, op })
 }
 
+// That, and a null pointer far behind.
+fn labelled_and_more(alloc: Global) -> Result<Batch, Fail> {
+    let null = insertion(1000, 3000, Kind::Null { to: 30 })?;
+    two(alloc, labelled()?, null)
+}
+
+// An operation that comes and goes.
+fn come_and_gone(alloc: Global) -> Result<Batch, Fail> {
+    let null = insertion(0, 4000, Kind::Null { to: 31 })?;
+    two(alloc, null, Edit::Remove { id: 4000 })
+}
+
+// Nothing is stepped for an operation that comes and goes.
+fn assert_nothing_is_stepped(rt: &impl Abort, alloc: Global, run: &Run) -> Result<(), Fail> {
+    let edits = come_and_gone(alloc)?;
+    with_edited(alloc, run, edits, |edited, steps| {
+        assert_eq!(rt; steps, 0);
+        assert_eq!(rt; edited.len(), 1011);
+        Ok(())
+    })
+}
+
 #[test]
 fn stretches_kept(rt: HostRuntime) -> Result<(), Fail> {
     let alloc = rt.alloc();
-    let run = run_of(alloc, broken_cycle(alloc)?)?;
-    let null = insertion(1000, 3000, Kind::Null { to: 30 })?;
-    let (edited, steps) = after_two(alloc, &run, labelled()?, null)?;
-    assert_eq!(rt; steps, 116);
-    assert!(rt; are_marks(alloc, &edited, &[], 0, 1012)?);
-    let null = insertion(0, 4000, Kind::Null { to: 31 })?;
-    let (edited, steps) = after_two(alloc, &run, null, Edit::Remove { id: 4000 })?;
-    assert_eq!(rt; steps, 0);
-    assert_eq!(rt; edited.len(), 1011);
-    Ok(())
+    let edits = labelled_and_more(alloc)?;
+    let trace = broken_cycle(alloc)?;
+    with_both(alloc, trace, edits, |run, edited, steps| {
+        assert_eq!(rt; steps, 116);
+        assert!(rt; are_marks(alloc, edited, &[], 0, 1012)?);
+        assert_nothing_is_stepped(&rt, alloc, run)
+    })
+}
+
+// The same label, and a null pointer behind the last operation.
+fn labelled_and_last(alloc: Global) -> Result<Batch, Fail> {
+    let null = insertion(1011, 3000, Kind::Null { to: 30 })?;
+    two(alloc, labelled()?, null)
 }
 
 // The last stretch ends with the trace, and serves also where another operation follows.
 #[test]
 fn last_stretch_is_kept(rt: HostRuntime) -> Result<(), Fail> {
     let alloc = rt.alloc();
-    let run = run_of(alloc, broken_cycle(alloc)?)?;
-    let null = insertion(1011, 3000, Kind::Null { to: 30 })?;
-    let (edited, steps) = after_two(alloc, &run, labelled()?, null)?;
-    assert_eq!(rt; steps, 65);
-    assert_eq!(rt; edited.len(), 1012);
-    Ok(())
+    let edits = labelled_and_last(alloc)?;
+    let trace = broken_cycle(alloc)?;
+    with_both(alloc, trace, edits, |_, edited, steps| {
+        assert_eq!(rt; steps, 65);
+        assert_eq!(rt; edited.len(), 1012);
+        Ok(())
+    })
 }
 
 // Only a checkpoint that stands, other than the first and the end, is given up.
@@ -82,31 +115,44 @@ fn assert_given_up(rt: &impl Abort, run: &mut Run) {
     }
 }
 
+// Then the run has that checkpoint no more, nor has the run after an edit that changes nothing.
+fn assert_stays_given_up(rt: &impl Abort, alloc: Global, run: &mut Run) -> Result<(), Fail> {
+    assert_given_up(rt, run);
+    assert!(rt; are_marks(alloc, run, &[0], 128, 1011)?);
+    let same = batch(alloc, change(70, new(alloc, 9, &[])?)?)?;
+    with_edited(alloc, run, same, |edited, steps| {
+        assert_eq!(rt; steps, 0);
+        assert!(rt; are_marks(alloc, edited, &[0], 128, 1011)?);
+        Ok(())
+    })
+}
+
 #[test]
 fn a_checkpoint_is_given_up(rt: HostRuntime) -> Result<(), Fail> {
     let alloc = rt.alloc();
-    let mut run = run_of(alloc, broken_cycle(alloc)?)?;
-    assert_given_up(&rt, &mut run);
-    assert!(rt; are_marks(alloc, &run, &[0], 128, 1011)?);
-    let same = change(70, new(alloc, 9, &[])?)?;
-    let (edited, steps) = after(alloc, &run, same)?;
-    assert_eq!(rt; steps, 0);
-    assert!(rt; are_marks(alloc, &edited, &[0], 128, 1011)?);
-    Ok(())
+    let trace = broken_cycle(alloc)?;
+    let mut run = run_of(alloc, trace)?;
+    assert_stays_given_up(&rt, alloc, &mut run)
+}
+
+// An operation goes, and one with a number that another has comes.
+fn taken(alloc: Global) -> Result<Batch, Fail> {
+    let taken = insertion(5, 12, Kind::Null { to: 30 })?;
+    two(alloc, Edit::Remove { id: 11 }, taken)
 }
 
 #[test]
 fn refusals_replay_nothing(rt: HostRuntime) -> Result<(), Fail> {
     let alloc = rt.alloc();
-    let run = run_of(alloc, broken_cycle(alloc)?)?;
-    let unknown = batch(alloc, Edit::Remove { id: 5000 })?;
-    assert_refused(&rt, alloc, &run, unknown, RunFault::NoSuchOp(0));
-    let taken = insertion(5, 12, Kind::Null { to: 30 })?;
-    let edits = two(alloc, Edit::Remove { id: 11 }, taken)?;
-    assert_refused(&rt, alloc, &run, edits, RunFault::IdTaken(1));
-    let none = Sequence::empty(alloc);
-    assert_refused(&rt, alloc, &run, none, RunFault::EmptyBatch);
-    Ok(())
+    with_run(alloc, broken_cycle(alloc)?, |run| {
+        let unknown = batch(alloc, Edit::Remove { id: 5000 })?;
+        assert_refused(&rt, alloc, run, unknown, RunFault::NoSuchOp(0));
+        let edits = taken(alloc)?;
+        assert_refused(&rt, alloc, run, edits, RunFault::IdTaken(1));
+        let none = Sequence::empty(alloc);
+        assert_refused(&rt, alloc, run, none, RunFault::EmptyBatch);
+        Ok(())
+    })
 }
 
 // The trace without its first operation, and with one more behind the last.

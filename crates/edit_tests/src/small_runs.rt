@@ -3,6 +3,7 @@ use crate::small_traces::{batch, two};
 use edit_desk::{KEPT_CHUNKS, KEPT_MARKS, KEPT_NAMES};
 use leak_report::find_leaks;
 use mark_shelf::MarkShelf;
+use object_heap::Heap;
 use op_step::Meter;
 use op_step::replay::replay;
 use run_engine::{Run, RunFault};
@@ -43,6 +44,47 @@ pub fn after(alloc: Global, run: &Run, edit: Edit) -> Result<(Run, u64), Fail> {
 /// The run after two edits, and how many operations were stepped for it.
 pub fn after_two(alloc: Global, run: &Run, first: Edit, second: Edit) -> Result<(Run, u64), Fail> {
     after_edits(alloc, run, two(alloc, first, second)?)
+}
+
+/// Lends the run of a trace.
+pub fn with_run<F: FnOnce(&Run) -> Result<(), Fail>>(
+    alloc: Global,
+    trace: Trace,
+    judge: F,
+) -> Result<(), Fail>
+    requires { F.IsAlwaysCallable judge }
+{
+    let run = run_of(alloc, trace)?;
+    judge(&run)
+}
+
+/// Lends the run after edits, and tells how many operations were stepped for it.
+pub fn with_edited<F: FnOnce(&Run, u64) -> Result<(), Fail>>(
+    alloc: Global,
+    run: &Run,
+    edits: Batch,
+    judge: F,
+) -> Result<(), Fail>
+    requires { F.IsAlwaysCallable judge }
+{
+    let (edited, steps) = after_edits(alloc, run, edits)?;
+    judge(&edited, steps)
+}
+
+/// Lends the run of a trace and the run after edits, and tells how many operations were stepped for these.
+///
+/// A run is dear to a proof wherever a function that owns one can end: so it is owned here alone, and judged where it is lent.
+pub fn with_both<F: FnOnce(&Run, &Run, u64) -> Result<(), Fail>>(
+    alloc: Global,
+    trace: Trace,
+    edits: Batch,
+    judge: F,
+) -> Result<(), Fail>
+    requires { F.IsAlwaysCallable judge }
+{
+    let run = run_of(alloc, trace)?;
+    let (edited, steps) = after_edits(alloc, &run, edits)?;
+    judge(&run, &edited, steps)
 }
 
 /// The edits are refused for this cause, and no operation is stepped.
@@ -108,17 +150,27 @@ pub fn has_outcome(run: &Run, place: usize, outcome: &Outcome) -> bool {
     }
 }
 
+// Whether the run tells all of these outcomes, and ends with this heap.
+fn has_all(run: &Run, outcomes: &[Outcome], end: &Heap) -> bool {
+    for (place, outcome) in outcomes.iter().enumerate() {
+        if !has_outcome(run, place, outcome) {
+            return false;
+        }
+    }
+    let same = run.end().same(end) && run.end().sum() == end.sum();
+    same && outcomes.len() == run.len()
+}
+
+// Whether the run tells what the replay of this trace from nothing does.
+fn is_replay_of(alloc: Global, run: &Run, trace: &Trace) -> Result<bool, Fail> {
+    let (outcomes, end) = replay(alloc, trace, &mut Meter::new())?;
+    Ok(has_all(run, outcomes.as_slice(), &end))
+}
+
 /// Whether the run tells what the replay of its trace from nothing does, and ends with its heap.
 pub fn is_replay(alloc: Global, run: &Run) -> Result<bool, Fail> {
     let trace = run.trace(alloc)?;
-    let (outcomes, end) = replay(alloc, &trace, &mut Meter::new())?;
-    for (place, outcome) in outcomes.as_slice().iter().enumerate() {
-        if !has_outcome(run, place, outcome) {
-            return Ok(false);
-        }
-    }
-    let same = run.end().same(&end) && run.end().sum() == end.sum();
-    Ok(same && outcomes.as_slice().len() == run.len())
+    is_replay_of(alloc, run, &trace)
 }
 
 /// How many objects leak in the end.
@@ -126,14 +178,8 @@ pub fn leaks(alloc: Global, run: &Run) -> Result<usize, Fail> {
     Ok(find_leaks(alloc, run.end())?.leaked.len())
 }
 
-// The first place, then a place every 64, up to the last.
-pub fn are_marks(
-    alloc: Global,
-    run: &Run,
-    first: &[usize],
-    from: usize,
-    last: usize,
-) -> Result<bool, Fail> {
+// The first places, then a place every 64, up to the last.
+fn every_64(alloc: Global, first: &[usize], from: usize, last: usize) -> Result<Vec<usize>, Fail> {
     let mut wanted = Vec::from_slice(alloc, first)?;
     for at in from..last {
         if (at - from) % 64 == 0 {
@@ -141,6 +187,23 @@ pub fn are_marks(
         }
     }
     wanted.push(last)?;
+    Ok(wanted)
+}
+
+/// Whether the checkpoints of the run are at these places.
+pub fn has_marks(alloc: Global, run: &Run, places: &[usize]) -> Result<bool, Fail> {
     let marks = run.marks(alloc)?;
-    Ok(marks.as_slice() == wanted.as_slice())
+    Ok(marks.as_slice() == places)
+}
+
+/// Whether they are at the first places, then every 64, and at the last.
+pub fn are_marks(
+    alloc: Global,
+    run: &Run,
+    first: &[usize],
+    from: usize,
+    last: usize,
+) -> Result<bool, Fail> {
+    let wanted = every_64(alloc, first, from, last)?;
+    has_marks(alloc, run, wanted.as_slice())
 }
