@@ -1,8 +1,8 @@
 -- A node after a write at one of its children, and nodes that answer alike.
 use Rattle.std.proofs.Common.{◌≡◌, ℕ, ◌<◌, ◌+◌, ◌*◌, ◌/◌, ◌%◌, inl, inr, cond, List, length, get_or, set, sym, ap, ◌∙◌, arith, nat_eq, eq-eqb, get_or-set_other, get_or-set_same}
 use Rattle.std.specs.Prelude.{Option, None}
-use Rattle.std.proofs.lemmas.Bool.{cases_eq, cases_lt, ne_eqb}
-use Rattle.std.proofs.lemmas.List.{get_or_past, get_or_default}
+use Rattle.std.proofs.lemmas.Bool.{cases_eq, ne_eqb}
+use Rattle.std.proofs.lemmas.List.{get_or_default}
 use Rattle.std.proofs.lemmas.Nat.{div-add-mod', div-mul-add, mod_below, div_below, same_from_place}
 use Rattle.share_tree.specs.Digits.{updated, child_of, child_at, node_at, AgreesBelow}
 
@@ -30,12 +30,9 @@ child_of-set children i o h j = elim (cases_eq j i) [
   | inr ne ↦ get_or-set_other children i j o None ne ∙ sym (ap (λ b. cond b o (child_of children j)) (ne_eqb _ _ ne))
 ]
 
--- past the end there is no child
-pub same_children : {C : Type 0} (ys xs : List (Option C)) (n : ℕ) → length ys ≡ n → length xs ≡ n → ((j : ℕ) → j < n → child_of ys j ≡ child_of xs j) → (j : ℕ) → child_of ys j ≡ child_of xs j
-same_children ys xs n ly lx h j = elim (cases_lt j n) [
-  | inl lt ↦ h j lt
-  | inr ge ↦ get_or_past ys j None (omega arith) ∙ sym (get_or_past xs j None (omega arith))
-]
+-- where no child is there after a write, the write put none
+pub none_written : {C : Type 0} (children : List (Option C)) (i : ℕ) (o : Option C) → i < length children → child_of (set children i o) i ≡ None → o ≡ None
+none_written children i o h none = sym (get_or-set_same children i o None h) ∙ none
 
 module _ {C V : Type 0} (at : C → ℕ → Option V) (s : ℕ) (children : List (Option C)) (i : ℕ) (any new : Option C) where
   -- the child that was read at i, whatever stands for a place past the end

@@ -1,15 +1,15 @@
--- The leaves of a twig after a change at one of its places.
+-- The leaves of a node after a change at one of its places.
 use Rattle.std.proofs.Common.{◌≡◌, ℕ, zero, suc, ◌<◌, ◌≤◌, ◌+◌, ◌-◌, inl, inr, cond, List, [], ◌∷◌, ◌++◌, length, get_or, set, take, drop, append_assoc, sym, ap, subst, ◌∙◌, arith, nat_eq, eq-eqb}
 use Rattle.std.specs.Prelude.{Option, Some, None}
-use Rattle.std.specs.List.{swap_remove}
+use Rattle.std.specs.List.{swap_remove, sum_by}
 use Rattle.std.specs.Arc.{arc_value}
 use Rattle.std.specs.declared.sync.Arc.{Arc}
 use Rattle.std.proofs.lemmas.Bool.{cases_eq, ne_eqb}
 use Rattle.std.proofs.lemmas.List.{get_or-map, get_or_past, length-map, length-set, map-append, map-set, set_split, take-map}
 use Rattle.share_tree.specs.declared.leaf.Leaf.{Leaf}
-use Rattle.share_tree.specs.Digits.{updated, child_of}
-use Rattle.share_tree.specs.Twigs.{places_of, values_of, IsOrder}
-use Rattle.share_tree.proofs.TwigLemmas.{room, at_place, replaced, added, taken}
+use Rattle.share_tree.specs.Digits.{updated, child_of, HasChild}
+use Rattle.share_tree.specs.LeafNodes.{places_of, values_of, IsOrder}
+use Rattle.share_tree.proofs.LeafNodeLemmas.{at_most, free, is_free, all_free, room, at_place, replaced, added, taken}
 
 module _ {V Z : Type 0} where
   abbrev pub value : Arc (Leaf V) Z → Option V
@@ -28,6 +28,9 @@ module _ {V Z : Type 0} where
     h_values : IsOrder order (length (values_of leaves))
     h_values = subst (IsOrder order) (sym (length-map leaves value)) h
 
+    few : length (values_of leaves) ≤ 16
+    few = at_most order (length (values_of leaves)) h_values
+
     pub leaf_replaced : (l : Arc (Leaf V) Z) → get_or order p 255 < length leaves → (q : ℕ)
         → child_of (places_of order (values_of (set leaves (get_or order p 255) l))) q ≡ updated (child_of (places_of order (values_of leaves))) p (value l) q
     leaf_replaced l there q =
@@ -35,19 +38,17 @@ module _ {V Z : Type 0} where
         ∙ replaced order (values_of leaves) h_values p fits (value l) (omega (arith, length-map leaves value, there)) q
 
     pub leaf_none : child_of (places_of order (values_of leaves)) p ≡ None → length leaves ≤ get_or order p 255
-    leaf_none none = let few : length (values_of leaves) ≤ 16 = h_values.few in is_none leaves (get_or order p 255) (sym (at_place order (values_of leaves) few p) ∙ none)
+    leaf_none none = is_none leaves (get_or order p 255) (sym (at_place order (values_of leaves) few p) ∙ none)
 
     pub leaf_room : child_of (places_of order (values_of leaves)) p ≡ None → length leaves < 16
     leaf_room none = room order (length leaves) h p fits (leaf_none none)
 
-    pub leaf_added : (l : Arc (Leaf V) Z) → child_of (places_of order (values_of leaves)) p ≡ None → length leaves < 16 → (q : ℕ)
+    pub leaf_added : (l : Arc (Leaf V) Z) → length leaves < 16 → (q : ℕ)
         → child_of (places_of (set order p (length leaves)) (values_of (leaves ++ l ∷ []))) q ≡ updated (child_of (places_of order (values_of leaves))) p (value l) q
-    leaf_added l none room q =
-        let few : length (values_of leaves) ≤ 16 = h_values.few in
-        let le : length leaves ≤ get_or order p 255 = is_none leaves (get_or order p 255) (sym (at_place order (values_of leaves) few p) ∙ none) in
+    leaf_added l room q =
         ap (λ vs. child_of (places_of (set order p (length leaves)) vs) q) (map-append value leaves (l ∷ []))
         ∙ ap (λ n. child_of (places_of (set order p n) (values_of leaves ++ value l ∷ [])) q) (sym (length-map leaves value))
-        ∙ added order (values_of leaves) h_values p fits (value l) (omega (arith, length-map leaves value, le)) (omega (arith, length-map leaves value, room)) q
+        ∙ added order (values_of leaves) h_values p fits (value l) (omega (arith, length-map leaves value, room)) q
 
     pub leaf_taken : (named : List ℕ) (l : Arc (Leaf V) Z) → length named ≡ 16 → get_or order p 255 < length leaves
         → ((q : ℕ) → q < 16 → get_or named q 255 ≡ cond (nat_eq (get_or order q 255) (length leaves - 1)) (get_or order p 255) (get_or order q 255)) → (q : ℕ)
@@ -65,19 +66,26 @@ module _ {V Z : Type 0} where
     -- the place of a leaf has its value
     pub leaf_there : (old : Arc (Leaf V) Z) → get_or order p 255 < length leaves → old ≡ get_or leaves (get_or order p 255) old → child_of (places_of order (values_of leaves)) p ≡ value old
     leaf_there old there read =
-        let few : length (values_of leaves) ≤ 16 = h_values.few in
         at_place order (values_of leaves) few p ∙ there_is leaves (get_or order p 255) old there ∙ ap value (sym read)
 
     -- another leaf of the same value changes nothing
-    pub leaf_rewritten : (old l : Arc (Leaf V) Z) → get_or order p 255 < length leaves → old ≡ get_or leaves (get_or order p 255) old → value l ≡ value old → (q : ℕ)
+    pub leaf_rewritten : (old l : Arc (Leaf V) Z) → get_or order p 255 < length leaves → old ≡ get_or leaves (get_or order p 255) old → (arc_value {X = Leaf V} l).value ≡ (arc_value {X = Leaf V} old).value → (q : ℕ)
         → child_of (places_of order (values_of (set leaves (get_or order p 255) l))) q ≡ child_of (places_of order (values_of leaves)) q
     leaf_rewritten old l there read same q =
         leaf_replaced l there q
-        ∙ ap (λ o. updated (child_of (places_of order (values_of leaves))) p o q) (same ∙ sym (leaf_there old there read))
+        ∙ ap (λ o. updated (child_of (places_of order (values_of leaves))) p o q) (ap Some same ∙ sym (leaf_there old there read))
         ∙ elim (cases_eq q p) [
           | inl e ↦ ap (λ b. cond b (child_of (places_of order (values_of leaves)) p) (child_of (places_of order (values_of leaves)) q)) (eq-eqb q p e) ∙ ap (child_of (places_of order (values_of leaves))) (sym e)
           | inr ne ↦ ap (λ b. cond b (child_of (places_of order (values_of leaves)) p) (child_of (places_of order (values_of leaves)) q)) (ne_eqb q p ne)
         ]
+
+  -- where a leaf is there, not every place is without one
+  pub has_leaf : (order : List ℕ) (leaves : List (Arc (Leaf V) Z)) → IsOrder order (length leaves) → 0 < length leaves → HasChild (places_of order (values_of leaves))
+  has_leaf order leaves h some none =
+      let long : length order ≡ 16 = h.long in
+      let full : sum_by is_free order + length leaves ≡ 16 = h.full in
+      let all : sum_by is_free order ≡ length order = all_free order (λ k lt. let fits : k < 16 = omega (arith, lt, long) in free order (length leaves) h k fits (leaf_none order leaves h k fits (none k))) in
+      absurd (omega (arith, long, full, all, some))
 
   -- without leaves there is nothing
   pub no_leaf : (order : List ℕ) (leaves : List (Arc (Leaf V) Z)) → length leaves ≡ 0 → (q : ℕ) → child_of (places_of order (values_of leaves)) q ≡ None

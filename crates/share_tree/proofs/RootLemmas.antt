@@ -1,19 +1,14 @@
 -- A function with one entry, and two functions that are gone through side by side.
-use Rattle.std.proofs.Common.{◌≡◌, ℕ, ◌<◌, ◌+◌, ◌-◌, ◌^◌, ◌∷◌, ◌++◌, [], inl, inr, cond, sym, ap, ◌∙◌, arith, eq-eqb}
+use Rattle.std.proofs.Common.{◌≡◌, ℕ, ◌<◌, ◌+◌, ◌-◌, ◌^◌, ◌∷◌, ◌++◌, [], inl, inr, sym, ap, ◌∙◌, arith}
 use Rattle.std.specs.Prelude.{Option, Some}
-use Rattle.std.proofs.lemmas.Bool.{cases_eq, cases_lt, ne_eqb}
+use Rattle.std.proofs.lemmas.Bool.{cases_eq, cases_lt}
 use Rattle.share_tree.specs.Digits.{updated, nowhere, AgreesBelow}
 use Rattle.share_tree.specs.Entries.{keys_from}
 use Rattle.share_tree.specs.Walk.{IsFirstFrom}
+use Rattle.share_tree.proofs.UpdatedLemmas.{updated-there, updated-off}
 use Rattle.share_tree.proofs.EntryLemmas.{keys_from-append, keys_from-none, keys_from-one}
 
 module _ {V : Type 0} where
-  pub updated-there : (f : ℕ → Option V) (k : ℕ) (o : Option V) (q : ℕ) → q ≡ k → updated f k o q ≡ o
-  updated-there f k o q e = ap (λ b. cond b o (f q)) (eq-eqb q k e)
-
-  pub updated-off : (f : ℕ → Option V) (k : ℕ) (o : Option V) (q : ℕ) → (q ≡ k → ⊥) → updated f k o q ≡ f q
-  updated-off f k o q ne = ap (λ b. cond b o (f q)) (ne_eqb q k ne)
-
   pub one-keys : (k : ℕ) (v : V) → k < 2 ^ 32 → keys_from (updated nowhere k (Some v)) 0 (2 ^ 32) ≡ k ∷ []
   one-keys k v h =
       let f : ℕ → Option V = updated nowhere k (Some v) in

@@ -7,6 +7,7 @@ ghost use Rattle.share_tree.specs.Entries.{keys_from, moved};
 ghost use Rattle.share_tree.specs.Walk.{IsNowhereFrom, IsFirstFrom};
 ghost use Rattle.share_tree.specs.Digits.{updated, nowhere, child_at, AgreesBelow};
 
+use crate::leaf::Leaf;
 use crate::level::Level;
 use crate::update::Update;
 use std::alloc::{AllocError, Global};
@@ -107,7 +108,7 @@ impl<C: Drop> Child<C> {
     }
 
     /// The child with one more entry, which is of it alone where there is none.
-    pub fn with<V>(&self, alloc: Global, key: u32, value: V) -> Result<Self, AllocError>
+    pub fn with<V: Drop>(&self, alloc: Global, key: u32, value: V) -> Result<Self, AllocError>
     where
         C: Level<V>,
         requires fits { C.SPAN ≤ 2 ^ 32 }
@@ -115,7 +116,7 @@ impl<C: Drop> Child<C> {
         ensures { IfOk result (λ c. (q : ℕ) → child_at C.at c q ≡ updated (child_at C.at self.now) key (Some value) q) }
     {
         let level = match &self.level {
-            None => C::only(alloc, key, value)?,
+            None => C::around(alloc, key, Leaf::of(alloc, value)?)?,
             Some(level) => level.with(alloc, key, value)?,
         };
         Ok(Child { level: Some(level) })
@@ -139,7 +140,7 @@ impl<C: Drop> Child<C> {
 
     /// One more entry, in place where nobody else holds the level. It says whether the key was there.
     #[inline(always)]
-    pub fn insert<V>(&mut self, alloc: Global, key: u32, value: V) -> Result<bool, AllocError>
+    pub fn insert<V: Drop>(&mut self, alloc: Global, key: u32, value: V) -> Result<bool, AllocError>
     where
         C: Level<V>,
         requires fits { C.SPAN ≤ 2 ^ 32 }
@@ -159,7 +160,7 @@ impl<C: Drop> Child<C> {
 
     // A level with one entry alone, where there is none.
     #[inline(never)]
-    fn begin<V>(&mut self, alloc: Global, key: u32, value: V) -> Result<(), AllocError>
+    fn begin<V: Drop>(&mut self, alloc: Global, key: u32, value: V) -> Result<(), AllocError>
     where
         C: Level<V>,
         requires fits { C.SPAN ≤ 2 ^ 32 }
@@ -167,13 +168,13 @@ impl<C: Drop> Child<C> {
         ensures ok { OnOk result ((q : ℕ) → child_at C.at self.new q ≡ updated nowhere key (Some value) q) }
         ensures err { OnErr result (self.new ≡ self.old) }
     {
-        self.level = Some(C::only(alloc, key, value)?);
+        self.level = Some(C::around(alloc, key, Leaf::of(alloc, value)?)?);
         Ok(())
     }
 
     /// Changes the value of a key, in place where nobody else holds the level, and gives the answer; false where the key isn't there.
     #[inline(always)]
-    pub fn update<V, F: Update<V>>(
+    pub fn update<V: Drop, F: Update<V>>(
         &mut self,
         alloc: Global,
         key: u32,
@@ -263,9 +264,9 @@ impl<C: Drop> Child<C> {
     }
 }
 
-/// One more entry in a level, changed where nobody else holds it. It says whether the key was there.
+// One more entry in a level, changed where nobody else holds it. It says whether the key was there.
 #[inline(always)]
-pub fn insert_in<V, C: Level<V>>(
+fn insert_in<V, C: Level<V>>(
     alloc: Global,
     level: &mut Arc<C>,
     key: u32,
@@ -302,9 +303,9 @@ fn insert_in_copy<V, C: Level<V>>(
     Ok(was)
 }
 
-/// The value of a key changed in a level, in place where nobody else holds it, and the answer; false where the key isn't there.
+// The value of a key changed in a level, in place where nobody else holds it, and the answer; false where the key isn't there.
 #[inline(always)]
-pub fn update_in<V, C: Level<V>, F: Update<V>>(
+fn update_in<V: Drop, C: Level<V>, F: Update<V>>(
     alloc: Global,
     level: &mut Arc<C>,
     key: u32,
@@ -325,7 +326,7 @@ pub fn update_in<V, C: Level<V>, F: Update<V>>(
 
 // As `update_in`, in a copy of the level.
 #[inline(never)]
-fn update_in_copy<V, C: Level<V>, F: Update<V>>(
+fn update_in_copy<V: Drop, C: Level<V>, F: Update<V>>(
     alloc: Global,
     level: &mut Arc<C>,
     key: u32,

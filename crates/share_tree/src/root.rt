@@ -8,19 +8,19 @@ ghost use Rattle.share_tree.specs.Levels.{branch_at, root_at, height_of, HasRoom
 ghost use Rattle.share_tree.specs.Walk.{IsNowhereFrom, IsFirstFrom};
 ghost use Rattle.share_tree.specs.Digits.{updated, nowhere, below, child_at, AgreesBelow};
 
-use crate::child::{Child, insert_in, update_in};
-use crate::leaf::Leaf;
+use crate::child::Child;
+use crate::leaf::{Leaf, put_in, update_in};
+use crate::leaf_node::LeafNode;
 use crate::level::Level;
 use crate::node::{Node, over};
 use crate::short;
-use crate::twig::Twig;
 use crate::update::Update;
 use std::alloc::{AllocError, Global};
 use std::sync::Arc;
 use trace_types::same::Same;
 
 // A level for each hexadecimal digit of a key, the high one first.
-type TwoLevels<V> = Node<Twig<V>>;
+type TwoLevels<V> = Node<LeafNode<V>>;
 
 type FiveLevels<V> = Node<Node<Node<TwoLevels<V>>>>;
 
@@ -141,7 +141,10 @@ impl<V: Drop> Root<V> {
         ensures err { OnErr result ((q : ℕ) → root_at self.new q ≡ root_at self.old q) }
     {
         match self {
-            Root::One(_, leaf) => insert_in(alloc, leaf, 0, value),
+            Root::One(_, leaf) => {
+                put_in(alloc, leaf, value)?;
+                Ok(true)
+            }
             Root::Two(child) => short::insert(alloc, child, key, value),
             Root::Five(child) => short::insert(alloc, child, key, value),
             Root::Eight(child) => short::insert(alloc, child, key, value),
@@ -202,7 +205,7 @@ impl<V: Drop> Root<V> {
                 if *only != key {
                     return Ok(false);
                 }
-                update_in(alloc, leaf, 0, how)
+                update_in(alloc, leaf, how)
             }
             Root::Two(child) => short::update(alloc, child, key, how),
             Root::Five(child) => short::update(alloc, child, key, how),
@@ -288,7 +291,7 @@ fn tree_of<V: Drop>(alloc: Global, key: u32, leaf: Arc<Leaf<V>>) -> Result<Root<
 }
 
 // The child under three levels more.
-fn three_over<V, C: Level<V>>(
+fn three_over<V: Drop, C: Level<V>>(
     alloc: Global,
     child: Child<C>,
 ) -> Result<Child<Node<Node<Node<C>>>>, AllocError>

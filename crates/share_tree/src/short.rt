@@ -37,7 +37,7 @@ pub fn first_from<V, C: Level<V>>(child: &Child<C>, key: u32) -> Option<(u32, &V
 
 /// One more entry, as `Child::insert`.
 #[inline(always)]
-pub fn insert<V, C: Level<V>>(
+pub fn insert<V: Drop, C: Level<V>>(
     alloc: Global,
     child: &mut Child<C>,
     key: u32,
@@ -54,7 +54,7 @@ pub fn insert<V, C: Level<V>>(
 
 /// Changes the value of a key, as `Child::update`.
 #[inline(always)]
-pub fn update<V, C: Level<V>, F: Update<V>>(
+pub fn update<V: Drop, C: Level<V>, F: Update<V>>(
     alloc: Global,
     child: &mut Child<C>,
     key: u32,

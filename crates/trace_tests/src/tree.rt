@@ -210,3 +210,22 @@ fn refused_memory_leaves_neighbours(rt: HostRuntime) -> Result<(), Fail> {
     assert_eq!(rt; share.len(), 48);
     Ok(())
 }
+
+// With each allocation refused in turn each refusal meets an insertion: a removal from a map that nobody shares asks for no memory.
+#[test]
+fn removal_asks_for_no_memory(rt: HostRuntime) -> Result<(), Fail> {
+    let alloc = rt.alloc();
+    let mut tree = ShareTree::<Number>::empty();
+    for i in 0..48u32 {
+        let key = if i % 3 == 0 { i * 1000 } else { i };
+        if tree.insert(alloc, key, Number(i)).is_err() {
+            tree.insert(alloc, key, Number(i))?;
+        }
+    }
+    assert_eq!(rt; tree.len(), 48);
+    for i in 0..48u32 {
+        tree.remove(alloc, if i % 3 == 0 { i * 1000 } else { i })?;
+    }
+    assert_eq!(rt; tree.len(), 0);
+    Ok(())
+}

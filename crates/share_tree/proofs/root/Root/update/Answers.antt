@@ -4,7 +4,8 @@ use Rattle.std.specs.Arc.{arc_value}
 use Rattle.std.specs.Option.{option_map}
 use Rattle.share_tree.specs.Digits.{updated, nowhere}
 use Rattle.share_tree.specs.Levels.{root_at}
-use Rattle.share_tree.proofs.RootLemmas.{one-set, updated-there}
+use Rattle.share_tree.proofs.RootLemmas.{one-set}
+use Rattle.share_tree.proofs.UpdatedLemmas.{updated-there}
 use Rattle.share_tree.proofs.root.Root.update.Goals as goal
 
 pub returns-else-only-key-clause-ok : goal.returns-else-only-key-clause-ok
@@ -15,7 +16,7 @@ returns-else-only-key-clause-ok g c =
     let same : only ≡ c.args.key = search rules in
     let there : root_at c.args.self.now c.args.key ≡ Some value = ap (λ r. root_at r c.args.key) c.in-One.is ∙ updated-there nowhere only (Some value) c.args.key (sym same) in
     on_ok_weaker c.update_in.result (λ set q.
-    ap (λ o. updated nowhere only o q) (set 0)
+    ap (λ v. updated nowhere only (Some v) q) set
     ∙ one-set only (Some value) (Some (to value)) q
     ∙ ap (λ r. updated (root_at r) only (Some (to value)) q) (sym c.in-One.is)
     ∙ ap (λ k. updated (root_at c.args.self.now) k (Some (to value)) q) same
@@ -23,4 +24,4 @@ returns-else-only-key-clause-ok g c =
 
 pub returns-else-only-key-clause-err : goal.returns-else-only-key-clause-err
 returns-else-only-key-clause-err g c =
-    on_err_weaker c.update_in.result (λ kept q. ap (λ o. updated nowhere c.in-One.only o q) (kept 0) ∙ ap (λ r. root_at r q) (sym c.in-One.is)) c.update_in.ensures.err
+    on_err_weaker c.update_in.result (λ kept q. ap (λ v. updated nowhere c.in-One.only (Some v) q) kept ∙ ap (λ r. root_at r q) (sym c.in-One.is)) c.update_in.ensures.err
