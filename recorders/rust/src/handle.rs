@@ -12,6 +12,8 @@ use std::sync::{Arc, Weak};
 ///
 /// It is an operation to make one, to clone it and to drop it. To move it is none: it stays the same handle. The line of its drop
 /// tells as `made_at` where it was made, since Rust doesn't tell a drop where it stands.
+///
+/// A method here goes before one of the value with the same name, which is called as `(*handle).get()`.
 pub struct Handle<P> {
     // None in a handle that was taken apart, and in one that is dropped at once, since it would hold nothing
     pointer: Option<P>,

@@ -45,6 +45,7 @@
 //! [`Recording::finish`] gives the [`Fault`]. What was written up to there can be replayed, and the program goes on as if nothing
 //! recorded. No destructor panics.
 
+mod fault;
 mod fields;
 mod handle;
 mod line;
@@ -54,8 +55,9 @@ mod recording;
 mod slot;
 mod unique;
 
+pub use fault::Fault;
 pub use fields::{Field, Fields};
 pub use handle::{Bare, Handle, Pointer, Traced, TracedWeak};
 pub use make::Me;
-pub use recording::{Fault, Recording};
+pub use recording::Recording;
 pub use slot::Slot;

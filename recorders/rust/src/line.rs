@@ -1,6 +1,7 @@
 //! The text of one line.
 
-use crate::recording::{self, Fault, Name, MAX_FIELDS};
+use crate::fault::Fault;
+use crate::recording::{self, Name, MAX_FIELDS};
 use std::fmt::{Display, Write};
 use std::panic::Location;
 

@@ -1,5 +1,6 @@
 //! Where the lines go, how far, and what ends it.
 
+use crate::fault::Fault;
 use crate::line::Line;
 use crate::order::{in_order, locked};
 use std::cell::Cell;
@@ -7,7 +8,6 @@ use std::fs::File;
 use std::io::{self, Write};
 use std::path::Path;
 use std::sync::Mutex;
-use std::{error, fmt};
 
 // The limits of the reader of a trace.
 const MAX_OPERATIONS: u32 = 1_000_000;
@@ -27,56 +27,6 @@ static RECORDER: Mutex<Recorder> = Mutex::new(Recorder {
 thread_local! {
     // the label of this thread, and the recording in which it has it
     static LABEL: Cell<(u32, u32)> = const { Cell::new((0, 0)) };
-}
-
-/// Why a recording stopped. What was written before is a trace that can be replayed.
-#[derive(Debug)]
-#[non_exhaustive]
-pub enum Fault {
-    /// A write failed.
-    Write(io::Error),
-    /// The trace has as many operations, or bytes, as a trace may have: 1,000,000, or 1,000,000,000.
-    Full,
-    /// More than 65,536 threads did an operation.
-    Threads,
-    /// A value has more than 64 slots.
-    Fields,
-    /// An operation names a handle that was made before the recording began, beside one that was made in it.
-    EarlierHandle,
-    /// An operation names a slot that the [`Fields`](crate::Fields) of its value don't show.
-    HiddenSlot,
-    /// A value was cloned with what its slots hold, and not by [`make_mut`](crate::Handle::make_mut).
-    CopiedSlot,
-    /// A slot of a value was dropped, replaced or moved without an operation, through `&mut`.
-    LostSlot,
-    /// A slot of [`Me`](crate::Me) came into another value than the one that it names.
-    ForeignMe,
-}
-
-impl fmt::Display for Fault {
-    fn fmt(&self, f: &mut fmt::Formatter<'_>) -> fmt::Result {
-        let text = match self {
-            Fault::Write(cause) => return write!(f, "the trace couldn't be written: {cause}"),
-            Fault::Full => "the trace is full",
-            Fault::Threads => "more than 65,536 threads did an operation",
-            Fault::Fields => "a value has more than 64 slots",
-            Fault::EarlierHandle => "a handle from before the recording met one that was recorded",
-            Fault::HiddenSlot => "a slot was used that the fields of its value don't show",
-            Fault::CopiedSlot => "a value with slots was cloned otherwise than by make_mut",
-            Fault::LostSlot => "a slot was dropped, replaced or moved without an operation",
-            Fault::ForeignMe => "a slot with `me` came into another value",
-        };
-        f.write_str(text)
-    }
-}
-
-impl error::Error for Fault {
-    fn source(&self) -> Option<&(dyn error::Error + 'static)> {
-        match self {
-            Fault::Write(cause) => Some(cause),
-            _ => None,
-        }
-    }
 }
 
 /// A recording that is open. It ends with [`finish`](Recording::finish), or where it is dropped.
@@ -113,13 +63,7 @@ impl Recording {
 
     /// Writes what is left, and gives the number of operations of the trace, or why it doesn't have all of them.
     pub fn finish(mut self) -> Result<u32, Fault> {
-        self.close()
-    }
-
-    fn close(&mut self) -> Result<u32, Fault> {
-        self.is_open = false;
-        let active = in_order(|| locked(&RECORDER).active.take());
-        let Some(mut active) = active else {
+        let Some(mut active) = self.end() else {
             return Ok(0);
         };
         if let Some(fault) = active.fault.take() {
@@ -128,14 +72,27 @@ impl Recording {
         active.flush().map_err(Fault::Write)?;
         Ok(active.operations)
     }
+
+    // What is recorded, the first time.
+    fn end(&mut self) -> Option<Active> {
+        if !self.is_open {
+            return None;
+        }
+        self.is_open = false;
+        in_order(|| locked(&RECORDER).active.take())
+    }
 }
 
 impl Drop for Recording {
     fn drop(&mut self) {
-        if self.is_open {
-            if let Err(Fault::Write(cause)) = self.close() {
-                tell(&Fault::Write(cause));
-            }
+        let Some(mut active) = self.end() else {
+            return;
+        };
+        if active.fault.is_some() {
+            return; // it was told when it came
+        }
+        if let Err(cause) = active.flush() {
+            tell(&Fault::Write(cause));
         }
     }
 }

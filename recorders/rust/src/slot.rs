@@ -1,9 +1,10 @@
 //! A field of a value.
 
+use crate::fault::Fault;
 use crate::handle::{Handle, Pointer};
 use crate::line::FirstSlot;
 use crate::order::{in_order, is_inside, locked};
-use crate::recording::{self, Fault};
+use crate::recording;
 use std::cell::Cell;
 use std::fmt;
 use std::mem;

@@ -4,7 +4,9 @@ mod common;
 
 use arc_trace::{fields, Slot, Traced, TracedWeak};
 use common::{ops, recorded};
+use std::panic::{catch_unwind, AssertUnwindSafe};
 use std::sync::{Arc, Weak};
+use std::thread;
 
 #[derive(Clone, Debug)]
 struct Leaf;
@@ -218,6 +220,33 @@ fn handles_within_a_value_end_after_it() {
             r#"6 drop,"h":1"#,
             r#"7 drop,"h":2"#,
             r#"8 drop,"h":0"#,
+        ]
+    );
+}
+
+#[test]
+fn a_drop_that_panics_ends_its_operation() {
+    struct Loud;
+    fields!(Loud {});
+    impl Drop for Loud {
+        fn drop(&mut self) {
+            panic!("loud");
+        }
+    }
+    let trace = recorded(|| {
+        let loud = Traced::new(Loud);
+        assert!(catch_unwind(AssertUnwindSafe(|| drop(loud))).is_err());
+        thread::scope(|s| {
+            s.spawn(|| drop(Traced::new(Leaf))); // another thread isn't kept waiting
+        });
+    });
+    assert_eq!(
+        ops(&trace),
+        [
+            r#"1 new,"fields":[],"to":0"#,
+            r#"2 drop,"h":0"#,
+            r#"3 new,"fields":[],"to":0"#,
+            r#"4 drop,"h":0"#,
         ]
     );
 }
