@@ -1,23 +1,24 @@
 -- What stands at the front of a plain line, token by token, and the turns of the walk over it.
-use Rattle.std.proofs.Common.{Option, ◌≡◌, ◌⊎◌, inl, inr, ℕ, ◌-◌, ◌<◌, ◌≤◌, ◌^◌, List, [], ◌∷◌, ◌++◌, length, true, false, cond, Some, option_map, ◌==◌, ◌&&◌, not, nat_le, nat_lt, ltb-true, get_or, take, drop, Result, Ok, refl, sym, ap, ap₂, subst, ◌∙◌, arith, decimal, codes, length-append}
-use Rattle.std.proofs.lemmas.Bool.{false≢true, true≢false, eq-eqb, leb-true}
+use Rattle.std.proofs.Common.{Bool, Option, None, ◌≡◌, ◌↔◌, ◌⊎◌, inl, inr, ℕ, ◌-◌, ◌<◌, ◌≤◌, ◌^◌, List, [], ◌∷◌, ◌++◌, length, true, false, cond, Some, option_map, ◌==◌, ◌&&◌, ◌||◌, not, nat_le, nat_lt, ltb-true, get_or, take, drop, Result, Ok, Err, IfOk, MatchOption, refl, sym, ap, ap₂, subst, ◌∙◌, arith, decimal, codes, length-append}
+use Rattle.std.proofs.lemmas.Bool.{false≢true, true≢false, eq-eqb, eqb-true, leb-true}
 use Rattle.std.proofs.lemmas.Fmt.{decimal_nonempty, decimal-digits_value, IsAscii-decimal}
 use Rattle.std.proofs.lemmas.List.{length-take-le, get_or-take, take-append-drop, take_rest}
 use Rattle.std.proofs.lemmas.Str.Parse.{numerals_by_value, tells_digits}
-use Rattle.std.proofs.lemmas.Str.{IsAscii-append, IsUtf8-from_ascii}
+use Rattle.std.proofs.lemmas.Str.{IsUtf8-from_ascii}
+use Rattle.simdutf8.proofs.StepsLemmas.{IsUtf8-after_ascii}
 use Rattle.std.proofs.lemmas.Str.Ascii.{IsAscii-nil, IsAscii-cons}
 use Rattle.std.specs.List.{list_all}
-use Rattle.std.specs.Str.{IsAscii}
+use Rattle.std.specs.Str.{IsAscii, IsUtf8}
 use Rattle.std.specs.Str.Parse.{AllDigits, digits_value}
 use Rattle.json.specs.Token.{Token}
 use Rattle.json.specs.Word.{ends_word, word}
-use Rattle.json.specs.Lex.{Lexeme, tokens, token, colon, string_token, Place, fresh, after_value, after_comma, after_key, may_begin, may_close, begins_colon, lex, between, punctuate}
+use Rattle.json.specs.Lex.{Lexeme, tokens, token, colon, string_token, Place, fresh, after_value, after_comma, after_key, may_begin, may_close, begins_colon, place_token, class, space, lex_byte, lex, between, punctuate}
 use Rattle.json.specs.Json.{value, items, members, parse_map, after_end_array, read_key}
 use Rattle.json.specs.Print.{escape_byte, escape}
 use Rattle.json.proofs.Printed.Decimals.{IsNumber-decimal}
 use Rattle.json.proofs.Printed.Numbers.{lex-number, in_word-ended}
 use Rattle.json.proofs.Printed.Strings.{content-escape, lex-escape, escape_byte_plain}
-use Rattle.serde_json.specs.Data.{Data, null, number, unsigned, string, array, object, Items, no_items, item, Members, no_members, put}
+use Rattle.serde_json.specs.Data.{Data, null, boolean, number, unsigned, string, array, object, Items, no_items, item, Members, no_members, put}
 use Rattle.serde_json.specs.Read.{of_json, of_items, of_members, converted}
 use Rattle.serde_json.proofs.Numbers.{number_of-decimal}
 use Rattle.trace_types.specs.Names as Names
@@ -32,13 +33,14 @@ use Rattle.trace_reader.specs.declared.names.MemberName.TheVariants as member
 use Rattle.trace_reader.specs.declared.seen.Seen.{Seen}
 use Rattle.trace_reader.specs.declared.seen.Seen.TheVariants as seen
 use Rattle.trace_reader.specs.Members.{field_of}
-use Rattle.trace_reader.specs.Looks.{told, field_told, elements_of, name_text, IsNamed, Tells}
+use Rattle.trace_reader.specs.Looks.{told, field_told, elements_of, name_text, IsNamed, Tells, json_from}
 use Rattle.trace_reader.specs.Looks as Looks
-use Rattle.trace_reader.specs.Plain.{tokens_at, is_unescaped_byte, IsDelimited, IsKey, IsScalar, AreElements, IsValue}
-use Rattle.trace_reader.specs.Reading.{json_of}
+use Rattle.trace_reader.specs.Plain.{tokens_at, is_unescaped_byte, IsAfterSpaces, IsDelimited, IsKey, IsScalar, AreElements, IsValue, IsMember}
+use Rattle.trace_reader.specs.Reading.{json_of, is_blank}
 use Rattle.trace_reader.proofs.Json.{json_of-read}
 use Rattle.trace_reader.proofs.OpLines.{both}
-use Rattle.trace_reader.proofs.Turns.{at_null, at_string, at_number, at_array, at_object, item_read, items_over, member_read, members_over}
+use Rattle.trace_reader.proofs.Rests.{json_goes_on}
+use Rattle.trace_reader.proofs.Turns.{at_null, at_boolean, at_string, at_number, at_array, at_object, item_read, items_over, member_read, members_over}
 use Rattle.trace_reader.proofs.Endings.{nothing_before, mapped_before, one_element, no_element, whole_read}
 
 -- ---- texts
@@ -136,8 +138,33 @@ unescaped (x ∷ xs) h =
     let rest = unescaped xs p.1 in
     (ap₂ (λ a b. a ++ b) (escape_byte_plain x (not_eq x 34 r.1) (not_eq x 92 q.1) (leb-true 32 x t.0)) rest.0, rw (t.1, rest.1))
 
-ascii_text : (s r : List ℕ) → IsPlain s → IsAscii r → IsAscii (34 ∷ s ++ 34 ∷ r)
-ascii_text s r h a = IsAscii-cons 34 _ (omega arith) (IsAscii-append s _ (all_ascii s h.1) (IsAscii-cons 34 r (omega arith) a))
+-- ---- UTF-8
+
+-- one text is UTF-8 where the other one is
+abbrev pub AreLike : List ℕ → List ℕ → Type 0
+AreLike text rest = IsUtf8 text ↔ IsUtf8 rest
+
+like_itself : (text : List ℕ) → AreLike text text
+like_itself text = (λ u. u, λ u. u)
+
+pub and_then_like : (text middle rest : List ℕ) → AreLike text middle → AreLike middle rest → AreLike text rest
+and_then_like text middle rest first second = (λ u. second.0 (first.0 u), λ u. first.1 (second.1 u))
+
+-- a byte of ASCII more
+like_after : (b : ℕ) (rest : List ℕ) → b < 128 → AreLike (b ∷ rest) rest
+like_after b rest low = IsUtf8-after_ascii (b ∷ []) rest (IsAscii-cons b [] low IsAscii-nil)
+
+pub like_after_byte : (text rest : List ℕ) (b : ℕ) → text ≡ b ∷ rest → b < 128 → AreLike text rest
+like_after_byte text rest b is low = subst (λ t. AreLike t rest) (sym is) (like_after b rest low)
+
+like_after_text : (text s rest : List ℕ) → text ≡ s ++ rest → IsAscii s → AreLike text rest
+like_after_text text s rest is low = subst (λ t. AreLike t rest) (sym is) (IsUtf8-after_ascii s rest low)
+
+-- a text between quotes more
+like_after_quoted : (text s r : List ℕ) → text ≡ 34 ∷ s ++ 34 ∷ r → IsPlain s → AreLike text r
+like_after_quoted text s r is h =
+    subst (λ t. AreLike t r) (sym is)
+    (and_then_like (34 ∷ s ++ 34 ∷ r) (s ++ 34 ∷ r) r (like_after 34 (s ++ 34 ∷ r) (omega arith)) (and_then_like (s ++ 34 ∷ r) (34 ∷ r) r (IsUtf8-after_ascii s (34 ∷ r) (all_ascii s h.1)) (like_after 34 r (omega arith))))
 
 -- a text between quotes is one lexeme
 lex-text : (s r : List ℕ) → IsPlain s → lex between (34 ∷ s ++ 34 ∷ r) ≡ token (Token.string s) ∷ lex between r
@@ -145,9 +172,19 @@ unfolding lex
 lex-text s r h =
     ap (λ t. lex between (34 ∷ (t ++ 34 ∷ r))) (sym h.0) ∙ ap₂ (λ o l. token (string_token o) ∷ l) (content-escape s r) (lex-escape s r)
 
+-- a truth value as it is written
+abbrev pub truth_text : Bool → List ℕ
+truth_text true = codes "true"
+truth_text false = codes "false"
+
 lex-null : (r : List ℕ) → ends_word r ≡ true → lex between (110 ∷ 117 ∷ 108 ∷ 108 ∷ r) ≡ token Token.null ∷ lex between r
 unfolding lex word
 lex-null r ended = ap₂ (λ b l. token (cond b Token.null Token.bad) ∷ l) ended (in_word-ended r ended)
+
+lex-truth : (b : Bool) (r : List ℕ) → ends_word r ≡ true → lex between (truth_text b ++ r) ≡ token (Token.boolean b) ∷ lex between r
+unfolding lex word
+lex-truth true r ended = ap₂ (λ b l. token (cond b (Token.boolean true) Token.bad) ∷ l) ended (in_word-ended r ended)
+lex-truth false r ended = ap₂ (λ b l. token (cond b (Token.boolean false) Token.bad) ∷ l) ended (in_word-ended r ended)
 
 -- ---- tokens in their places
 
@@ -185,7 +222,7 @@ unfolding lex
 key_at text key rest plain is = record {
   reads = λ p begins. ap (λ t. tokens_at p (34 ∷ t)) is ∙ ap (punctuate p) (lex-text key (58 ∷ rest) plain) ∙ key_placed p key (lex between rest) begins;
   fewer = omega (arith, ap length is, length-append key (34 ∷ 58 ∷ rest));
-  ascii = λ a. subst IsAscii (sym is) (IsAscii-append key (34 ∷ 58 ∷ rest) (all_ascii key plain.1) (IsAscii-cons 34 (58 ∷ rest) (omega arith) (IsAscii-cons 58 rest (omega arith) a)));
+  utf8 = and_then_like text (34 ∷ 58 ∷ rest) rest (like_after_text text key (34 ∷ 58 ∷ rest) is (all_ascii key plain.1)) (and_then_like (34 ∷ 58 ∷ rest) (58 ∷ rest) rest (like_after 34 (58 ∷ rest) (omega arith)) (like_after 58 rest (omega arith)));
 }
 
 -- one that an operation asks for
@@ -219,18 +256,84 @@ open_object_at : (r : List ℕ) → tokens_at fresh (123 ∷ r) ≡ Token.begin_
 unfolding lex punctuate
 open_object_at r = refl
 
--- the closing brace is the end of a line, also before a carriage return
-pub close_object_at : tokens_at after_value (125 ∷ []) ≡ Token.end_object ∷ []
+-- the closing brace is the end of a line, where blanks alone are behind it
+pub close_object_at : (r : List ℕ) → lex between r ≡ [] → tokens_at after_value (125 ∷ r) ≡ Token.end_object ∷ []
 unfolding lex punctuate
-close_object_at = refl
+close_object_at r none = ap (λ ls. Token.end_object ∷ punctuate after_value ls) none
 
-pub close_object_at_return : tokens_at after_value (125 ∷ 13 ∷ []) ≡ Token.end_object ∷ []
-unfolding lex punctuate
-close_object_at_return = refl
+-- where a text between quotes may begin, it begins in any place
+string_placed_anywhere : (p : Place) (o : Option (List ℕ)) (ls : List Lexeme) → may_begin p ≡ true → punctuate p (token (string_token o) ∷ ls) ≡ punctuate fresh (token (string_token o) ∷ ls)
+unfolding punctuate
+string_placed_anywhere fresh o ls h = refl
+string_placed_anywhere after_value o ls h = absurd (false≢true h)
+string_placed_anywhere after_comma None ls h = refl
+string_placed_anywhere after_comma (Some s) ls h = elim (begins_colon ls) as (λ b. place_token after_comma (Token.string s) b (λ next. punctuate next ls) ≡ place_token fresh (Token.string s) b (λ next. punctuate next ls)) [ true ↦ refl | false ↦ refl ]
+string_placed_anywhere after_key o ls h = absurd (false≢true h)
 
-pub space_at : (r : List ℕ) → lex between (32 ∷ r) ≡ lex between r
+quote_placed : (p : Place) (r : List ℕ) → may_begin p ≡ true → tokens_at p (34 ∷ r) ≡ tokens (34 ∷ r)
+unfolding lex
+quote_placed p r h = string_placed_anywhere p _ _ h
+
+space_at : (r : List ℕ) → lex between (32 ∷ r) ≡ lex between r
 unfolding lex
 space_at r = refl
+
+boolean_placed : (b : Bool) (ls : List Lexeme) → punctuate fresh (token (Token.boolean b) ∷ ls) ≡ Token.boolean b ∷ punctuate after_value ls
+unfolding punctuate
+boolean_placed b ls = refl
+
+truth_len : (b : Bool) → 0 < length (truth_text b)
+truth_len true = omega arith
+truth_len false = omega arith
+
+truth_ascii : (b : Bool) → IsAscii (truth_text b)
+truth_ascii true = all_ascii (codes "true") refl
+truth_ascii false = all_ascii (codes "false") refl
+
+-- ---- spaces
+
+pub no_spaces : (text : List ℕ) → IsAfterSpaces text text
+no_spaces text = record { lexed = refl; no_longer = omega arith; utf8 = like_itself text }
+
+pub one_space : (text rest next : List ℕ) → IsAfterSpaces text rest → rest ≡ 32 ∷ next → IsAfterSpaces text next
+one_space text rest next spaces is = record {
+  lexed = sym (space_at next) ∙ ap (lex between) (sym is) ∙ spaces.lexed;
+  no_longer = omega (arith, ap length is, spaces.no_longer);
+  utf8 = and_then_like text rest next spaces.utf8 (like_after_byte rest next 32 is (omega arith));
+}
+
+same_tokens : (p : Place) (text rest : List ℕ) → IsAfterSpaces text rest → tokens_at p text ≡ tokens_at p rest
+same_tokens p text rest spaces = ap (punctuate p) (sym spaces.lexed)
+
+-- blanks are no tokens
+blank_class : (x : ℕ) → (x == 32 || x == 9 || x == 13) ≡ true → (class x ≡ space) × (x < 128)
+blank_class x h = elim (x == 32) as (λ b. (x == 32) ≡ b → (b || x == 9 || x == 13) ≡ true → (class x ≡ space) × (x < 128)) [
+  | true ↦ λ e k. subst (λ y. (class y ≡ space) × (y < 128)) (sym (eqb-true x 32 e)) (refl, omega arith)
+  | false ↦ λ e k. elim (x == 9) as (λ b. (x == 9) ≡ b → (b || x == 13) ≡ true → (class x ≡ space) × (x < 128)) [
+    | true ↦ λ f m. subst (λ y. (class y ≡ space) × (y < 128)) (sym (eqb-true x 9 f)) (refl, omega arith)
+    | false ↦ λ f m. subst (λ y. (class y ≡ space) × (y < 128)) (sym (eqb-true x 13 m)) (refl, omega arith)
+  ] refl k
+] refl h
+
+pub lex-blank : (r : List ℕ) → is_blank r ≡ true → lex between r ≡ []
+unfolding lex
+lex-blank [] h = refl
+lex-blank (x ∷ xs) h =
+    let p = both (x == 32 || x == 9 || x == 13) _ h in
+    ap (λ c. lex_byte between c x xs (λ next. lex next xs)) (blank_class x p.0).0 ∙ lex-blank xs p.1
+
+blank_ascii : (r : List ℕ) → is_blank r ≡ true → IsAscii r
+blank_ascii [] h = IsAscii-nil
+blank_ascii (x ∷ xs) h = let p = both (x == 32 || x == 9 || x == 13) _ h in IsAscii-cons x xs (blank_class x p.0).1 (blank_ascii xs p.1)
+
+-- the end of a line is of ASCII
+pub end_utf8 : (text rest behind : List ℕ) → IsAfterSpaces text rest → rest ≡ 125 ∷ behind → is_blank behind ≡ true → IsUtf8 text
+end_utf8 text rest behind spaces is blank =
+    let like = and_then_like text rest behind spaces.utf8 (like_after_byte rest behind 125 is (omega arith)) in
+    like.1 (IsUtf8-from_ascii behind (blank_ascii behind blank))
+
+pub end_tokens : (text rest behind : List ℕ) → IsAfterSpaces text rest → rest ≡ 125 ∷ behind → is_blank behind ≡ true → tokens_at after_value text ≡ Token.end_object ∷ []
+end_tokens text rest behind spaces is blank = same_tokens after_value text rest spaces ∙ ap (tokens_at after_value) is ∙ close_object_at behind (lex-blank behind blank)
 
 -- ---- values of one token
 
@@ -245,7 +348,7 @@ scalar_number text rest n is fits d =
       look = refl;
       field = refl;
       fewer = omega (arith, some, ap length is, length-append (decimal n) rest);
-      ascii = λ a. subst IsAscii (sym is) (IsAscii-append (decimal n) rest (IsAscii-decimal n fits) a);
+      utf8 = like_after_text text (decimal n) rest is (IsAscii-decimal n fits);
     }
 
 pub scalar_null : (text rest : List ℕ) → text ≡ 110 ∷ 117 ∷ 108 ∷ 108 ∷ rest → IsDelimited rest → IsScalar text seen.Nothing rest
@@ -258,7 +361,7 @@ scalar_null text rest is d = record {
   look = refl;
   field = refl;
   fewer = omega (arith, ap length is);
-  ascii = λ a. subst IsAscii (sym is) (IsAscii-append (110 ∷ 117 ∷ 108 ∷ 108 ∷ []) rest (all_ascii (110 ∷ 117 ∷ 108 ∷ 108 ∷ []) refl) a);
+  utf8 = like_after_text text (codes "null") rest is (all_ascii (codes "null") refl);
 }
 
 pub scalar_me : (text rest : List ℕ) (s : Seen) → text ≡ 34 ∷ codes "me" ++ 34 ∷ rest → told s ≡ Looks.text (codes "me") → IsDelimited rest → IsScalar text s rest
@@ -272,7 +375,7 @@ scalar_me text rest s is tells d = record {
   look = tells;
   field = refl;
   fewer = omega (arith, ap length is);
-  ascii = λ a. subst IsAscii (sym is) (ascii_text (codes "me") rest (refl, refl) a);
+  utf8 = like_after_quoted text (codes "me") rest is (refl, refl);
 }
 
 -- ---- values of a member
@@ -285,18 +388,28 @@ value_of_op text rest name is d =
       read = λ depth deep. ap (λ ts. converted of_json (value depth ts)) one ∙ at_string depth (tokens_at after_value rest) s;
       shorter = omega (arith, ap length one);
       fewer = omega (arith, ap length is, length-append s (34 ∷ rest));
-      ascii = λ a. subst IsAscii (sym is) (ascii_text s rest (plain_op name) a);
+      utf8 = like_after_quoted text s rest is (plain_op name);
     }
 
-pub value_of_text : (text inside s rest : List ℕ) → text ≡ 34 ∷ inside → inside ≡ s ++ 34 ∷ rest → list_all is_unescaped_byte s ≡ true → IsDelimited rest → IsValue text (string s) rest
-value_of_text text inside s rest opens closes plain d =
-    let is : text ≡ 34 ∷ s ++ 34 ∷ rest = opens ∙ ap (λ t. 34 ∷ t) closes in
-    let one : tokens_at fresh text ≡ Token.string s ∷ tokens_at after_value rest =
+pub value_of_text : (inside s rest : List ℕ) → inside ≡ s ++ 34 ∷ rest → list_all is_unescaped_byte s ≡ true → IsDelimited rest → IsValue (34 ∷ inside) (string s) rest
+value_of_text inside s rest closes plain d =
+    let is : 34 ∷ inside ≡ 34 ∷ s ++ 34 ∷ rest = ap (λ t. 34 ∷ t) closes in
+    let one : tokens_at fresh (34 ∷ inside) ≡ Token.string s ∷ tokens_at after_value rest =
     ap (tokens_at fresh) is ∙ ap (punctuate fresh) (lex-text s rest (unescaped s plain)) ∙ string_placed fresh s (lex between rest) refl d.colon in record {
       read = λ depth deep. ap (λ ts. converted of_json (value depth ts)) one ∙ at_string depth (tokens_at after_value rest) s;
       shorter = omega (arith, ap length one);
       fewer = omega (arith, ap length is, length-append s (34 ∷ rest));
-      ascii = λ a. subst IsAscii (sym is) (ascii_text s rest (unescaped s plain) a);
+      utf8 = like_after_quoted (34 ∷ inside) s rest is (unescaped s plain);
+    }
+
+pub value_of_truth : (text rest : List ℕ) (b : Bool) → text ≡ truth_text b ++ rest → IsDelimited rest → IsValue text (boolean b) rest
+value_of_truth text rest b is d =
+    let one : tokens_at fresh text ≡ Token.boolean b ∷ tokens_at after_value rest =
+    ap (tokens_at fresh) is ∙ ap (punctuate fresh) (lex-truth b rest d.word) ∙ boolean_placed b (lex between rest) in record {
+      read = λ depth deep. ap (λ ts. converted of_json (value depth ts)) one ∙ at_boolean depth (tokens_at after_value rest) b;
+      shorter = omega (arith, ap length one);
+      fewer = omega (arith, truth_len b, ap length is, length-append (truth_text b) rest);
+      utf8 = like_after_text text (truth_text b) rest is (truth_ascii b);
     }
 
 pub value_of_array : (text listed rest : List ℕ) (found : List (Result Field LineCause)) → text ≡ 91 ∷ listed → (elements : AreElements listed found rest) → IsValue text (array elements.items) rest
@@ -305,16 +418,16 @@ value_of_array text listed rest found is elements =
       read = λ depth deep. ap (λ ts. converted of_json (value depth ts)) opens ∙ at_array depth (tokens_at fresh listed) deep ∙ ap (parse_map array) (elements.read (depth - 1));
       shorter = omega (arith, ap length opens, elements.shorter);
       fewer = omega (arith, ap length is, elements.fewer);
-      ascii = λ a. subst IsAscii (sym is) (IsAscii-cons 91 listed (omega arith) (elements.ascii a));
+      utf8 = and_then_like text listed rest (like_after_byte text listed 91 is (omega arith)) elements.utf8;
     }
 
-pub value_after_space : (text spaced rest : List ℕ) (d : Data) → lex between text ≡ lex between spaced → length text ≤ length spaced → (IsAscii text → IsAscii spaced) → IsValue text d rest → IsValue spaced d rest
-value_after_space text spaced rest d same len ascii v =
-    let is : tokens_at fresh spaced ≡ tokens_at fresh text = ap (punctuate fresh) (sym same) in record {
+pub value_after_spaces : (text spaced rest : List ℕ) (d : Data) → IsAfterSpaces spaced text → IsValue text d rest → IsValue spaced d rest
+value_after_spaces text spaced rest d spaces v =
+    let is = same_tokens fresh spaced text spaces in record {
       read = λ depth deep. ap (λ ts. converted of_json (value depth ts)) is ∙ v.read depth deep;
       shorter = omega (arith, ap length is, v.shorter);
-      fewer = omega (arith, len, v.fewer);
-      ascii = λ a. ascii (v.ascii a);
+      fewer = omega (arith, spaces.no_longer, v.fewer);
+      utf8 = and_then_like spaced text rest spaces.utf8 v.utf8;
     }
 
 -- ---- numbers
@@ -341,6 +454,19 @@ delimited_by text some (inl is) = delimited_at 44 text some is (λ r. record { w
 delimited_by text some (inr (inl is)) = delimited_at 93 text some is (λ r. record { word = refl; colon = refl })
 delimited_by text some (inr (inr is)) = delimited_at 125 text some is (λ r. record { word = refl; colon = refl })
 
+-- a closing bracket behind a space
+delimited_later_at : (b : ℕ) (after : List ℕ) → 0 < length after → get_or after 0 0 ≡ b → ((r : List ℕ) → IsDelimited (32 ∷ b ∷ r)) → IsDelimited (32 ∷ after)
+delimited_later_at b [] some is d = absurd (omega arith)
+delimited_later_at b (x ∷ r) some is d = subst (λ y. IsDelimited (32 ∷ y ∷ r)) (sym is) (d r)
+
+delimited_behind : (after : List ℕ) → 0 < length after → (get_or after 0 0 ≡ 93) ⊎ (get_or after 0 0 ≡ 125) → IsDelimited (32 ∷ after)
+unfolding lex
+delimited_behind after some (inl is) = delimited_later_at 93 after some is (λ r. record { word = refl; colon = refl })
+delimited_behind after some (inr is) = delimited_later_at 125 after some is (λ r. record { word = refl; colon = refl })
+
+pub delimited_later : (text after : List ℕ) → text ≡ 32 ∷ after → (0 < length after) × ((get_or after 0 0 ≡ 93) ⊎ (get_or after 0 0 ≡ 125)) → IsDelimited text
+delimited_later text after is closes = subst IsDelimited (sym is) (delimited_behind after closes.0 closes.1)
+
 -- ---- the elements of an array, a turn at a time
 
 -- the elements before those of `rest`, which begins in place p, of those of `text`
@@ -354,35 +480,36 @@ pub record IsAfterElements (text : List ℕ) (found : List (Result Field LineCau
   pub are : (ds : Items) → elements_of (before ds) ≡ found ++ elements_of ds
   pub no_more : length (tokens_at place rest) ≤ length (tokens_at fresh text)
   pub no_longer : length rest ≤ length text
-  pub ascii : IsAscii rest → IsAscii text
+  pub utf8 : AreLike text rest
 
-pub no_elements_yet : (text : List ℕ) → IsAfterElements text [] text
-no_elements_yet text = record {
-  place = fresh;
-  begins = refl;
-  turns = length (tokens_at fresh text);
-  enough = omega arith;
-  before = λ ds. ds;
-  read = λ depth. nothing_before _;
-  are = λ ds. refl;
-  no_more = omega arith;
-  no_longer = omega arith;
-  ascii = λ a. a;
-}
-
--- the array that closes at once
-pub no_elements_at_all : (text rest : List ℕ) → text ≡ 93 ∷ rest → AreElements text [] rest
-no_elements_at_all text rest is =
-    let closes : tokens_at fresh text ≡ Token.end_array ∷ tokens_at after_value rest = ap (tokens_at fresh) is ∙ close_array_at fresh rest refl in record {
-      items = no_items;
-      read = λ depth. items_over (value depth) (length (tokens_at fresh text)) (tokens_at fresh text) (tokens_at after_value rest) (omega (arith, ap length closes)) (ap after_end_array closes);
-      are = refl;
-      shorter = omega (arith, ap length closes);
-      fewer = omega (arith, ap length is);
-      ascii = λ a. subst IsAscii (sym is) (IsAscii-cons 93 rest (omega arith) a);
+pub no_elements_yet : (text rest : List ℕ) → IsAfterSpaces text rest → IsAfterElements text [] rest
+no_elements_yet text rest spaces =
+    let is = same_tokens fresh text rest spaces in record {
+      place = fresh;
+      begins = refl;
+      turns = length (tokens_at fresh text);
+      enough = omega (arith, ap length is);
+      before = λ ds. ds;
+      read = λ depth. nothing_before _ ∙ ap (λ ts. parse_map (λ ds. ds) (converted of_items (items (value depth) (length (tokens_at fresh text)) ts))) is;
+      are = λ ds. refl;
+      no_more = omega (arith, ap length is);
+      no_longer = spaces.no_longer;
+      utf8 = spaces.utf8;
     }
 
-module _ (text rest after : List ℕ) (found : List (Result Field LineCause)) (s : Seen) (l : IsAfterElements text found rest) (scalar : IsScalar rest s after) where
+-- the array that closes at once
+pub no_elements_at_all : (text rest after : List ℕ) → IsAfterSpaces text rest → rest ≡ 93 ∷ after → AreElements text [] after
+no_elements_at_all text rest after spaces is =
+    let closes : tokens_at fresh text ≡ Token.end_array ∷ tokens_at after_value after = same_tokens fresh text rest spaces ∙ ap (tokens_at fresh) is ∙ close_array_at fresh after refl in record {
+      items = no_items;
+      read = λ depth. items_over (value depth) (length (tokens_at fresh text)) (tokens_at fresh text) (tokens_at after_value after) (omega (arith, ap length closes)) (ap after_end_array closes);
+      are = refl;
+      shorter = omega (arith, ap length closes);
+      fewer = omega (arith, spaces.no_longer, ap length is);
+      utf8 = and_then_like text rest after spaces.utf8 (like_after_byte rest after 93 is (omega arith));
+    }
+
+module _ (text rest after behind : List ℕ) (found : List (Result Field LineCause)) (s : Seen) (l : IsAfterElements text found rest) (scalar : IsScalar rest s after) (gap : IsAfterSpaces after behind) where
   one_read : tokens_at l.place rest ≡ scalar.token ∷ tokens_at after_value after
   one_read = scalar.reads l.place l.begins
 
@@ -398,11 +525,13 @@ module _ (text rest after : List ℕ) (found : List (Result Field LineCause)) (s
   joined : (r : Result Field LineCause) (ds : Items) → r ≡ field_told (told s) → elements_of (l.before (item scalar.datum ds)) ≡ (found ++ r ∷ []) ++ elements_of ds
   joined r ds is = l.are (item scalar.datum ds) ∙ one_element found (elements_of ds) (field_of true scalar.datum) r (scalar.field ∙ sym (is ∙ ap field_told scalar.look))
 
+  like_behind : AreLike text behind
+  like_behind = and_then_like text rest behind l.utf8 (and_then_like rest after behind scalar.utf8 gap.utf8)
+
   -- an element before a comma
-  pub element_and_comma : (next spaced : List ℕ) (r : Result Field LineCause) → after ≡ 44 ∷ spaced → lex between next ≡ lex between spaced → length next ≤ length spaced → (IsAscii next → IsAscii spaced) → r ≡ field_told (told s)
-      → IsAfterElements text (found ++ r ∷ []) next
-  element_and_comma next spaced r comma same len low is =
-      let goes : tokens_at after_value after ≡ tokens_at after_comma next = ap (tokens_at after_value) comma ∙ comma_at spaced ∙ ap (punctuate after_comma) (sym same) in record {
+  pub element_and_comma : (next spaced : List ℕ) (r : Result Field LineCause) → behind ≡ 44 ∷ spaced → IsAfterSpaces spaced next → r ≡ field_told (told s) → IsAfterElements text (found ++ r ∷ []) next
+  element_and_comma next spaced r comma spaces is =
+      let goes : tokens_at after_value after ≡ tokens_at after_comma next = same_tokens after_value after behind gap ∙ ap (tokens_at after_value) comma ∙ comma_at spaced ∙ same_tokens after_comma spaced next spaces in record {
         place = after_comma;
         begins = refl;
         turns = l.turns - 1;
@@ -411,25 +540,34 @@ module _ (text rest after : List ℕ) (found : List (Result Field LineCause)) (s
         read = λ depth. one_more depth ∙ ap (λ ts. parse_map (λ ds. l.before (item scalar.datum ds)) (converted of_items (items (value depth) (l.turns - 1) ts))) goes;
         are = λ ds. joined r ds is;
         no_more = omega (arith, l.no_more, ap length one_read, ap length goes);
-        no_longer = omega (arith, l.no_longer, scalar.fewer, ap length comma, len);
-        ascii = λ a. l.ascii (scalar.ascii (subst IsAscii (sym comma) (IsAscii-cons 44 spaced (omega arith) (low a))));
+        no_longer = omega (arith, l.no_longer, scalar.fewer, gap.no_longer, ap length comma, spaces.no_longer);
+        utf8 = and_then_like text behind next like_behind (and_then_like behind spaced next (like_after_byte behind spaced 44 comma (omega arith)) spaces.utf8);
       }
 
   -- the last element
-  pub element_and_bracket : (next : List ℕ) (r : Result Field LineCause) → after ≡ 93 ∷ next → r ≡ field_told (told s) → AreElements text (found ++ r ∷ []) next
+  pub element_and_bracket : (next : List ℕ) (r : Result Field LineCause) → behind ≡ 93 ∷ next → r ≡ field_told (told s) → AreElements text (found ++ r ∷ []) next
   element_and_bracket next r bracket is =
-      let closes : tokens_at after_value after ≡ Token.end_array ∷ tokens_at after_value next = ap (tokens_at after_value) bracket ∙ close_array_at after_value next refl in record {
+      let closes : tokens_at after_value after ≡ Token.end_array ∷ tokens_at after_value next = same_tokens after_value after behind gap ∙ ap (tokens_at after_value) bracket ∙ close_array_at after_value next refl in record {
         items = l.before (item scalar.datum no_items);
         read = λ depth. one_more depth
             ∙ ap (parse_map (λ ds. l.before (item scalar.datum ds)))
             (items_over (value depth) (l.turns - 1) (tokens_at after_value after) (tokens_at after_value next) (omega (arith, l.enough, ap length one_read, ap length closes)) (ap after_end_array closes));
         are = joined r no_items is ∙ no_element (found ++ r ∷ []);
         shorter = omega (arith, l.no_more, ap length one_read, ap length closes);
-        fewer = omega (arith, l.no_longer, scalar.fewer, ap length bracket);
-        ascii = λ a. l.ascii (scalar.ascii (subst IsAscii (sym bracket) (IsAscii-cons 93 next (omega arith) a)));
+        fewer = omega (arith, l.no_longer, scalar.fewer, gap.no_longer, ap length bracket);
+        utf8 = and_then_like text behind next like_behind (like_after_byte behind next 93 bracket (omega arith));
       }
 
 -- ---- the members of a line, a turn at a time
+
+-- what a reading says of what comes after it, where more is known
+pub if_read : {A E : Type 0} (r : Result (Option A) E) (P : Type 0) (Q R : A → Type 0) → ((a : A) → Q a → R a) → IfOk r (λ o. MatchOption o P Q) → IfOk r (λ o. MatchOption o P R)
+if_read (Ok None) P Q R f h = h
+if_read (Ok (Some a)) P Q R f h = f a h
+if_read (Err e) P Q R f h = tt
+
+pub member_of : (text key valued spaced rest : List ℕ) (d : Data) → IsKey text key spaced → IsAfterSpaces spaced valued → IsValue valued d rest → IsMember text key d rest
+member_of text key valued spaced rest d named spaces v = record { valued = spaced; named = named; value = value_after_spaces valued spaced rest d spaces v }
 
 -- the members before those of `rest`, which are kept, of those of `text`
 pub record IsAfterMembers (old : KeptMembers) (text : List ℕ) (kept : KeptMembers) (rest : List ℕ) : Type 0 where
@@ -440,56 +578,68 @@ pub record IsAfterMembers (old : KeptMembers) (text : List ℕ) (kept : KeptMemb
   pub grown : Members
   pub read : converted (λ js. of_members js no_members) (members (value 126) (length (tokens_at fresh text)) (tokens_at fresh text)) ≡ converted (λ js. of_members js grown) (members (value 126) turns (tokens_at place rest))
   pub tells : Tells old no_members → Tells kept grown
-  pub ascii : IsAscii rest → IsAscii text
+  pub utf8 : AreLike text rest
 
-pub no_members_yet : (old : KeptMembers) (text rest : List ℕ) → lex between rest ≡ lex between text → (IsAscii rest → IsAscii text) → IsAfterMembers old text old rest
-no_members_yet old text rest same low =
-    let is : tokens_at fresh rest ≡ tokens_at fresh text = ap (punctuate fresh) same in record {
+pub no_members_yet : (old : KeptMembers) (text rest : List ℕ) → IsAfterSpaces text rest → IsAfterMembers old text old rest
+no_members_yet old text rest spaces =
+    let is = same_tokens fresh text rest spaces in record {
       place = fresh;
       begins = refl;
       turns = length (tokens_at fresh text);
       enough = omega (arith, ap length is);
       grown = no_members;
-      read = ap (λ ts. converted (λ js. of_members js no_members) (members (value 126) (length (tokens_at fresh text)) ts)) (sym is);
+      read = ap (λ ts. converted (λ js. of_members js no_members) (members (value 126) (length (tokens_at fresh text)) ts)) is;
       tells = λ tells. tells;
-      ascii = low;
+      utf8 = spaces.utf8;
     }
 
-module _ (old kept new : KeptMembers) (text rest named valued after key : List ℕ) (d : Data) (l : IsAfterMembers old text kept rest) (quoted : rest ≡ 34 ∷ named) (k : IsKey named key valued) (v : IsValue valued d after)
+-- an object's text, behind its brace
+object_read : (line text : List ℕ) → line ≡ 123 ∷ text → converted of_json (value 127 (tokens line)) ≡ parse_map object (converted (λ js. of_members js no_members) (members (value 126) (length (tokens_at fresh text)) (tokens_at fresh text)))
+object_read line text opens =
+    ap (λ t. converted of_json (value 127 (tokens_at fresh t))) opens ∙ ap (λ ts. converted of_json (value 127 ts)) (open_object_at text) ∙ at_object 127 (tokens_at fresh text) (omega arith)
+
+-- the tokens go on with a member that the walk has not read
+pub member_is_left : (old kept : KeptMembers) (line text rest named : List ℕ) → IsAfterMembers old text kept rest → line ≡ 123 ∷ text → rest ≡ 34 ∷ named
+    → (ms : Members) × (json_of line ≡ json_from ms rest) × (Tells old no_members → Tells kept ms)
+member_is_left old kept line text rest named l opens quoted =
+    let same : tokens_at l.place rest ≡ tokens rest = ap (tokens_at l.place) quoted ∙ quote_placed l.place named l.begins ∙ ap tokens (sym quoted) in
+    let read = object_read line text opens ∙ ap (parse_map object) (l.read ∙ ap (λ ts. converted (λ js. of_members js l.grown) (members (value 126) l.turns ts)) same) in
+    (l.grown, json_goes_on line rest l.grown l.turns (and_then_like line text rest (like_after_byte line text 123 opens (omega arith)) l.utf8) (omega (arith, l.enough, ap length same)) read, l.tells)
+
+module _ (old kept new : KeptMembers) (text rest named key after : List ℕ) (d : Data) (l : IsAfterMembers old text kept rest) (quoted : rest ≡ 34 ∷ named) (m : IsMember named key d after)
     (joins : (ms : Members) → Tells kept ms → Tells new (put key d ms)) where
-  key_read : tokens_at l.place rest ≡ Token.key key ∷ tokens_at fresh valued
-  key_read = ap (tokens_at l.place) quoted ∙ k.reads l.place l.begins
+  key_read : tokens_at l.place rest ≡ Token.key key ∷ tokens_at fresh m.valued
+  key_read = ap (tokens_at l.place) quoted ∙ m.named.reads l.place l.begins
 
   with_one : converted (λ js. of_members js no_members) (members (value 126) (length (tokens_at fresh text)) (tokens_at fresh text))
       ≡ converted (λ js. of_members js (put key d l.grown)) (members (value 126) (l.turns - 1) (tokens_at after_value after))
   with_one =
       l.read
-      ∙ member_read (value 126) l.grown l.turns key (tokens_at l.place rest) (tokens_at fresh valued) (tokens_at after_value after) d (omega (arith, l.enough, ap length key_read)) (ap read_key key_read) (v.read 126 (omega arith))
+      ∙ member_read (value 126) l.grown l.turns key (tokens_at l.place rest) (tokens_at fresh m.valued) (tokens_at after_value after) d (omega (arith, l.enough, ap length key_read)) (ap read_key key_read) (m.value.read 126 (omega arith))
 
-  ascii_before : IsAscii after → IsAscii text
-  ascii_before a = l.ascii (subst IsAscii (sym quoted) (IsAscii-cons 34 named (omega arith) (k.ascii (v.ascii a))))
+  like_after_it : AreLike text after
+  like_after_it = and_then_like text rest after l.utf8 (and_then_like rest named after (like_after_byte rest named 34 quoted (omega arith)) (and_then_like named m.valued after m.named.utf8 m.value.utf8))
 
   -- a member before a comma
-  pub member_and_comma : (next spaced : List ℕ) → after ≡ 44 ∷ spaced → lex between next ≡ lex between spaced → (IsAscii next → IsAscii spaced) → IsAfterMembers old text new next
-  member_and_comma next spaced comma same low =
-      let goes : tokens_at after_value after ≡ tokens_at after_comma next = ap (tokens_at after_value) comma ∙ comma_at spaced ∙ ap (punctuate after_comma) (sym same) in record {
+  pub member_and_comma : (next spaced : List ℕ) → after ≡ 44 ∷ spaced → IsAfterSpaces spaced next → IsAfterMembers old text new next
+  member_and_comma next spaced comma spaces =
+      let goes : tokens_at after_value after ≡ tokens_at after_comma next = ap (tokens_at after_value) comma ∙ comma_at spaced ∙ same_tokens after_comma spaced next spaces in record {
         place = after_comma;
         begins = refl;
         turns = l.turns - 1;
-        enough = omega (arith, l.enough, ap length key_read, v.shorter, ap length goes);
+        enough = omega (arith, l.enough, ap length key_read, m.value.shorter, ap length goes);
         grown = put key d l.grown;
         read = with_one ∙ ap (λ ts. converted (λ js. of_members js (put key d l.grown)) (members (value 126) (l.turns - 1) ts)) goes;
         tells = λ tells. joins l.grown (l.tells tells);
-        ascii = λ a. ascii_before (subst IsAscii (sym comma) (IsAscii-cons 44 spaced (omega arith) (low a)));
+        utf8 = and_then_like text after next like_after_it (and_then_like after spaced next (like_after_byte after spaced 44 comma (omega arith)) spaces.utf8);
       }
 
   -- the last member of a line
-  pub member_and_end : (line : List ℕ) → line ≡ 123 ∷ text → tokens_at after_value after ≡ Token.end_object ∷ [] → IsAscii after → (ms : Members) × (json_of line ≡ Ok (object ms)) × (Tells old no_members → Tells new ms)
-  member_and_end line opens closes low =
+  pub member_and_end : (line : List ℕ) → line ≡ 123 ∷ text → tokens_at after_value after ≡ Token.end_object ∷ [] → IsUtf8 after → (ms : Members) × (json_of line ≡ Ok (object ms)) × (Tells old no_members → Tells new ms)
+  member_and_end line opens closes utf8 =
       let ms = put key d l.grown in
       let all : converted (λ js. of_members js no_members) (members (value 126) (length (tokens_at fresh text)) (tokens_at fresh text)) ≡ Some (ms, []) =
-      with_one ∙ members_over (value 126) ms (l.turns - 1) (tokens_at after_value after) [] (omega (arith, l.enough, ap length key_read, v.shorter, ap length closes)) (ap read_key closes) in
-      let whole : converted of_json (value 127 (tokens line)) ≡ Some (object ms, []) =
-      ap (λ t. converted of_json (value 127 (tokens_at fresh t))) opens ∙ ap (λ ts. converted of_json (value 127 ts)) (open_object_at text) ∙ at_object 127 (tokens_at fresh text) (omega arith) ∙ ap (parse_map object) all in
-      let read : IsAscii line = subst IsAscii (sym opens) (IsAscii-cons 123 text (omega arith) (ascii_before low)) in
-      (ms, json_of-read line (object ms) (IsUtf8-from_ascii line read) (whole_read (value 127 (tokens line)) (object ms) whole), λ tells. joins l.grown (l.tells tells))
+      with_one ∙ members_over (value 126) ms (l.turns - 1) (tokens_at after_value after) [] (omega (arith, l.enough, ap length key_read, m.value.shorter, ap length closes)) (ap read_key closes) in
+      let whole : converted of_json (value 127 (tokens line)) ≡ Some (object ms, []) = object_read line text opens ∙ ap (parse_map object) all in
+      let like = and_then_like line text after (like_after_byte line text 123 opens (omega arith)) like_after_it in
+      (ms, json_of-read line (object ms) (like.1 utf8) (whole_read (value 127 (tokens line)) (object ms) whole), λ tells. joins l.grown (l.tells tells))

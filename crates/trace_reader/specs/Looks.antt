@@ -5,14 +5,16 @@ use Rattle.json.specs.Json as json
 use Rattle.json.specs.Token.{Token}
 use Rattle.serde_json.specs.Data.{Num, unsigned, negative, float, Data, null, boolean, number, string, array, object, Items, no_items, item, Members}
 use Rattle.serde_json.specs.Find.{get_member, as_array}
-use Rattle.serde_json.specs.Read.{of_json, max_depth}
+use Rattle.std.specs.Str.{is_utf8}
+use Rattle.json.specs.Lex.{tokens}
+use Rattle.serde_json.specs.Read.{of_json, of_members, converted, max_depth}
 use Rattle.trace_types.specs.declared.kinds.Field.{Field}
 use Rattle.trace_types.specs.declared.kinds.Field.TheVariants.{Held, Null, Me}
 use Rattle.trace_types.specs.declared.limits.TheConstants.{MAX_NAME, MAX_FIELDS}
 use Rattle.trace_types.specs.Names as Names
 use Rattle.trace_types.specs.declared.names.OpName.{OpName}
 use Rattle.trace_reader.specs.declared.fault.LineCause.{LineCause}
-use Rattle.trace_reader.specs.declared.fault.LineCause.TheVariants.{WrongType, Missing, OutOfRange}
+use Rattle.trace_reader.specs.declared.fault.LineCause.TheVariants.{NotJson, WrongType, Missing, OutOfRange}
 use Rattle.trace_reader.specs.declared.names.NumberName.{NumberName}
 use Rattle.trace_reader.specs.declared.names.NumberName.TheVariants as names
 use Rattle.trace_reader.specs.declared.names.MemberName.{MemberName}
@@ -258,3 +260,17 @@ is_array (object ms) = false
 -- the value that these tokens are, as serde_json reads a text of them
 abbrev pub read_tokens : List Token → Option Data
 read_tokens ts = option_and_then of_json (option_and_then (λ p. json.if_last p.0 p.1) (json.value max_depth ts))
+
+-- the members, where no token is left
+abbrev pub all_members : Option (Members × List Token) → Option Members
+all_members None = None
+all_members (Some (ms, [])) = Some ms
+all_members (Some (ms, t ∷ ts)) = None
+
+-- the members of a line's object, of which the first ones are `before`, and these tokens the others with the closing brace
+unfoldable pub members_from : Members → List Token → Option Members
+members_from before ts = all_members (converted (λ js. of_members js before) (json.members (json.value 126) (length ts) ts))
+
+-- the value of a line, of whose object the first members are `before`, and which goes on with this text, as serde_json reads it
+unfoldable pub json_from : Members → List ℕ → Result Data LineCause
+json_from before rest = if is_utf8 rest then ok_or (option_map object (members_from before (tokens rest))) NotJson else Err NotJson

@@ -1,11 +1,12 @@
 //! An operation: of a line, or of a value.
-ghost use Rattle.std.specs.Prelude.{◌≡◌, Ok, IfOk, IfSome, IsTrue, MatchResult};
+ghost use Rattle.std.specs.Prelude.{IfOk, IsTrue};
 ghost use Rattle.serde_json.specs.Data.{Members, object};
 ghost use Rattle.serde_json.specs.Find.{as_object};
 ghost use Rattle.serde_json.specs.View.{view};
 ghost use Rattle.trace_types.specs.Limits.{is_kind};
-ghost use Rattle.trace_reader.specs.Members.{FailsAs, Gives};
+ghost use Rattle.trace_reader.specs.Members.{Gives};
 ghost use Rattle.trace_reader.specs.Looks.{Tells};
+ghost use Rattle.trace_reader.specs.Plain.{op_from};
 ghost use Rattle.trace_reader.specs.Reading.{on_object};
 ghost use Rattle.trace_reader.specs.Reading as Reading;
 ghost use Rattle.trace_reader.specs.Writing.{op_of_line};
@@ -13,12 +14,12 @@ ghost use Rattle.trace_reader.specs.Writing.{op_of_line};
 use crate::fault::LineCause;
 use crate::kept::KeptMembers;
 use crate::kinds;
+use crate::line_scratch::LineScratch;
 use crate::members::{number, op_name};
 use crate::names::NumberName;
-use crate::plain::line::plain_members;
-use crate::tokens::line::{Unread, line_members};
+use crate::plain::line::{Walk, plain_members};
+use crate::tokens::line::{Unread, line_members, rest_members};
 use crate::values::value_members;
-use crate::walks::LineScratch;
 use json::Scratch;
 use serde_json::Value;
 use std::alloc::Global;
@@ -35,28 +36,36 @@ use trace_types::ops::Op;
 pub fn line_op(alloc: Global, line: &[u8], scratch: &mut LineScratch) -> Result<Op, LineCause>
     ensures { Gives result (op_of_line line.now) }
 {
-    if scratch.is_left_out() {
-        return token_op(alloc, line, &mut scratch.tokens);
-    }
-    let found = plain_op(alloc, line)?;
-    scratch.note(found.is_some());
-    match found {
-        Some(op) => Ok(op),
-        None => token_op(alloc, line, &mut scratch.tokens),
+    let mut kept = KeptMembers::none();
+    match plain_members(alloc, line, &mut kept)? {
+        Walk::Whole => members_of_op(alloc, &kept),
+        Walk::UpTo(rest) => {
+            scratch.note(rest);
+            rest_op(alloc, rest, &mut scratch.tokens, &mut kept)
+        }
+        Walk::Nowhere => {
+            scratch.note(line);
+            token_op(alloc, line, &mut scratch.tokens)
+        }
     }
 }
 
-// The operation that a line is, or its first fault, where the line is plain.
+// The operation of which some members are kept, and the others come token by token.
+#[inline(never)]
 #[tactic(auto, unfolding(crate::specs::Reading::read_op))]
-fn plain_op(alloc: Global, line: &[u8]) -> Result<Option<Op>, LineCause>
-    ensures { MatchResult result (λ found. IfSome found (λ op. op_of_line line.now ≡ Ok op)) (λ cause. FailsAs cause (op_of_line line.now)) }
+fn rest_op<'a>(
+    alloc: Global,
+    rest: &'a [u8],
+    scratch: &'a mut Scratch,
+    kept: &mut KeptMembers<'a>,
+) -> Result<Op, LineCause>
+    ensures { (before : Members) → Tells kept.old before → Gives result (op_from before rest.now) }
 {
-    let mut kept = KeptMembers::none();
-    if !plain_members(alloc, line, &mut kept)? {
-        return Ok(None);
+    match rest_members(alloc, rest, scratch, kept) {
+        Ok(()) => members_of_op(alloc, kept),
+        Err(Unread::Refused) => Err(LineCause::NotJson),
+        Err(Unread::Memory) => Err(LineCause::Memory),
     }
-    let op = members_of_op(alloc, &kept)?;
-    Ok(Some(op))
 }
 
 // The operation that a line is, token by token. Apart, so that the walk over a plain line has few locals to set to zero.

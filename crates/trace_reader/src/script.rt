@@ -5,10 +5,10 @@ ghost use Rattle.trace_reader.specs.Scripts.{is_divider, joined, after_request, 
 ghost use Rattle.trace_reader.specs.Scripts as Scripts;
 
 use crate::fault::{LineCause, LineFault};
+use crate::line_scratch::LineScratch;
 use crate::lines::{cut_line, is_blank, json};
 use crate::request::{RequestLine, read_request};
 use crate::trace::read_line;
-use crate::walks::LineScratch;
 use std::alloc::Global;
 use trace_types::limits::MAX_LINE;
 use trace_types::sequence::Sequence;

@@ -5,9 +5,9 @@ ghost use Rattle.trace_reader.specs.Reading.{after_line, push_cause, lines_of, I
 ghost use Rattle.trace_reader.specs.Reading as Reading;
 
 use crate::fault::{LineCause, LineFault};
+use crate::line_scratch::LineScratch;
 use crate::lines::{cut_line, is_blank};
 use crate::op::line_op;
-use crate::walks::LineScratch;
 use std::alloc::Global;
 use trace_types::limits::MAX_LINE;
 use trace_types::ops::{Op, TraceFault};
@@ -23,13 +23,42 @@ pub fn read_trace(alloc: Global, bytes: &[u8]) -> Result<Trace, LineFault>
     ensures memory { IfErr result (λ e. IsReadUpTo e.line (Reading.read_trace bytes.now)) }
     ensures line { IfErr result (λ e. (1 ≤ e.line) × (e.line ≤ length (lines_of bytes.now))) }
 {
-    let mut trace = Trace::new(alloc);
     let mut scratch = LineScratch::new(alloc);
+    read_lines(alloc, bytes, &mut scratch)
+}
+
+/// A trace, and how many bytes of its text were read token by token: those of each line that isn't plain, from its first member on that isn't.
+#[derive(Drop)]
+pub struct CountedTrace {
+    pub trace: Trace,
+    pub token_bytes: usize,
+}
+
+/// The trace that a text is, as `read_trace` reads it, and what that took.
+pub fn read_trace_counted(alloc: Global, bytes: &[u8]) -> Result<CountedTrace, LineFault>
+    ensures ok { IfOk result (λ read. Reading.read_trace bytes.now ≡ Ok read.trace) }
+    ensures fault { IfErr result (λ e. e.cause ≢ LineCause.Memory → Reading.read_trace bytes.now ≡ Err e) }
+{
+    let mut scratch = LineScratch::new(alloc);
+    let trace = read_lines(alloc, bytes, &mut scratch)?;
+    Ok(CountedTrace {
+        trace,
+        token_bytes: scratch.token_bytes,
+    })
+}
+
+fn read_lines(alloc: Global, bytes: &[u8], scratch: &mut LineScratch) -> Result<Trace, LineFault>
+    ensures ok { IfOk result (λ t. Reading.read_trace bytes.now ≡ Ok t) }
+    ensures fault { IfErr result (λ e. e.cause ≢ LineCause.Memory → Reading.read_trace bytes.now ≡ Err e) }
+    ensures memory { IfErr result (λ e. IsReadUpTo e.line (Reading.read_trace bytes.now)) }
+    ensures line { IfErr result (λ e. (1 ≤ e.line) × (e.line ≤ length (lines_of bytes.now))) }
+{
+    let mut trace = Trace::new(alloc);
     let mut rest = bytes;
     let mut number = 1;
     'lines: loop {
         let (line, more) = cut_line(rest);
-        if let Err(cause) = read_line(alloc, line, &mut trace, &mut scratch) {
+        if let Err(cause) = read_line(alloc, line, &mut trace, scratch) {
             return Err(LineFault {
                 line: number,
                 cause,

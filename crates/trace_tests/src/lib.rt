@@ -7,3 +7,5 @@ mod lines;
 mod traces;
 #[cfg(test)]
 mod tree;
+#[cfg(test)]
+mod walks;

@@ -4,7 +4,7 @@ ghost use Rattle.trace_reader.specs.Plain.{AreElements};
 
 use crate::fault::LineCause;
 use crate::plain::scalars::scalar;
-use crate::plain::texts::after_space;
+use crate::plain::texts::after_spaces;
 use crate::seen::field;
 use std::alloc::{AllocError, Global};
 use trace_types::kinds::Field;
@@ -17,17 +17,17 @@ pub fn elements(
     ensures { IfOk result (λ read. IfSome read (λ found. AreElements text.now found.0.items found.1.now)) }
 {
     let mut found = Vec::new(alloc);
-    if let [b']', rest @ ..] = text {
-        return Ok(Some((found, rest)));
+    let mut rest = after_spaces(text);
+    if let [b']', after @ ..] = rest {
+        return Ok(Some((found, after)));
     }
-    let mut rest = text;
     'elements: loop {
         let Some((seen, after)) = scalar(rest) else {
             return Ok(None);
         };
         found.push(field(seen))?;
-        match after {
-            [b',', next @ ..] => rest = after_space(next),
+        match after_spaces(after) {
+            [b',', next @ ..] => rest = after_spaces(next),
             [b']', next @ ..] => return Ok(Some((found, next))),
             _ => return Ok(None),
         }

@@ -5,8 +5,11 @@ ghost use Rattle.trace_reader.specs.Looks.{IsNamed, name_text};
 ghost use Rattle.trace_reader.specs.Plain.{IsKey};
 
 use crate::names::{MemberName, NumberName, written_name};
-use crate::plain::texts::{is_unescaped, quoted};
+use crate::plain::texts::unescaped;
 use trace_types::names::OpName;
+
+// How many bytes the longest name of an operation has: `new_cyclic`.
+const LONGEST: usize = 10;
 
 /// The name of a member, of which the opening quote was read, or None where no operation asks for it, and what comes after its colon.
 #[inline(always)]
@@ -44,13 +47,10 @@ fn short_member_name(text: &[u8]) -> Option<(MemberName, &[u8])>
 fn other_key(text: &[u8]) -> Option<(Option<MemberName>, &[u8])>
     ensures { IfSome result (λ found. (key : List ℕ) × IsNamed key found.0 × IsKey text.now key found.1.now) }
 {
-    let (word, after) = quoted(text)?;
+    let (word, after) = unescaped(text)?;
     let [b':', rest @ ..] = after else {
         return None;
     };
-    if !is_unescaped(word) {
-        return None;
-    }
     Some((written_name(word), rest))
 }
 
@@ -74,9 +74,22 @@ pub fn op_name(text: &[u8]) -> Option<(OpName, &[u8])>
 fn other_op_name(text: &[u8]) -> Option<(OpName, &[u8])>
     ensures { IfSome result (λ found. text.now ≡ Names.name_text found.0 ++ 34 ∷ found.1.now) }
 {
-    let (word, rest) = quoted(text)?;
+    let (word, rest) = short_text(text)?;
     let name = named(word)?;
     Some((name, rest))
+}
+
+// What stands before the closing quote, and what comes after it, of a text no longer than the longest name of an operation.
+#[inline(always)]
+fn short_text(text: &[u8]) -> Option<(&[u8], &[u8])>
+    ensures { IfSome result (λ found. text.now ≡ found.0.now ++ 34 ∷ found.1.now) }
+{
+    'bytes: for at in 0..text.len().min(LONGEST + 1) {
+        if text[at] == b'"' {
+            return Some((&text[..at], &text[at + 1..]));
+        }
+    }
+    None
 }
 
 // The operation that is written so, of those that `op_name` doesn't tell by itself. Two matches, since one of so many arms gets no proof.

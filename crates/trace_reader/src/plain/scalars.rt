@@ -1,12 +1,12 @@
 //! Values of one token.
-ghost use Rattle.std.specs.Prelude.{IfSome};
+ghost use Rattle.std.specs.Prelude.{◌∷◌, IfSome};
 ghost use Rattle.serde_json.specs.Data.{Data, string};
 ghost use Rattle.trace_types.specs.Names.{name_text};
 ghost use Rattle.trace_reader.specs.Plain.{IsScalar, IsValue};
 
 use crate::plain::names::op_name;
 use crate::plain::numbers::natural;
-use crate::plain::texts::{is_delimited, is_unescaped, quoted};
+use crate::plain::texts::{is_delimited, unescaped};
 use crate::seen::Seen;
 use trace_types::names::OpName;
 
@@ -55,19 +55,40 @@ pub fn op(text: &[u8]) -> Option<(OpName, &[u8])>
     Some((name, rest))
 }
 
-/// A value that is passed: a natural number, null or a text without escapes. What comes after it.
+/// A value that is passed: a natural number, null, a text without escapes or a truth value. What comes after it.
 pub fn passed(text: &[u8]) -> Option<&[u8]>
     ensures { IfSome result (λ rest. (d : Data) × IsValue text.now d rest.now) }
 {
-    if let Some((_, rest)) = scalar(text) {
-        return Some(rest);
+    if let [b'"', inside @ ..] = text {
+        return passed_text(inside);
     }
-    let [b'"', inside @ ..] = text else {
-        return None;
-    };
-    let (word, rest) = quoted(inside)?;
-    if !is_unescaped(word) || !is_delimited(rest) {
+    match scalar(text) {
+        Some((_, rest)) => Some(rest),
+        None => truth_value(text),
+    }
+}
+
+// A text of which the opening quote was read.
+fn passed_text(text: &[u8]) -> Option<&[u8]>
+    ensures { IfSome result (λ rest. (d : Data) × IsValue (34 ∷ text.now) d rest.now) }
+{
+    let (_, rest) = unescaped(text)?;
+    if !is_delimited(rest) {
         return None;
     }
     Some(rest)
+}
+
+fn truth_value(text: &[u8]) -> Option<&[u8]>
+    ensures { IfSome result (λ rest. (d : Data) × IsValue text.now d rest.now) }
+{
+    match text {
+        [b't', b'r', b'u', b'e', rest @ ..] => if is_delimited(rest) { Some(rest) } else { None },
+        [b'f', b'a', b'l', b's', b'e', rest @ ..] => if is_delimited(rest) {
+            Some(rest)
+        } else {
+            None
+        },
+        _ => None,
+    }
 }

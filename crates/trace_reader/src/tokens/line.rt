@@ -1,10 +1,10 @@
 //! The members of a line's object.
-ghost use Rattle.std.specs.Prelude.{◌≡◌, Some, None, Ok, Err, IfOk, IsErrOf, false};
+ghost use Rattle.std.specs.Prelude.{◌≡◌, Some, None, Ok, Err, IfOk, OnOk, IsErrOf, false};
 ghost use Rattle.std.specs.Bool.{MatchBool};
 ghost use Rattle.serde_json.specs.Data.{Data, Members, no_members, object};
 ghost use Rattle.trace_reader.specs.Reading.{json_of};
 ghost use Rattle.trace_reader.specs.declared.fault.LineCause.TheVariants.{NotJson};
-ghost use Rattle.trace_reader.specs.Looks.{Tells, is_object, read_tokens};
+ghost use Rattle.trace_reader.specs.Looks.{Tells, is_object, read_tokens, members_from, json_from};
 
 use crate::kept::KeptMembers;
 use crate::tokens::object::{glance, read_members};
@@ -44,6 +44,43 @@ pub fn line_members<'a>(
     whole(alloc, &mut reader, kept)
 }
 
+/// The members of a line's object that come after those that are kept, with its closing brace: they join those.
+#[tactic(auto, unfolding(crate::specs::Looks::json_from))]
+pub fn rest_members<'a>(
+    alloc: Global,
+    rest: &'a [u8],
+    scratch: &'a mut Scratch,
+    kept: &mut KeptMembers<'a>,
+) -> Result<(), Unread>
+    ensures ok { OnOk result ((before : Members) → (ms : Members) × (json_from before rest.now ≡ Ok (object ms)) × (Tells kept.old before → Tells kept.new ms)) }
+    ensures err { IsErrOf result Unread.Refused → (before : Members) → json_from before rest.now ≡ Err NotJson }
+{
+    let Ok(text) = simdutf8::basic::from_utf8(rest) else {
+        return Err(Unread::Refused);
+    };
+    let Ok(mut reader) = Reader::new(text, scratch) else {
+        return Err(Unread::Memory);
+    };
+    last_members(alloc, &mut reader, kept)
+}
+
+// The members of a line's object, of which the first ones are kept, and nothing behind its closing brace.
+#[inline(always)]
+fn last_members<'a>(
+    alloc: Global,
+    reader: &mut Reader<'a>,
+    kept: &mut KeptMembers<'a>,
+) -> Result<(), Unread>
+    ensures ok { OnOk result ((before : Members) → (ms : Members) × (members_from before reader.old ≡ Some ms) × (Tells kept.old before → Tells kept.new ms)) }
+    ensures err { IsErrOf result Unread.Refused → (before : Members) → members_from before reader.old ≡ None }
+{
+    read_members(alloc, reader, MAX_DEPTH - 1, kept)?;
+    if let Some(_) = reader.next() {
+        return Err(Unread::Refused);
+    }
+    Ok(())
+}
+
 // All of the tokens.
 fn whole<'a>(
     alloc: Global,
@@ -59,10 +96,7 @@ fn whole<'a>(
         return Err(Unread::Refused);
     };
     if let Token::BeginObject = token {
-        read_members(alloc, reader, MAX_DEPTH - 1, kept)?;
-        if let Some(_) = reader.next() {
-            return Err(Unread::Refused);
-        }
+        last_members(alloc, reader, kept)?;
         return Ok(true);
     }
     let Some(_) = glance(reader, token, MAX_DEPTH) else {

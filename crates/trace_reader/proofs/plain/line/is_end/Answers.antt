@@ -1,16 +1,15 @@
-use Rattle.std.proofs.Common.{◌≡◌, ◌∷◌, [], ap, ◌∙◌, arith}
+use Rattle.std.proofs.Common.{◌≡◌, ◌-◌, ◌∷◌, length, take, drop, sym, ◌∙◌, arith}
 use Rattle.std.proofs.lemmas.Grind.{common_steps}
-use Rattle.json.specs.Lex.{after_value}
-use Rattle.trace_reader.specs.Plain.{tokens_at}
-use Rattle.trace_reader.proofs.PlainLemmas.{close_object_at, close_object_at_return}
+use Rattle.trace_reader.proofs.PlainLemmas.{end_tokens, end_utf8}
 use Rattle.trace_reader.proofs.plain.line.is_end.Goals as goal
 
-pub returns-in-125-clause-tokens : goal.returns-in-125-clause-tokens
-returns-in-125-clause-tokens c ended =
-    let is : c.args.text.now ≡ 125 ∷ [] = grind (arith, common_steps) in
-    ap (tokens_at after_value) is ∙ close_object_at
-
-pub returns-in-125-2-clause-tokens : goal.returns-in-125-2-clause-tokens
-returns-in-125-2-clause-tokens c ended =
-    let is : c.args.text.now ≡ 125 ∷ 13 ∷ [] = grind (arith, common_steps) in
-    ap (tokens_at after_value) is ∙ close_object_at_return
+pub returns : goal.returns
+returns c =
+    let text = c.args.text.now in
+    let rest = c.after_spaces.result.now in
+    let behind = take (length rest - 1) (drop 1 rest) in
+    let is : rest ≡ 125 ∷ behind = grind (arith, common_steps) in
+    record {
+      tokens = λ ended. end_tokens text rest behind c.after_spaces.ensures is (sym c.is_blank.ensures ∙ ended);
+      utf8 = λ ended. end_utf8 text rest behind c.after_spaces.ensures is (sym c.is_blank.ensures ∙ ended);
+    }

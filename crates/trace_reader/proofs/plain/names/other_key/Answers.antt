@@ -1,7 +1,5 @@
-use Rattle.std.proofs.Common.{◌≡◌, ◌-◌, ◌∷◌, length, take, drop, true, arith}
+use Rattle.std.proofs.Common.{◌≡◌, ◌-◌, ◌∷◌, length, take, drop, arith}
 use Rattle.std.proofs.lemmas.Grind.{common_steps}
-use Rattle.std.specs.List.{list_all}
-use Rattle.trace_reader.specs.Plain.{is_unescaped_byte}
 use Rattle.trace_reader.proofs.PlainLemmas.{key_unescaped}
 use Rattle.trace_reader.proofs.plain.names.other_key.Goals as goal
 
@@ -11,5 +9,4 @@ returns c =
     let after = c.in_ok-word.after.now in
     let rest = take (length after - 1) (drop 1 after) in
     let joint : after ≡ 58 ∷ rest = grind (arith, common_steps) in
-    let plain : list_all is_unescaped_byte word ≡ true = grind arith in
-    (word, c.written_name.ensures, key_unescaped c.args.text.now word after rest c.in_ok-word.ensures joint plain)
+    (word, c.written_name.ensures, key_unescaped c.args.text.now word after rest c.in_ok-word.ensures.quoted joint c.in_ok-word.ensures.plain)

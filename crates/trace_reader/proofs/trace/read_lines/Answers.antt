@@ -1,7 +1,7 @@
 use Rattle.std.proofs.Common.{subst}
 use Rattle.trace_reader.specs.Reading.{lines_of, IsReadUpTo}
 use Rattle.trace_reader.proofs.LineNumbers.{IsReadUpTo-after_lines}
-use Rattle.trace_reader.proofs.trace.read_trace.Goals as goal
+use Rattle.trace_reader.proofs.trace.read_lines.Goals as goal
 
 pub returns-in-Err-clause-memory : goal.returns-in-Err-clause-memory
 returns-in-Err-clause-memory c =

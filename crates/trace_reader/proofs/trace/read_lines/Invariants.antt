@@ -1,6 +1,6 @@
 use Rattle.std.proofs.Common.{◌≡◌, ◌+◌, ◌≤◌, length}
 use Rattle.trace_reader.specs.Reading.{after_lines, lines_of, read_trace}
-use Rattle.trace_reader.proofs.trace.read_trace.Given as goal
+use Rattle.trace_reader.proofs.trace.read_lines.Given as goal
 
 abbrev pub invariant-lines : goal.invariant-lines
 invariant-lines l = record {
