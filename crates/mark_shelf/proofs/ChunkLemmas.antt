@@ -66,5 +66,5 @@ IfSome-named s n k c None is there h = tt
 IfSome-named s n k c (Some d) is there h = named-there s n k c is there ∙ ap Some (sym h)
 
 -- and a look-up of its name brings it to the front
-pub sought-there : (s : Shelf) (n : ChunkName) (k : ℕ) (c : Chunk) → lookup (name_eq n) s.names ≡ Some k → lookup (nat_eq k) s.chunks ≡ Some c → record s { chunks = promoted (nat_eq k) s.chunks } ≡ sought s n
+pub sought-there : (s : Shelf) (n : ChunkName) (k : ℕ) (c : Chunk) → lookup (name_eq n) s.names ≡ Some k → lookup (nat_eq k) s.chunks ≡ Some c → record s { chunks = promoted (nat_eq k) s.chunks; joints = promoted (nat_eq k) s.joints } ≡ sought s n
 sought-there s n k c is there = rw (is, there) refl

@@ -17,7 +17,7 @@ pub named-there-law : (s : Shelf) (n : ChunkName) (c : Chunk) → named s n ≡ 
 named-there-law s n c h = there s c (lookup (name_eq n) s.names) h
 
 used-fewer : (s : Shelf) (n : ChunkName) (k : ℕ) (e : ℕ × Chunk) (b : Bool)
-    → Contains (if b then record s { chunks = promoted (nat_eq k) s.chunks } else record s { names = remove_entry (name_eq n) s.names }).chunks e → Contains s.chunks e
+    → Contains (if b then record s { chunks = promoted (nat_eq k) s.chunks; joints = promoted (nat_eq k) s.joints } else record s { names = remove_entry (name_eq n) s.names }).chunks e → Contains s.chunks e
 used-fewer s n k e true h = Contains-promoted (nat_eq k) s.chunks e h
 used-fewer s n k e false h = h
 

@@ -1,18 +1,20 @@
 -- Chunks that begin where others end.
 use Rattle.std.proofs.Common.{◌≡◌, ◌<◌, ℕ, ◌+◌, nat_eq, List, ◌∷◌, take, refl, ap, sym, subst, ◌∙◌, T, arith, inl, inr, ◌⊎◌}
-use Rattle.std.specs.Prelude.{Option, Some, None, Contains, IfSome, is_some, ◌&&◌, true, false}
+use Rattle.std.specs.Prelude.{Option, Some, None, Contains, IfSome, is_some, nat_lt, ◌&&◌, true, false, option_and_then, if◌then◌else◌}
 use Rattle.std.specs.Option.{option_map_or}
 use Rattle.std.specs.Cmp.{nat_eq_equiv}
 use Rattle.std.specs.Map.{lookup, keys_of}
 use Rattle.std.specs.List.{IsDistinct}
 use Rattle.std.proofs.Math.Facts.{eqb_yes}
+use Rattle.std.proofs.lemmas.Bool.{ltb-true, lt-ltb}
 use Rattle.std.proofs.lemmas.Map.Views.{lookup-from_Contains}
-use Rattle.lru.specs.LruCache.{LruCache, promoted, put_entries}
+use Rattle.lru.specs.LruCache.{LruCache, lru_cache, promoted, put_entries}
 use Rattle.lru.proofs.CallerLemmas.{Contains-take, Contains-lookup, Contains-promoted, Contains-put_entries}
 use Rattle.lru.proofs.Splits.{Contains-cons, all_at}
 use Rattle.ownership_model.specs.State.{State}
 use Rattle.op_step.specs.Chunk.{Chunk}
-use Rattle.mark_shelf.specs.Joints.{EndsWith, IsJoint, AreJoints, is_joined}
+use Rattle.mark_shelf.specs.Joints.{EndsWith, IsJoint, AreJoints, joint_behind, with_joint, is_joined}
+use Rattle.mark_shelf.specs.Shelf.{Shelf, Notes, Remembers, RemembersBehind, remembered}
 use Rattle.mark_shelf.proofs.ChunkLemmas.{AreBelow}
 
 -- what a number leads to is there under it
@@ -122,7 +124,7 @@ start-behind es next joints n c None state h t ends there = cc
 start-behind es next joints n c (Some k) state h t ends there = start-of es next joints n k c state (lookup (nat_eq k) es) (lookup (nat_eq n) joints) h refl refl t ends there
 
 -- what is noted of a chunk beside what was
-pub joint-put : (c : LruCache ℕ ℕ) (n k below : ℕ) (before : Option ℕ) → before ≡ Some k → k < below → (j : ℕ × ℕ) → Contains (put_entries nat_eq c n k) j → Contains c.entries j ⊎ ((j.0 ≡ n) × (before ≡ Some j.1) × (j.1 < below))
+joint-put : (c : LruCache ℕ ℕ) (n k below : ℕ) (before : Option ℕ) → before ≡ Some k → k < below → (j : ℕ × ℕ) → Contains (put_entries nat_eq c n k) j → Contains c.entries j ⊎ ((j.0 ≡ n) × (before ≡ Some j.1) × (j.1 < below))
 joint-put c n k below before is low j m = elim (Contains-put_entries nat_eq c n k j m) [
   | inl old ↦ inl old
   | inr put ↦ inr (
@@ -133,6 +135,57 @@ joint-put c n k below before is low j m = elim (Contains-put_entries nat_eq c n 
     is ∙ ap Some (sym put.0),
     subst (λ m. m < below) (sym put.0) low,
   )
+]
+
+-- each joint then was there, or is the one to be noted
+with-joint : (most : ℕ) (joints : List (ℕ × ℕ)) (below n : ℕ) (before : Option ℕ) (j : ℕ × ℕ) → Contains (with_joint most joints (joint_behind below n before)) j → Contains joints j ⊎ ((j.0 ≡ n) × (before ≡ Some j.1) × (j.1 < below))
+with-joint most joints below n None j m = inl m
+with-joint most joints below n (Some k) j m =
+    elim (nat_lt k below) as (λ b. nat_lt k below ≡ b → Contains (with_joint most joints (if b then Some (n, k) else None)) j → Contains joints j ⊎ ((j.0 ≡ n) × (Some k ≡ Some j.1) × (j.1 < below))) [
+      | true ↦ λ low. joint-put (lru_cache joints most) n k below (Some k) refl (ltb-true k below low) j
+      | false ↦ λ _. inl
+    ] refl m
+
+-- so it is where memory was refused, too
+pub noted-joint : (most : ℕ) (joints new : List (ℕ × ℕ)) (below n : ℕ) (before : Option ℕ) (P : Type 0) → (new ≡ with_joint most joints (joint_behind below n before)) ⊎ (P × (new ≡ joints))
+    → (j : ℕ × ℕ) → Contains new j → Contains joints j ⊎ ((j.0 ≡ n) × (before ≡ Some j.1) × (j.1 < below))
+noted-joint most joints new below n before P h j m = elim h [
+  | inl is ↦ with-joint most joints below n before j (subst (λ js. Contains js j) is m)
+  | inr same ↦ inl (subst (λ js. Contains js j) same.1 m)
+]
+
+-- where memory is refused the chunk had no joint
+pub joint-refused : (joints : List (ℕ × ℕ)) (below n k : ℕ) (before : Option ℕ) → before ≡ Some k → k < below → (Contains (keys_of joints) n → ⊥) → IfSome (joint_behind below n before) (λ j. Contains (keys_of joints) j.0 → ⊥)
+joint-refused joints below n k before is low none = rw (is, lt-ltb k below low) none
+
+-- joints that are those of a shelf with one to note leave it with that one noted
+pub Notes-from : (s : Shelf) (joint : Option (ℕ × ℕ)) (js : List (ℕ × ℕ)) → (js ≡ with_joint s.most_chunks s.joints joint) ⊎ (IfSome joint (λ j. Contains (keys_of s.joints) j.0 → ⊥) × (js ≡ s.joints)) → Notes s joint (record s { joints = js })
+Notes-from s joint js h = elim h [
+  | inl is ↦ inl (ap (λ j. record s { joints = j }) is)
+  | inr same ↦ inr (same.0, ap (λ j. record s { joints = j }) same.1)
+]
+
+-- so it is where the shelf has another form
+pub Notes-as : (s t : Shelf) (joint : Option (ℕ × ℕ)) (js : List (ℕ × ℕ)) → s ≡ t → (js ≡ with_joint s.most_chunks s.joints joint) ⊎ (IfSome joint (λ j. Contains (keys_of s.joints) j.0 → ⊥) × (js ≡ s.joints)) → Notes t joint (record s { joints = js })
+Notes-as s t joint js same h = subst (λ u. Notes u joint (record s { joints = js })) same (Notes-from s joint js h)
+
+-- with no joint to note nothing changes
+pub Notes-none : (s new : Shelf) → Notes s None new → new ≡ s
+Notes-none s new h = elim h [
+  | inl is ↦ is
+  | inr same ↦ same.1
+]
+
+-- so it is with a chunk that is found behind no other
+pub Notes-nowhere : {X : Type 0} (s new : Shelf) (o : Option X) → Notes s (option_and_then (λ _. None) o) new → new ≡ s
+Notes-nowhere s new None h = Notes-none s new h
+Notes-nowhere s new (Some x) h = Notes-none s new h
+
+-- and with one that is remembered behind no other
+pub Remembers-alone : (old new : Shelf) (c : Chunk) → RemembersBehind old c None new → Remembers old c new
+Remembers-alone old new c h = elim h [
+  | inl is ↦ inl (is.0, Notes-none (remembered old c) new is.1)
+  | inr same ↦ inr same
 ]
 
 -- a look-up moves a chunk, and its joint, to the front

@@ -92,7 +92,7 @@ abbrev pub told : ℕ → Option (ℕ × Unit {0}) → Option ℕ
 told id pushed = option_and_then (λ e. if nat_eq e.0 id then None else Some e.0) pushed
 
 -- a name that is there has an entry
-pub has_entry : (id : ℕ) (es : Keys) → Contains (keys_of es) id → IsSome (lookup (nat_eq id) es)
+pub has_entry : {X : Type 0} (id : ℕ) (es : List (ℕ × X)) → Contains (keys_of es) id → IsSome (lookup (nat_eq id) es)
 has_entry id [] h = absurd (Contains-nil id h)
 has_entry id (e ∷ es) h = elim (Contains-cons e.0 (keys_of es) id h) [
   | inl same ↦ let t : nat_eq id e.0 ≡ true = subst (λ k. nat_eq id k ≡ true) (sym same) (self_eq id) in rw t refl

@@ -1,7 +1,8 @@
 -- Which chunks begin where others end.
-use Rattle.std.specs.Prelude.{◌≡◌, ◌<◌, ◌&&◌, ℕ, Bool, false, nat_eq, is_some, List, Contains, Option}
+use Rattle.std.specs.Prelude.{◌≡◌, ◌<◌, ◌&&◌, ℕ, Bool, false, nat_eq, nat_lt, is_some, List, Contains, Option, Some, None, option_and_then, if◌then◌else◌}
 use Rattle.std.specs.Option.{option_map_or}
 use Rattle.std.specs.Map.{lookup}
+use Rattle.lru.specs.LruCache.{lru_cache, put_entries}
 use Rattle.ownership_model.specs.State.{State}
 use Rattle.ownership_model.specs.Step.{end_from}
 use Rattle.op_step.specs.Chunk.{Chunk}
@@ -20,6 +21,14 @@ pub record IsJoint (chunks : List (ℕ × Chunk)) (next : ℕ) (joint : ℕ × �
 -- each of these is one
 abbrev pub AreJoints : List (ℕ × Chunk) → ℕ → List (ℕ × ℕ) → Type 0
 AreJoints chunks next joints = (j : ℕ × ℕ) → Contains joints j → IsJoint chunks next j
+
+-- the joint of the chunk with a number to the one before, if there is one and its number is below a bound
+abbrev pub joint_behind : ℕ → ℕ → Option ℕ → Option (ℕ × ℕ)
+joint_behind below n before = option_and_then (λ k. if nat_lt k below then Some (n, k) else None) before
+
+-- the joints, at most so many, with one that comes first, in place of another of its chunk
+abbrev pub with_joint : ℕ → List (ℕ × ℕ) → Option (ℕ × ℕ) → List (ℕ × ℕ)
+with_joint most joints joint = option_map_or (λ j. put_entries nat_eq (lru_cache joints most) j.0 j.1) joint joints
 
 -- whether the chunk with a number is joined to the one before, and that is there
 abbrev pub is_joined : List (ℕ × Chunk) → List (ℕ × ℕ) → ℕ → Option ℕ → Bool

@@ -1,7 +1,7 @@
 -- What a shelf is seen as, and what its calls do to it.
-use Rattle.std.specs.Prelude.{◌≡◌, ◌⊎◌, ◌<◌, ◌&&◌, ℕ, ◌-◌, ◌+◌, ◌^◌, Bool, not, List, [], ◌∷◌, take, drop, length, filter, Contains, slice_get, nat_eq, is_some, Option, None, option_and_then, if◌then◌else◌, refl}
+use Rattle.std.specs.Prelude.{◌≡◌, ◌⊎◌, ◌<◌, ◌&&◌, ℕ, ◌-◌, ◌+◌, ◌^◌, Bool, not, List, [], ◌∷◌, take, drop, length, filter, Contains, slice_get, nat_eq, is_some, Option, None, IfSome, option_and_then, if◌then◌else◌, refl}
 use Rattle.std.specs.Option.{option_map_or}
-use Rattle.std.specs.Map.{lookup, remove_entry}
+use Rattle.std.specs.Map.{lookup, remove_entry, keys_of}
 use Rattle.std.specs.Coded.{Coded, code_by, coded×, coded_ℕ, coded_list}
 use Rattle.indexmap.specs.IndexMap.{insert_entry}
 use Rattle.lru.specs.LruCache.{promoted}
@@ -9,6 +9,7 @@ use Rattle.trace_types.specs.Operation.{Operation}
 use Rattle.op_step.specs.Chunk.{Chunk, chunk_code}
 use Rattle.mark_shelf.specs.declared.names.ChunkName.{ChunkName}
 use Rattle.mark_shelf.specs.contracts.names.ChunkName as name
+use Rattle.mark_shelf.specs.Joints.{joint_behind, with_joint}
 
 -- what is kept that serves a replay again, and how much of it there may be
 pub record Shelf : Type 0 where
@@ -16,6 +17,8 @@ pub record Shelf : Type 0 where
   pub marks : List ℕ
   -- chunks, the one used last first, each with its number
   pub chunks : List (ℕ × Chunk)
+  -- the joints of chunks, the one used last first: a chunk's number, and that of the one behind which it is known to begin
+  pub joints : List (ℕ × ℕ)
   -- the names of chunks, in the order in which they came, each with the number that it stands for
   pub names : List (ChunkName × ℕ)
   -- how many of each there may be
@@ -27,15 +30,15 @@ pub record Shelf : Type 0 where
 
 -- by which a proof tells shelves apart
 abbrev pub shelf_code : Coded Shelf
-shelf_code = code_by (List ℕ × (List (ℕ × Chunk) × (List (ChunkName × ℕ) × (ℕ × (ℕ × (ℕ × ℕ))))))
-    (coded× (coded_list coded_ℕ) (coded× (coded_list (coded× coded_ℕ chunk_code)) (coded× (coded_list (coded× name.the_row.coded coded_ℕ)) (coded× coded_ℕ (coded× coded_ℕ (coded× coded_ℕ coded_ℕ))))))
-    (λ s. (s.marks, (s.chunks, (s.names, (s.most_marks, (s.most_chunks, (s.most_names, s.next)))))))
-    (λ p. record { marks = p.0; chunks = p.1.0; names = p.1.1.0; most_marks = p.1.1.1.0; most_chunks = p.1.1.1.1.0; most_names = p.1.1.1.1.1.0; next = p.1.1.1.1.1.1 })
+shelf_code = code_by (List ℕ × (List (ℕ × Chunk) × (List (ℕ × ℕ) × (List (ChunkName × ℕ) × (ℕ × (ℕ × (ℕ × ℕ)))))))
+    (coded× (coded_list coded_ℕ) (coded× (coded_list (coded× coded_ℕ chunk_code)) (coded× (coded_list (coded× coded_ℕ coded_ℕ)) (coded× (coded_list (coded× name.the_row.coded coded_ℕ)) (coded× coded_ℕ (coded× coded_ℕ (coded× coded_ℕ coded_ℕ)))))))
+    (λ s. (s.marks, (s.chunks, (s.joints, (s.names, (s.most_marks, (s.most_chunks, (s.most_names, s.next))))))))
+    (λ p. record { marks = p.0; chunks = p.1.0; joints = p.1.1.0; names = p.1.1.1.0; most_marks = p.1.1.1.1.0; most_chunks = p.1.1.1.1.1.0; most_names = p.1.1.1.1.1.1.0; next = p.1.1.1.1.1.1.1 })
     (λ _. refl)
 
 -- nothing, with room for so many checkpoints, chunks and names of chunks
 abbrev pub empty_shelf : ℕ → ℕ → ℕ → Shelf
-empty_shelf marks chunks names = record { marks = []; chunks = []; names = []; most_marks = marks; most_chunks = chunks; most_names = names; next = 0 }
+empty_shelf marks chunks names = record { marks = []; chunks = []; joints = []; names = []; most_marks = marks; most_chunks = chunks; most_names = names; next = 0 }
 
 -- touch -------------------------------------------------------------------------------------------------------------
 
@@ -81,15 +84,29 @@ remembered s c = record s {
 abbrev pub Remembers : Shelf → Chunk → Shelf → Type 0
 Remembers old c new = ((old.next < 2 ^ 64 - 1) × (new ≡ remembered old c)) ⊎ (new ≡ old)
 
+-- join --------------------------------------------------------------------------------------------------------------
+
+-- a joint, if there is one, comes first, in place of another of its chunk; as many stay as there may be chunks
+abbrev pub noted : Shelf → Option (ℕ × ℕ) → Shelf
+noted s joint = record s { joints = with_joint s.most_chunks s.joints joint }
+
+-- what is left with a joint to note: want of memory, which a chunk that has a joint never meets, changes nothing
+abbrev pub Notes : Shelf → Option (ℕ × ℕ) → Shelf → Type 0
+Notes s joint new = (new ≡ noted s joint) ⊎ (IfSome joint (λ j. Contains (keys_of s.joints) j.0 → ⊥) × (new ≡ s))
+
+-- what is left with a chunk to remember behind the one with a number, if there is one
+abbrev pub RemembersBehind : Shelf → Chunk → Option ℕ → Shelf → Type 0
+RemembersBehind old c before new = ((old.next < 2 ^ 64 - 1) × Notes (remembered old c) (joint_behind old.next old.next before) new) ⊎ (new ≡ old)
+
 -- find --------------------------------------------------------------------------------------------------------------
 
 -- the chunk that a name stands for
 abbrev pub named : Shelf → ChunkName → Option Chunk
 named s n = option_and_then (λ k. lookup (nat_eq k) s.chunks) (lookup (name_eq n) s.names)
 
--- the chunk with a number comes first, or else the name, whose chunk is gone, goes
+-- the chunk with a number comes first, and so does its joint, or else the name, whose chunk is gone, goes
 abbrev pub used : Shelf → ChunkName → ℕ → Shelf
-used s n k = if is_some (lookup (nat_eq k) s.chunks) then record s { chunks = promoted (nat_eq k) s.chunks } else record s { names = remove_entry (name_eq n) s.names }
+used s n k = if is_some (lookup (nat_eq k) s.chunks) then record s { chunks = promoted (nat_eq k) s.chunks; joints = promoted (nat_eq k) s.joints } else record s { names = remove_entry (name_eq n) s.names }
 
 -- what a look-up of a name leaves
 abbrev pub sought : Shelf → ChunkName → Shelf

@@ -1,6 +1,8 @@
 //! Which chunks begin where others end.
-ghost use Rattle.std.specs.Prelude.{◌≡◌, ◌⊎◌, ◌<◌, ℕ, Some, Contains};
-ghost use Rattle.mark_shelf.specs.Joints.{is_joined};
+ghost use Rattle.std.specs.Prelude.{◌≡◌, ◌⊎◌, Contains, IfSome};
+ghost use Rattle.std.specs.Map.{keys_of};
+ghost use Rattle.lru.specs.LruCache.{lru_cache};
+ghost use Rattle.mark_shelf.specs.Joints.{is_joined, joint_behind, with_joint};
 
 use lru::LruCache;
 use op_step::ChunkRun;
@@ -8,7 +10,8 @@ use op_step::ChunkRun;
 /// Notes that a chunk begins where the one before it ends, if there is one and its number is below `below`. Where memory is refused, that
 /// is forgotten.
 pub fn join(joints: &mut LruCache<u64, u64>, number: u64, before: Option<u64>, below: u64)
-    ensures { (j : ℕ × ℕ) → Contains joints.new.entries j → Contains joints.old.entries j ⊎ ((j.0 ≡ number) × (before ≡ Some j.1) × (j.1 < below)) }
+    ensures cap { joints.new.cap ≡ joints.old.cap }
+    ensures noted { (joints.new.entries ≡ with_joint joints.old.cap joints.old.entries (joint_behind below number before)) ⊎ (IfSome (joint_behind below number before) (λ j. Contains (keys_of joints.old.entries) j.0 → ⊥) × (joints.new.entries ≡ joints.old.entries)) }
 {
     let Some(last) = before else {
         return;

@@ -10,4 +10,4 @@ mod shelf;
 
 pub use laws::finds_what_was_there;
 pub use names::ChunkName;
-pub use shelf::MarkShelf;
+pub use shelf::{Found, MarkShelf};

@@ -40,19 +40,28 @@ pub fn note(names: &mut IndexMap<ChunkName, u64>, most: usize, name: ChunkName, 
     }
 }
 
-/// The chunk again, if it begins with this heap and has these operations. A heap may be large: it is compared last, unless the chunk is
-/// known to begin with it, and only where its sum is that of the chunk's start, as it is of equal heaps.
-pub fn serving(chunk: &ChunkRun, heap: &Heap, ops: &[Op], is_known: bool) -> Option<ChunkRun>
+/// The chunk again, if it begins with this heap and has these operations, and whether no heap was walked for that. A heap may be large: it
+/// is compared last, unless the chunk is known to begin with it, and only where its sum is that of the chunk's start, as it is of equal heaps.
+pub fn serving(
+    chunk: &ChunkRun,
+    heap: &Heap,
+    ops: &[Op],
+    is_known: bool,
+) -> Option<(ChunkRun, bool)>
     requires { IsTrue is_known → chunk.now.start ≡ heap.now }
-    ensures same { IfSome result (λ c. c ≡ chunk.now) }
-    ensures start { IfSome result (λ c. c.start ≡ heap.now) }
-    ensures ops { IfSome result (λ c. c.ops ≡ ops.now) }
+    ensures same { IfSome result (λ r. r.0 ≡ chunk.now) }
+    ensures start { IfSome result (λ r. r.0.start ≡ heap.now) }
+    ensures ops { IfSome result (λ r. r.0.ops ≡ ops.now) }
+    ensures known { IfSome result (λ r. r.1 ≡ is_known) }
 {
     if !same_ops(chunk.ops(), ops) {
         return None;
     }
-    if is_known || is_same(chunk.start(), heap) {
-        chunk.share().ok()
+    if is_known {
+        return Some((chunk.share().ok()?, true));
+    }
+    if is_same(chunk.start(), heap) {
+        Some((chunk.share().ok()?, false))
     } else {
         None
     }

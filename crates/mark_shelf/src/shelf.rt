@@ -1,5 +1,5 @@
 //! The shelf.
-ghost use Rattle.std.specs.Prelude.{◌≡◌, ◌<◌, Some, IfOk, IfSome, MatchOption};
+ghost use Rattle.std.specs.Prelude.{◌≡◌, ◌<◌, Some, IfOk, IfSome, MatchOption, option_and_then};
 ghost use Rattle.std.specs.Map.{lookup};
 ghost use Rattle.ownership_model.specs.Step.{end_from};
 
@@ -16,9 +16,18 @@ use std::marker::Model;
 use std::num::NonZeroUsize;
 use trace_types::ops::Op;
 
+/// A chunk that is found, with its number, and whether it was known to begin with the heap, as it is joined to the chunk that ends with
+/// it: then no heap was walked.
+#[derive(Drop)]
+pub struct Found {
+    pub number: u64,
+    pub chunk: ChunkRun,
+    pub is_joined: bool,
+}
+
 /// Which checkpoints are kept, by their names, and which replayed chunks are remembered: bounded lists, by last use.
 ///
-/// Contracts see the three lists, how long each may be, and the number of the next chunk.
+/// Contracts see the lists, how long each may be, and the number of the next chunk.
 #[derive(Drop)]
 pub struct MarkShelf {
     marks: LruCache<u32, ()>,
@@ -30,7 +39,7 @@ pub struct MarkShelf {
 }
 
 impl Model for MarkShelf {
-    ghost use Rattle.std.specs.Prelude.{◌<◌, ◌≤◌};
+    ghost use Rattle.std.specs.Prelude.{◌≡◌, ◌<◌, ◌≤◌};
     ghost use Rattle.std.specs.List.{AllByRecursion};
     ghost use Rattle.std.specs.Map.{keys_of};
     ghost use Rattle.indexmap.specs.IndexMap.{index_map_len};
@@ -41,14 +50,14 @@ impl Model for MarkShelf {
 
     ghost coded = { shelf_code };
 
-    ghost view = { λ s. record { marks = keys_of s.marks.entries; chunks = s.chunks.entries; names = s.names.entries; most_marks = s.marks.cap; most_chunks = s.chunks.cap; most_names = s.most_names; next = s.next } };
+    ghost view = { λ s. record { marks = keys_of s.marks.entries; chunks = s.chunks.entries; joints = s.joints.entries; names = s.names.entries; most_marks = s.marks.cap; most_chunks = s.chunks.cap; most_names = s.most_names; next = s.next } };
 
-    ghost invariant = { λ s. AllByRecursion (λ e. e.0 < s.next) s.chunks.entries × (index_map_len s.names ≤ s.most_names) × AreJoints s.chunks.entries s.next s.joints.entries };
+    ghost invariant = { λ s. AllByRecursion (λ e. e.0 < s.next) s.chunks.entries × (index_map_len s.names ≤ s.most_names) × (s.joints.cap ≡ s.chunks.cap) × AreJoints s.chunks.entries s.next s.joints.entries };
 }
 
 impl MarkShelf {
-    ghost use Rattle.mark_shelf.specs.Shelf.{empty_shelf, Touches, Remembers, remembered, named, sought, name_of, name_eq};
-    ghost use Rattle.mark_shelf.specs.Joints.{EndsWith};
+    ghost use Rattle.mark_shelf.specs.Shelf.{empty_shelf, Touches, Remembers, remembered, Notes, RemembersBehind, named, sought, name_of, name_eq};
+    ghost use Rattle.mark_shelf.specs.Joints.{EndsWith, joint_behind, is_joined};
 
     /// A shelf with nothing, and with room for so many checkpoints, chunks and names of chunks.
     pub fn new(alloc: Global, marks: usize, chunks: usize, names: usize) -> Result<Self, AllocError>
@@ -99,8 +108,8 @@ impl MarkShelf {
     /// other, no heap is walked then. Gives the number of the chunk, if it isn't lost.
     pub fn remember_behind(&mut self, chunk: ChunkRun, before: Option<u64>) -> Option<u64>
         requires { IfSome before (λ k. EndsWith self.old.chunks k chunk.start) }
-        ensures remembers { Remembers self.old chunk self.new }
-        ensures number { MatchOption result (self.new ≡ self.old) (λ n. (n ≡ self.old.next) × (self.new ≡ remembered self.old chunk)) }
+        ensures remembers { RemembersBehind self.old chunk before self.new }
+        ensures number { MatchOption result (self.new ≡ self.old) (λ n. (n ≡ self.old.next) × Notes (remembered self.old chunk) (joint_behind n n before) self.new) }
         ensures ends { IfSome result (λ n. EndsWith self.new.chunks n (end_from chunk.start chunk.ops)) }
     {
         if self.next == u64::MAX {
@@ -128,25 +137,21 @@ impl MarkShelf {
         ensures ops { IfSome result (λ c. c.ops ≡ ops.now) }
         ensures named { IfSome result (λ c. named self.old (name_of ops.now) ≡ Some c) }
     {
-        let (_, chunk) = self.find_behind(heap, ops, None)?;
-        Some(chunk)
+        let found = self.find_behind(heap, ops, None)?;
+        Some(found.chunk)
     }
 
     /// As `find`, with the number of the chunk, where the heap is that at which the chunk with a number ends, if that is known: a
-    /// chunk that was remembered or found behind that one begins with this heap, and none is walked.
-    pub fn find_behind(
-        &mut self,
-        heap: &Heap,
-        ops: &[Op],
-        before: Option<u64>,
-    ) -> Option<(u64, ChunkRun)>
+    /// chunk that was remembered or found behind that one begins with this heap, and none is walked. That it was found behind that one is noted.
+    pub fn find_behind(&mut self, heap: &Heap, ops: &[Op], before: Option<u64>) -> Option<Found>
         requires { IfSome before (λ k. EndsWith self.old.chunks k heap.now) }
-        ensures shelf { self.new ≡ sought self.old (name_of ops.now) }
-        ensures start { IfSome result (λ r. r.1.start ≡ heap.now) }
-        ensures ops { IfSome result (λ r. r.1.ops ≡ ops.now) }
-        ensures named { IfSome result (λ r. named self.old (name_of ops.now) ≡ Some r.1) }
-        ensures number { IfSome result (λ r. lookup (name_eq (name_of ops.now)) self.old.names ≡ Some r.0) }
-        ensures ends { IfSome result (λ r. EndsWith self.new.chunks r.0 (end_from r.1.start r.1.ops)) }
+        ensures shelf { Notes (sought self.old (name_of ops.now)) (option_and_then (λ f. joint_behind self.old.next f.number before) result) self.new }
+        ensures start { IfSome result (λ f. f.chunk.start ≡ heap.now) }
+        ensures ops { IfSome result (λ f. f.chunk.ops ≡ ops.now) }
+        ensures named { IfSome result (λ f. named self.old (name_of ops.now) ≡ Some f.chunk) }
+        ensures number { IfSome result (λ f. lookup (name_eq (name_of ops.now)) self.old.names ≡ Some f.number) }
+        ensures joined { IfSome result (λ f. f.is_joined ≡ is_joined self.old.chunks self.old.joints f.number before) }
+        ensures ends { IfSome result (λ f. EndsWith self.new.chunks f.number (end_from f.chunk.start f.chunk.ops)) }
     {
         let name = ChunkName::of(ops);
         let number = *self.names.get(&name)?;
@@ -165,9 +170,13 @@ impl MarkShelf {
         self.chunks.promote(&number);
         // So a joint stays as long as its chunk.
         self.joints.promote(&number);
-        let chunk = answer?;
+        let served = answer?;
         // Where the two are found again, one behind the other, no heap is walked.
         join(&mut self.joints, number, before, self.next);
-        Some((number, chunk))
+        Some(Found {
+            number,
+            chunk: served.0,
+            is_joined: served.1,
+        })
     }
 }

@@ -15,9 +15,9 @@ use Rattle.run_engine.specs.SegmentView.{SegmentView}
 use Rattle.run_engine.specs.Segments.{ops_of, trace_of, AreReplayFrom, IsReached}
 use Rattle.run_engine.specs.OldRun.{old_trace, new_trace}
 use Rattle.run_engine.specs.declared.replay.divergence.Divergence.{Divergence}
-use Rattle.run_engine.specs.declared.replay.progress.Joint.{Joint}
+use Rattle.run_engine.specs.declared.replay.progress.Fork.{Fork}
 use Rattle.run_engine.specs.declared.replay.revision.Revision.{Revision}
-use Rattle.run_engine.specs.Divergence.{IsJoint, DifferWithin, IsDivergence, HasFollowed, HasCompared}
+use Rattle.run_engine.specs.Divergence.{IsFork, DifferWithin, IsDivergence, HasFollowed, HasCompared}
 use Rattle.run_engine.proofs.ListingLemmas.{take-shorter}
 use Rattle.run_engine.proofs.SegmentLemmas.{trace_of-next}
 use Rattle.run_engine.proofs.PieceLemmas.{segment-at}
@@ -80,8 +80,8 @@ caught-up ops old segments edited base x index at os more all heap h reached new
     (then.outside (end_from nothing_held (take x ops)) (outside-sym more (end_from nothing_held (take x ops)) base_state here)))
 
 -- where both stand at one heap nothing differs
-pub IsDivergence-joint : (r : Revision) (d : Divergence) (joint : Joint) → ((m : State) → DifferWithin d m m) → d.edited ≡ joint.edited → d.base ≡ joint.base → IsJoint r joint → IsDivergence r d
-IsDivergence-joint r d joint h edited base same =
+pub IsDivergence-fork : (r : Revision) (d : Divergence) (fork : Fork) → ((m : State) → DifferWithin d m m) → d.edited ≡ fork.edited → d.base ≡ fork.base → IsFork r fork → IsDivergence r d
+IsDivergence-fork r d fork h edited base same =
     let there : end_from nothing_held (take d.edited (new_trace r)) ≡ end_from nothing_held (take d.base (old_trace r)) =
     ap (λ n. end_from nothing_held (take n (new_trace r))) edited ∙ same ∙ sym (ap (λ n. end_from nothing_held (take n (old_trace r))) base) in
     subst (DifferWithin d (end_from nothing_held (take d.edited (new_trace r)))) there (h (end_from nothing_held (take d.edited (new_trace r))))

@@ -8,6 +8,10 @@ use Rattle.mark_shelf.specs.Joints.{EndsWith}
 use Rattle.run_engine.specs.declared.replay.fresh.FreshChunk.{FreshChunk}
 use Rattle.run_engine.specs.FreshChunks.{end_after, AreLinked}
 use Rattle.run_engine.specs.Memo.{AreSome}
+use Rattle.run_engine.specs.declared.replay.origin.Origin.{Origin}
+use Rattle.run_engine.specs.declared.replay.origin.Origin.TheVariants.{Old, Stepped, Shelf}
+use Rattle.run_engine.specs.declared.replay.origin.Behind.TheVariants as behind
+use Rattle.run_engine.specs.Origins.{stepped_chunk, behind_of, end_behind}
 
 -- behind one chunk more, that is where it ends
 pub end_after-push : (before : Option State) (fs : List FreshChunk) (f : FreshChunk) → end_after before (fs ++ f ∷ []) ≡ Some (end_from f.chunk.start f.chunk.ops)
@@ -34,6 +38,12 @@ pub begins-there : (stepped : Option Chunk) (fresh : Option State) (state : Stat
 begins-there None fresh state h k = tt
 begins-there (Some c) None state h k = tt
 begins-there (Some c) (Some s) state h k = k ∙ sym h
+
+-- behind a chunk that was stepped a replay stands where the last of the chunks ends
+pub placed-fresh : (before : Option State) (end : State) (origin : Origin) → IfSome (stepped_chunk origin) (λ c. end_from c.start c.ops ≡ end) → behind_of origin ≡ behind.Stepped → IfSome (end_behind before origin) (λ s. s ≡ end)
+placed-fresh before end Old h is = cc
+placed-fresh before end (Stepped c) h is = h
+placed-fresh before end (Shelf k) h is = cc
 
 -- where chunks go, what is known of the others stays
 pub EndsWith-fewer : (all some : List (ℕ × Chunk)) (o : Option ℕ) (state : State) → AreSome some all → IfSome o (λ k. EndsWith all k state) → IfSome o (λ k. EndsWith some k state)

@@ -1,12 +1,12 @@
 -- Chunks that a shelf had.
-use Rattle.std.proofs.Common.{◌≡◌, ℕ, Bool, true, false, List, nat_eq, ◌∙◌, refl, subst}
+use Rattle.std.proofs.Common.{◌≡◌, ℕ, Bool, true, false, List, nat_eq, ◌∙◌, refl, subst, inl, inr}
 use Rattle.std.specs.Prelude.{Contains, Option, Some, None, is_some, if◌then◌else◌}
 use Rattle.std.specs.Option.{option_map_or}
 use Rattle.std.specs.Map.{lookup}
 use Rattle.trace_types.specs.Operation.{Operation}
 use Rattle.ownership_model.specs.State.{State}
 use Rattle.op_step.specs.Chunk.{Chunk}
-use Rattle.mark_shelf.specs.Shelf.{Shelf, used, sought, name_eq}
+use Rattle.mark_shelf.specs.Shelf.{Shelf, used, sought, name_eq, Notes}
 use Rattle.mark_shelf.specs.declared.names.ChunkName.{ChunkName}
 use Rattle.run_engine.specs.Memo.{IsAmong, HasSameMarks, IsSearched}
 
@@ -38,3 +38,14 @@ IsSearched-next a b c h k = record {
   same_marks = HasSameMarks-next a b c h.same_marks k.same_marks;
   fewer = λ e m. h.fewer e (k.fewer e m);
 }
+
+-- nor does a joint that is noted
+IsSearched-noted : (s new : Shelf) (joint : Option (ℕ × ℕ)) → Notes s joint new → IsSearched s new
+IsSearched-noted s new joint h = elim h [
+  | inl is ↦ rw is (record { same_marks = record { marks = refl; most_marks = refl; most_chunks = refl; most_names = refl }; fewer = λ e m. m })
+  | inr same ↦ rw same.1 (IsSearched-none s)
+]
+
+-- so it is with what a look-up leaves
+pub IsSearched-found : (s : Shelf) (n : ChunkName) → ((e : ℕ × Chunk) → Contains (sought s n).chunks e → Contains s.chunks e) → (joint : Option (ℕ × ℕ)) (new : Shelf) → Notes (sought s n) joint new → IsSearched s new
+IsSearched-found s n fewer joint new h = IsSearched-next s (sought s n) new (IsSearched-sought s n fewer) (IsSearched-noted (sought s n) new joint h)

@@ -6,11 +6,11 @@ use Rattle.std.proofs.lemmas.List.{take_at}
 use Rattle.trace_types.specs.Operation.{Operation}
 use Rattle.ownership_model.specs.State.{State, nothing_held}
 use Rattle.ownership_model.specs.Step.{end_from}
-use Rattle.run_engine.specs.declared.replay.progress.Joint.{Joint}
+use Rattle.run_engine.specs.declared.replay.progress.Fork.{Fork}
 use Rattle.run_engine.specs.declared.replay.revision.Revision.{Revision}
 use Rattle.run_engine.specs.SegmentView.{SegmentView}
 use Rattle.run_engine.specs.OldRun.{old_trace, new_trace}
-use Rattle.run_engine.specs.Divergence.{IsJoint}
+use Rattle.run_engine.specs.Divergence.{IsFork}
 use Rattle.run_engine.specs.Segments.{trace_of}
 use Rattle.run_engine.specs.HeadAndTail.{AreAlike}
 use Rattle.run_engine.proofs.SegmentLemmas.{trace_of-append}
@@ -51,9 +51,9 @@ stretch-behind old stretch i j at len order is place long =
     ∙ ap (λ m. m + length (trace_of stretch)) place ∙ ap (λ m. at + m) (sym long)
 
 -- where both replays have one heap, it is that of the old checkpoint there
-pub joint-mark : (r : Revision) (joint : Joint) (i at base : ℕ) (s : SegmentView) (heap mark : State) → IsJoint r joint → (joint.edited ≡ at) × (joint.base ≡ base) → heap ≡ end_from nothing_held (take at (new_trace r))
+pub fork-mark : (r : Revision) (fork : Fork) (i at base : ℕ) (s : SegmentView) (heap mark : State) → IsFork r fork → (fork.edited ≡ at) × (fork.base ≡ base) → heap ≡ end_from nothing_held (take at (new_trace r))
     → length (trace_of (take i r.segments.now)) ≡ base → i < length r.segments.now → s ≡ get_or r.segments.now i s → Some mark ≡ s.mark → mark ≡ heap
-joint-mark r joint i at base s heap mark same there is place lt segment marked =
+fork-mark r fork i at base s heap mark same there is place lt segment marked =
     mark-is r.segments.now i s mark r.holds.kept.run.replay lt segment marked
     ∙ ap (end_from nothing_held) (trace_of-front r.segments.now i base place ∙ ap (λ n. take n (old_trace r)) (sym there.1))
     ∙ sym same ∙ ap (λ n. end_from nothing_held (take n (new_trace r))) there.0 ∙ sym is

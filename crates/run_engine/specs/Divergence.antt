@@ -4,16 +4,16 @@ use Rattle.ownership_model.specs.State.{State, nothing_held}
 use Rattle.ownership_model.specs.Step.{end_from}
 use Rattle.ownership_model.specs.Touched.{AgreeOutside}
 use Rattle.run_engine.specs.declared.replay.divergence.Divergence.{Divergence}
-use Rattle.run_engine.specs.declared.replay.progress.Joint.{Joint}
+use Rattle.run_engine.specs.declared.replay.progress.Fork.{Fork}
 use Rattle.run_engine.specs.declared.replay.revision.Revision.{Revision}
 use Rattle.run_engine.specs.SegmentView.{SegmentView}
 use Rattle.run_engine.specs.Segments.{trace_of}
 use Rattle.run_engine.specs.OldRun.{old_trace, new_trace}
 
 -- both replays have the same heap there
-abbrev pub IsJoint : Revision → Joint → Type 0
-IsJoint r joint =
-    end_from nothing_held (take joint.edited (new_trace r)) ≡ end_from nothing_held (take joint.base (old_trace r))
+abbrev pub IsFork : Revision → Fork → Type 0
+IsFork r fork =
+    end_from nothing_held (take fork.edited (new_trace r)) ≡ end_from nothing_held (take fork.base (old_trace r))
 
 -- but for the suspects, where those are known, both have the same objects
 abbrev pub DifferWithin : Divergence → State → State → Type 0

@@ -18,6 +18,7 @@ pub mod GivenUp
 pub mod Onward
 pub mod GoesOn
 pub mod FreshChunks
+pub mod Origins
 pub mod Placed
 pub mod Cleared
 pub mod Loaded

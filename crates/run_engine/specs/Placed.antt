@@ -4,16 +4,18 @@ use Rattle.ownership_model.specs.State.{State}
 use Rattle.ownership_model.specs.Step.{end_from}
 use Rattle.op_step.specs.Chunk.{Chunk}
 use Rattle.mark_shelf.specs.Joints.{EndsWith}
+use Rattle.run_engine.specs.declared.replay.origin.Behind.TheVariants.{Stepped}
 use Rattle.run_engine.specs.declared.replay.piece.Piece.{Piece}
 use Rattle.run_engine.specs.declared.replay.piece.Next.{Next}
+use Rattle.run_engine.specs.Origins.{stepped_chunk, behind_of, shelf_number}
 
 -- a front stands where its last chunk ends, or one of the numbered chunks, if it is known for either
 pub record IsPlaced (chunks : List (ℕ × Chunk)) (front : Piece) : Type 0 where
-  pub fresh : IfSome front.fresh (λ s. s ≡ front.end)
-  pub kept : IfSome front.kept (λ k. EndsWith chunks k front.end)
+  pub fresh : front.behind ≡ Stepped → IfSome front.fresh (λ s. s ≡ front.end)
+  pub kept : IfSome (shelf_number front.behind) (λ k. EndsWith chunks k front.end)
 
 -- what a replay goes on with from a state ends where the chunk does that was stepped from there, or one of the numbered chunks
 pub record IsNext (chunks : List (ℕ × Chunk)) (start : State) (next : Next) : Type 0 where
-  pub start_is : IfSome next.stepped (λ c. c.start ≡ start)
-  pub end_is : IfSome next.stepped (λ c. end_from c.start c.ops ≡ next.end)
-  pub kept : IfSome next.kept (λ k. EndsWith chunks k next.end)
+  pub start_is : IfSome (stepped_chunk next.origin) (λ c. c.start ≡ start)
+  pub end_is : IfSome (stepped_chunk next.origin) (λ c. end_from c.start c.ops ≡ next.end)
+  pub kept : IfSome (shelf_number (behind_of next.origin)) (λ k. EndsWith chunks k next.end)

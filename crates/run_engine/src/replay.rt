@@ -4,6 +4,7 @@ pub mod converge;
 pub mod divergence;
 pub mod fresh;
 pub mod loading;
+pub mod origin;
 pub mod piece;
 pub mod progress;
 pub mod rejoin;

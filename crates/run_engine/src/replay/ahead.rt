@@ -99,7 +99,7 @@ fn next_cut(
     ensures never_less { meter.old ≤ meter.new }
     ensures rise { meter.new ≤ meter.old + length next.items }
 {
-    let known = found(alloc, &front.end, &next, front.kept, shelf)?;
+    let known = found(alloc, &front.end, &next, front.behind.number(), shelf)?;
     if let Some(piece) = known {
         let front = joined(alloc, front, piece)?;
         return Ok(front);

@@ -12,12 +12,13 @@ ghost use Rattle.run_engine.specs.Memo.{IsSearched};
 ghost use Rattle.run_engine.specs.Steps.{AreTaken, AreStepped};
 ghost use Rattle.run_engine.specs.GoesOn.{MayGoOn, GoesOnBeside};
 ghost use Rattle.run_engine.specs.Placed.{IsPlaced, IsNext};
-ghost use Rattle.run_engine.specs.Divergence.{IsJoint};
+ghost use Rattle.run_engine.specs.Divergence.{IsFork};
 
 use crate::replay::ahead::go_ahead;
 use crate::replay::divergence::Divergence;
+use crate::replay::origin::Behind;
 use crate::replay::piece::{Next, Piece, STRIDE, found, joined, stepped};
-use crate::replay::progress::{Joint, Progress};
+use crate::replay::progress::{Fork, Progress};
 use crate::replay::rejoin::{OldMark, rejoined_at};
 use crate::replay::revision::Revision;
 use crate::replay::stretch::{may_begin, old_stretch};
@@ -51,16 +52,16 @@ fn next_piece(
     to: usize,
     shelf: &mut MarkShelf,
     meter: &mut Meter,
-) -> Result<(Next, Joint), AllocError>
+) -> Result<(Next, Fork), AllocError>
     requires may { MayGoOn (new_trace revision.now) progress.now.front to }
     requires some { progress.now.front.len < to }
-    requires joint { IsJoint revision.now progress.now.joint }
+    requires fork { IsFork revision.now progress.now.fork }
     requires placed { IsPlaced shelf.old.chunks progress.now.front }
     ensures piece { IfOk result (λ p.
         IsPiece progress.now.front.end
         (slice_range (new_trace revision.now) progress.now.front.len to)
         p.0.segments p.0.end p.0.len) }
-    ensures joint { IfOk result (λ p. IsJoint revision.now p.1) }
+    ensures fork { IfOk result (λ p. IsFork revision.now p.1) }
     ensures gap { IfOk result (λ p. IsGap (old_marks revision.now) p.0.len) }
     ensures steps { IfOk result (λ p. meter.new ≤ meter.old + p.0.len) }
     ensures taken { IfOk result (λ p.
@@ -73,20 +74,20 @@ fn next_piece(
     ensures rise { meter.new + progress.now.front.len ≤ meter.old + to }
 {
     let front = &progress.front;
-    let joint = progress.joint;
+    let fork = progress.fork;
     let len = (to - front.len).min(STRIDE);
     let next = revision.ops.copies(alloc, front.len, front.len + len)?;
-    let known = found(alloc, &front.end, &next, front.kept, shelf)?;
+    let known = found(alloc, &front.end, &next, front.behind.number(), shelf)?;
     if let Some(piece) = known {
-        return Ok((piece, joint));
+        return Ok((piece, fork));
     }
-    let stretch = old_stretch(alloc, revision, &front.end, front.len, to, joint)?;
+    let stretch = old_stretch(alloc, revision, &front.end, front.len, to, fork)?;
     if let Some((piece, base)) = stretch {
         let edited = front.len + piece.len;
-        return Ok((piece, Joint { edited, base }));
+        return Ok((piece, Fork { edited, base }));
     }
     let piece = stepped(alloc, &front.end, next, meter)?;
-    Ok((piece, joint))
+    Ok((piece, fork))
 }
 
 // The next cut from a position on where an old stretch may begin: one where an old checkpoint stood. Where none does before the leg is
@@ -119,12 +120,12 @@ fn serve(
     meter: &mut Meter,
 ) -> Result<Progress, AllocError>
     requires may { MayGoOn (new_trace revision.now) progress.front leg.to }
-    requires joint { IsJoint revision.now progress.joint }
+    requires fork { IsFork revision.now progress.fork }
     requires placed { IsPlaced shelf.old.chunks progress.front }
     ensures beside { IfOk result (λ p.
         GoesOnBeside revision.now progress.front p.front shelf.old shelf.new
         meter.old meter.new) }
-    ensures joint { IfOk result (λ p. IsJoint revision.now p.joint) }
+    ensures fork { IfOk result (λ p. IsFork revision.now p.fork) }
     ensures placed { IfOk result (λ p. IsPlaced shelf.new.chunks p.front) }
     ensures order { IfOk result (λ p. p.front.len ≤ leg.to) }
     ensures steps { IfOk result
@@ -137,14 +138,14 @@ fn serve(
         let at = progress.front.len;
         let next = next_start(revision, at, leg);
         if at < next {
-            let joint = progress.joint;
+            let fork = progress.fork;
             let front = go_ahead(alloc, revision.ops, progress.front, next, shelf, meter)?;
-            progress = Progress { front, joint };
+            progress = Progress { front, fork };
         } else {
             touch_at(revision.ops, at, shelf, &mut progress.front.gone)?;
-            let (piece, joint) = next_piece(alloc, revision, &progress, leg.to, shelf, meter)?;
+            let (piece, fork) = next_piece(alloc, revision, &progress, leg.to, shelf, meter)?;
             let front = joined(alloc, progress.front, piece)?;
-            progress = Progress { front, joint };
+            progress = Progress { front, fork };
         }
     }
     Ok(progress)
@@ -160,21 +161,21 @@ fn advance(
     meter: &mut Meter,
 ) -> Result<Progress, AllocError>
     requires may { MayGoOn (new_trace revision.now) progress.front leg.to }
-    requires joint { IsJoint revision.now progress.joint }
+    requires fork { IsFork revision.now progress.fork }
     requires placed { IsPlaced shelf.old.chunks progress.front }
     ensures beside { IfOk result (λ p.
         GoesOnBeside revision.now progress.front p.front shelf.old shelf.new
         meter.old meter.new) }
-    ensures joint { IfOk result (λ p. IsJoint revision.now p.joint) }
+    ensures fork { IfOk result (λ p. IsFork revision.now p.fork) }
     ensures placed { IfOk result (λ p. IsPlaced shelf.new.chunks p.front) }
     ensures there { IfOk result (λ p. p.front.len ≡ leg.to) }
     ensures never_less { meter.old ≤ meter.new }
     ensures rise { meter.new + progress.front.len ≤ meter.old + leg.to }
 {
     let progress = serve(alloc, revision, progress, leg, shelf, meter)?;
-    let joint = progress.joint;
+    let fork = progress.fork;
     let front = go_ahead(alloc, revision.ops, progress.front, leg.to, shelf, meter)?;
-    Ok(Progress { front, joint })
+    Ok(Progress { front, fork })
 }
 
 // The segments of the front, and then others.
@@ -190,14 +191,12 @@ fn spliced(
     ensures gone { IfOk result (λ p. p.gone ≡ front.gone) }
 {
     let segments = front.segments.append(alloc, rest)?;
-    let mut fresh = front.fresh;
-    fresh.leave();
     Ok(Piece {
         segments,
         end,
         len,
-        fresh,
-        kept: None,
+        fresh: front.fresh,
+        behind: Behind::Nothing,
         gone: front.gone,
     })
 }
@@ -233,13 +232,13 @@ pub fn converge(
     ensures never_less { meter.old ≤ meter.new }
 {
     let old = revision.segments;
-    let joint = Joint {
+    let fork = Fork {
         edited: front.len,
         base: front.len,
     };
-    let mut progress = Progress { front, joint };
+    let mut progress = Progress { front, fork };
     let (first, mut at) = old.last_from(seam.base);
-    let mut divergence = Divergence::none(alloc, joint);
+    let mut divergence = Divergence::none(alloc, fork);
     for i in first..old.len() {
         let segment = old.at(i);
         if at >= seam.base {

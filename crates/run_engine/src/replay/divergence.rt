@@ -6,10 +6,10 @@ ghost use Rattle.agreement.specs.Agreement.{Agree};
 ghost use Rattle.agreement.specs.Meeting.{Meets};
 ghost use Rattle.run_engine.specs.OldRun.{new_trace};
 ghost use Rattle.run_engine.specs.Segments.{trace_of, AreReplayFrom, IsReached};
-ghost use Rattle.run_engine.specs.Divergence.{IsJoint, DifferWithin, IsDivergence, HasFollowed, HasCompared};
+ghost use Rattle.run_engine.specs.Divergence.{IsFork, DifferWithin, IsDivergence, HasFollowed, HasCompared};
 ghost use Rattle.run_engine.specs.declared.replay.revision.Revision.{Revision};
 
-use crate::replay::progress::{Joint, Progress};
+use crate::replay::progress::{Fork, Progress};
 use crate::replay::revision::Revision;
 use crate::segments::blocks::Segments;
 use agreement::{Meeting, Suspects, Trail, are_told_apart, meet, meet_rooted};
@@ -30,31 +30,31 @@ pub struct Divergence {
 
 impl Divergence {
     /// Both stand where they have one heap: nothing differs.
-    pub fn none(alloc: Global, joint: Joint) -> Self
+    pub fn none(alloc: Global, fork: Fork) -> Self
         ensures within { (m : State) → DifferWithin result m m }
-        ensures edited { result.edited ≡ joint.edited }
-        ensures base { result.base ≡ joint.base }
+        ensures edited { result.edited ≡ fork.edited }
+        ensures base { result.base ≡ fork.base }
     {
         Divergence {
             suspects: Some(Suspects::none(alloc)),
-            edited: joint.edited,
-            base: joint.base,
+            edited: fork.edited,
+            base: fork.base,
             trail: None,
         }
     }
 
     // Goes on to where both are known to have one heap, if that is further on: what was passed up to there needs no look.
-    fn begin_anew(&mut self, alloc: Global, joint: Joint)
-        ensures known { (r : Revision) → IsDivergence r self.old → IsJoint r joint →
+    fn begin_anew(&mut self, alloc: Global, fork: Fork)
+        ensures known { (r : Revision) → IsDivergence r self.old → IsFork r fork →
             IsDivergence r self.new }
-        ensures no_earlier { joint.edited ≤ self.new.edited }
+        ensures no_earlier { fork.edited ≤ self.new.edited }
     {
-        if joint.edited <= self.edited {
+        if fork.edited <= self.edited {
             return;
         }
         self.suspects = Some(Suspects::none(alloc));
-        self.edited = joint.edited;
-        self.base = joint.base;
+        self.edited = fork.edited;
+        self.base = fork.base;
     }
 
     /// Goes on to the end of the front, and in the old run to where the segment at an index begins: the objects that outcomes on the
@@ -68,7 +68,7 @@ impl Divergence {
         at: usize,
     ) -> Result<(), AllocError>
         requires known { IsDivergence revision.now self.old }
-        requires joint { IsJoint revision.now progress.now.joint }
+        requires fork { IsFork revision.now progress.now.fork }
         requires front { IsReached (new_trace revision.now)
             progress.now.front.len progress.now.front.segments progress.now.front.end }
         requires within { index ≤ length revision.now.segments.now }
@@ -77,7 +77,7 @@ impl Divergence {
         ensures edited { OnOk result (self.new.edited ≡ progress.now.front.len) }
         ensures base { OnOk result (self.new.base ≡ at) }
     {
-        self.begin_anew(alloc, progress.joint);
+        self.begin_anew(alloc, progress.fork);
         let front = &progress.front;
         if let Some(suspects) = &mut self.suspects {
             let new = &front.segments;

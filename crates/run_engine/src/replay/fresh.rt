@@ -1,9 +1,12 @@
 //! The chunks that were stepped for a replay, which a shelf then remembers.
-ghost use Rattle.std.specs.Prelude.{◌≡◌, None, Some, true, IfSome, OnOk, option_map};
+ghost use Rattle.std.specs.Prelude.{◌≡◌, None, Some, true, IfOk, IfSome, OnOk};
 ghost use Rattle.ownership_model.specs.Step.{end_from};
 ghost use Rattle.mark_shelf.specs.Joints.{EndsWith};
 ghost use Rattle.run_engine.specs.Memo.{HasSameMarks};
+ghost use Rattle.run_engine.specs.Origins.{stepped_chunk, behind_of, end_behind};
+ghost use Rattle.run_engine.specs.declared.replay.origin.Behind.TheVariants.{Stepped};
 
+use crate::replay::origin::{Behind, Origin};
 use mark_shelf::MarkShelf;
 use op_step::ChunkRun;
 use std::alloc::{AllocError, Global};
@@ -17,17 +20,14 @@ pub struct FreshChunk {
     follows: bool,
 }
 
-/// The chunks that were stepped for a replay, in order. Contracts see the heap at which the last of them ends, as long as the replay is
-/// known to stand there.
+/// The chunks that were stepped for a replay, in order. Contracts see the heap at which the last of them ends.
 #[derive(Drop)]
 pub struct Fresh {
     chunks: VecDeque<FreshChunk>,
-    // whether the replay stands where the last of them ends
-    is_last: bool,
 }
 
 impl Model for Fresh {
-    ghost use Rattle.std.specs.Prelude.{Option, None, if◌then◌else◌};
+    ghost use Rattle.std.specs.Prelude.{Option, None};
     ghost use Rattle.std.specs.Coded.{coded_option};
     ghost use Rattle.ownership_model.specs.State.{State};
     ghost use Rattle.object_heap.specs.StateCode.{state_code};
@@ -37,7 +37,7 @@ impl Model for Fresh {
 
     ghost coded = { coded_option state_code };
 
-    ghost view = { λ f. if f.is_last then end_after None f.chunks.items else None };
+    ghost view = { λ f. end_after None f.chunks.items };
 
     ghost invariant = { λ f. AreLinked None f.chunks.items };
 }
@@ -49,38 +49,30 @@ impl Fresh {
     {
         Fresh {
             chunks: VecDeque::new(alloc),
-            is_last: false,
         }
     }
 
-    /// Adds a chunk, which begins where the replay stands, and behind which it then stands.
-    pub fn push(&mut self, chunk: ChunkRun) -> Result<(), AllocError>
-        requires { IfSome self.old (λ s. s ≡ chunk.start) }
+    /// Adds a chunk, of which it is known whether it follows: whether it begins where the last one ends.
+    pub fn push(&mut self, chunk: ChunkRun, follows: bool) -> Result<(), AllocError>
+        requires { follows ≡ true → IfSome self.old (λ s. s ≡ chunk.start) }
         ensures { OnOk result (self.new ≡ Some (end_from chunk.start chunk.ops)) }
     {
-        let follows = self.is_last;
         self.chunks.push_back(FreshChunk { chunk, follows })?;
-        self.is_last = true;
         Ok(())
     }
 
-    /// The replay goes on without a chunk.
-    pub fn leave(&mut self)
-        ensures { self.new ≡ None }
+    /// The replay goes on from behind something: a chunk that was stepped for it is added. What it stands behind then.
+    pub fn go_on(&mut self, before: Behind, origin: Origin) -> Result<Behind, AllocError>
+        requires { before ≡ Stepped → IfSome (stepped_chunk origin) (λ c. IfSome self.old (λ s. s ≡ c.start)) }
+        ensures behind { IfOk result (λ b. b ≡ behind_of origin) }
+        ensures end { OnOk result (self.new ≡ end_behind self.old origin) }
     {
-        self.is_last = false;
-    }
-
-    /// The replay goes on, with the chunk that was stepped for it, if one was.
-    pub fn go_on(&mut self, stepped: Option<ChunkRun>) -> Result<(), AllocError>
-        requires { IfSome stepped (λ c. IfSome self.old (λ s. s ≡ c.start)) }
-        ensures { OnOk result (self.new ≡ option_map (λ c. end_from c.start c.ops) stepped) }
-    {
-        match stepped {
-            Some(chunk) => self.push(chunk),
-            None => {
-                self.leave();
-                Ok(())
+        match origin {
+            Origin::Old => Ok(Behind::Nothing),
+            Origin::Shelf(number) => Ok(Behind::Shelf(number)),
+            Origin::Stepped(chunk) => {
+                self.push(chunk, before.is_stepped())?;
+                Ok(Behind::Stepped)
             }
         }
     }

@@ -9,6 +9,7 @@ ghost use Rattle.run_engine.specs.GivenUp.{given_up, name_at, names_at, IsTouche
 ghost use Rattle.run_engine.specs.Loaded.{is_gone, kept_below, loaded_view};
 
 use crate::replay::fresh::Fresh;
+use crate::replay::origin::{Behind, Origin};
 use crate::replay::piece::{Piece, STRIDE, joined, replayed_on, stepped};
 use crate::segments::blocks::Segments;
 use mark_shelf::MarkShelf;
@@ -39,7 +40,7 @@ pub fn loaded(
         end: Heap::empty(),
         len: 0,
         fresh: Fresh::none(alloc),
-        kept: None,
+        behind: Behind::Nothing,
         gone: BTreeSet::new(alloc),
     };
     while front.len < ops.len() {
@@ -51,7 +52,7 @@ pub fn loaded(
         } else {
             let mut piece = stepped(alloc, &front.end, copies, meter)?;
             // of a whole trace no chunk is remembered, and one that stayed would keep its heaps
-            piece.stepped = None;
+            piece.origin = Origin::Old;
             front = joined(alloc, front, piece)?;
         }
     }

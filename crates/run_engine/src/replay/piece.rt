@@ -1,15 +1,20 @@
 //! Pieces of a replay.
-ghost use Rattle.std.specs.Prelude.{◌≡◌, ◌++◌, ◌+◌, ◌^◌, ◌<◌, ◌≤◌, ℕ, List, ◌∷◌, [], None, IfOk, OnOk, IfSome, IsTrue, length};
+ghost use Rattle.std.specs.Prelude.{◌≡◌, ◌++◌, ◌+◌, ◌^◌, ◌<◌, ◌≤◌, ℕ, List, ◌∷◌, [], IfOk, OnOk, IfSome, IsTrue, length};
+ghost use Rattle.std.specs.Map.{lookup};
 ghost use Rattle.trace_types.specs.Trace.{has_distinct_numbers};
 ghost use Rattle.ownership_model.specs.Step.{end_from, AreUnused};
 ghost use Rattle.op_step.specs.Meter.{raised};
 ghost use Rattle.op_step.specs.Chunk.{Chunk};
 ghost use Rattle.mark_shelf.specs.Joints.{EndsWith};
+ghost use Rattle.mark_shelf.specs.Shelf.{name_of, name_eq};
 ghost use Rattle.run_engine.specs.Segments.{bare_segment, IsPiece};
 ghost use Rattle.run_engine.specs.Memo.{IsAmong, IsSearched};
+ghost use Rattle.run_engine.specs.Origins.{stepped_chunk, behind_of, shelf_number};
 ghost use Rattle.run_engine.specs.Placed.{IsPlaced, IsNext};
+ghost use Rattle.run_engine.specs.declared.replay.origin.Behind.TheVariants.{Stepped};
 
 use crate::replay::fresh::Fresh;
+use crate::replay::origin::{Behind, Origin};
 use crate::segments::blocks::Segments;
 use crate::segments::segment::Segment;
 use mark_shelf::{MarkShelf, finds_what_was_there};
@@ -22,47 +27,42 @@ use trace_types::ops::Op;
 /// How many operations stand between neighbouring checkpoints where they are stepped.
 pub const STRIDE: usize = 64;
 
-/// A piece of a replay: its segments, the heap after them, how many operations they have, the chunks that were stepped for it, the number
-/// of the shelf's chunk that ends with that heap, where one is known, and the names of checkpoints that the shelf has answered so far.
+/// A piece of a replay: its segments, the heap after them, how many operations they have, the chunks that were stepped for it, what is known
+/// to end with that heap, and the names of checkpoints that the shelf has answered so far.
 #[derive(Drop)]
 pub struct Piece {
     pub segments: Segments,
     pub end: Heap,
     pub len: usize,
     pub fresh: Fresh,
-    pub kept: Option<u64>,
+    pub behind: Behind,
     pub gone: BTreeSet<u32>,
 }
 
-/// What a replay goes on with: its segments, the heap after them, how many operations they have, and the chunk that was stepped for it, or
-/// the number of that which the shelf has, where it is one.
+/// What a replay goes on with: its segments, the heap after them, how many operations they have, and where they come from.
 #[derive(Drop)]
 pub struct Next {
     pub segments: Segments,
     pub end: Heap,
     pub len: usize,
-    pub stepped: Option<ChunkRun>,
-    pub kept: Option<u64>,
+    pub origin: Origin,
 }
 
 impl Next {
-    /// A chunk to go on with. Whether it was stepped, or which of the shelf's it is, is for the caller to tell.
+    /// A chunk to go on with. Whether it was stepped, or which of the shelf's it is, is for the caller to say.
     pub fn of(alloc: Global, chunk: &ChunkRun) -> Result<Self, AllocError>
         requires { 0 < length chunk.now.ops }
         ensures piece { IfOk result
             (λ p. IsPiece chunk.now.start chunk.now.ops p.segments p.end p.len) }
         ensures whole { IfOk result (λ p. p.len ≡ length chunk.now.ops) }
         ensures end { IfOk result (λ p. p.end ≡ end_from chunk.now.start chunk.now.ops) }
-        ensures stepped { IfOk result (λ p. p.stepped ≡ None) }
-        ensures kept { IfOk result (λ p. p.kept ≡ None) }
     {
         let segments = Segments::empty(alloc).push(alloc, Segment::of(alloc, chunk)?)?;
         Ok(Next {
             segments,
             end: chunk.end().share()?,
             len: chunk.ops().len(),
-            stepped: None,
-            kept: None,
+            origin: Origin::Old,
         })
     }
 }
@@ -70,24 +70,26 @@ impl Next {
 /// A piece and what it goes on with, with the answered names of the first.
 pub fn joined(alloc: Global, front: Piece, next: Next) -> Result<Piece, AllocError>
     requires fits { front.len + next.len < 2 ^ 64 }
-    requires behind { IfSome next.stepped (λ c. IfSome front.fresh (λ s. s ≡ c.start)) }
+    requires behind { front.behind ≡ Stepped →
+        IfSome (stepped_chunk next.origin) (λ c. IfSome front.fresh (λ s. s ≡ c.start)) }
     ensures segments { IfOk result
         (λ p. p.segments ≡ front.segments ++ next.segments) }
     ensures end { IfOk result (λ p. p.end ≡ next.end) }
     ensures len { IfOk result (λ p. p.len ≡ front.len + next.len) }
+    ensures behind { IfOk result (λ p. p.behind ≡ behind_of next.origin) }
     ensures gone { IfOk result (λ p. p.gone ≡ front.gone) }
     ensures placed { (chunks : List (ℕ × Chunk)) → IsNext chunks front.end next →
         IfOk result (IsPlaced chunks) }
 {
     let segments = front.segments.append(alloc, next.segments)?;
     let mut fresh = front.fresh;
-    fresh.go_on(next.stepped)?;
+    let behind = fresh.go_on(front.behind, next.origin)?;
     Ok(Piece {
         segments,
         end: next.end,
         len: front.len + next.len,
         fresh,
-        kept: next.kept,
+        behind,
         gone: front.gone,
     })
 }
@@ -111,7 +113,7 @@ pub fn stepped(
 {
     let chunk = run_of(alloc, heap, ops, meter)?;
     let mut piece = Next::of(alloc, &chunk)?;
-    piece.stepped = Some(chunk);
+    piece.origin = Origin::Stepped(chunk);
     Ok(piece)
 }
 
@@ -130,15 +132,17 @@ pub fn found(
         (λ o. IfSome o (λ p. IsPiece heap.now ops.now p.segments p.end p.len)) }
     ensures whole { IfOk result (λ o. IfSome o (λ p. p.len ≡ length ops.now)) }
     ensures there { IfOk result (λ o. IfSome o (λ _. IsAmong shelf.old.chunks heap.now ops.now)) }
+    ensures number { IfOk result (λ o. IfSome o (λ p.
+        lookup (name_eq (name_of ops.now)) shelf.old.names ≡ shelf_number (behind_of p.origin))) }
     ensures next { IfOk result (λ o. IfSome o (IsNext shelf.new.chunks heap.now)) }
     ensures searched { IsSearched shelf.old shelf.new }
 {
     finds_what_was_there();
-    let Some((number, chunk)) = shelf.find_behind(heap, ops, before) else {
+    let Some(found) = shelf.find_behind(heap, ops, before) else {
         return Ok(None);
     };
-    let mut piece = Next::of(alloc, &chunk)?;
-    piece.kept = Some(number);
+    let mut piece = Next::of(alloc, &found.chunk)?;
+    piece.origin = Origin::Shelf(found.number);
     Ok(Some(piece))
 }
 
@@ -168,14 +172,12 @@ pub fn replayed_on(
     let (outcomes, end) = replay_from(alloc, front.end, &ops, meter)?;
     let bare = Segment::bare(alloc, ops, outcomes)?;
     let segments = front.segments.push(alloc, bare)?;
-    let mut fresh = front.fresh;
-    fresh.leave();
     Ok(Piece {
         segments,
         end,
         len,
-        fresh,
-        kept: None,
+        fresh: front.fresh,
+        behind: Behind::Nothing,
         gone: front.gone,
     })
 }

@@ -5,12 +5,12 @@ use crate::replay::piece::Piece;
 
 /// Where the replay of an edited trace had the old run's heap: behind so many operations of the edited trace, and of the old one.
 #[derive(Clone, Copy, Debug, PartialEq, Eq)]
-pub struct Joint {
+pub struct Fork {
     pub edited: usize,
     pub base: usize,
 }
 
-impl Joint {
+impl Fork {
     /// Whether it stands behind so many operations of the edited trace, and so many of the old one.
     pub fn is_at(self, edited: usize, base: usize) -> bool
         ensures { IsTrue result ↔ ((self.edited ≡ edited) × (self.base ≡ base)) }
@@ -23,5 +23,5 @@ impl Joint {
 #[derive(Drop)]
 pub struct Progress {
     pub front: Piece,
-    pub joint: Joint,
+    pub fork: Fork,
 }

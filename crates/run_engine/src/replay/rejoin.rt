@@ -5,7 +5,7 @@ ghost use Rattle.ownership_model.specs.State.{nothing_held};
 ghost use Rattle.ownership_model.specs.Step.{end_from, AreUnused};
 ghost use Rattle.ownership_model.specs.Agrees.{HaveSameRoots};
 ghost use Rattle.agreement.specs.Agreement.{Agree};
-ghost use Rattle.run_engine.specs.Divergence.{IsJoint, DifferWithin, IsDivergence, HasCompared};
+ghost use Rattle.run_engine.specs.Divergence.{IsFork, DifferWithin, IsDivergence, HasCompared};
 ghost use Rattle.run_engine.specs.OldRun.{old_trace, new_trace, rest_of};
 ghost use Rattle.run_engine.specs.Segments.{trace_of, marks_from, IsReached, IsRunFrom};
 
@@ -47,7 +47,7 @@ pub fn rejoined_at(
 ) -> Result<Option<(Segments, Heap)>, AllocError>
     requires front { IsReached (new_trace revision.now)
         progress.now.front.len progress.now.front.segments progress.now.front.end }
-    requires joint { IsJoint revision.now progress.now.joint }
+    requires fork { IsFork revision.now progress.now.fork }
     requires within { old.now.index ≤ length revision.now.segments.now }
     requires place { length (trace_of (take old.now.index revision.now.segments.now)) ≡ old.now.at }
     requires mark { old.now.mark

@@ -14,6 +14,7 @@ use crate::editing::head_and_tail::{head, tail};
 use crate::editing::listing::Listing;
 use crate::replay::converge::{Seam, converge};
 use crate::replay::fresh::Fresh;
+use crate::replay::origin::Behind;
 use crate::replay::piece::Piece;
 use crate::replay::revision::Revision;
 use crate::segments::blocks::Segments;
@@ -80,7 +81,7 @@ fn front(alloc: Global, revision: &Revision, head: usize) -> Result<Piece, Alloc
         end: restart.heap,
         len: restart.at,
         fresh: Fresh::none(alloc),
-        kept: None,
+        behind: Behind::Nothing,
         gone: BTreeSet::new(alloc),
     })
 }

@@ -4,14 +4,15 @@ ghost use Rattle.ownership_model.specs.State.{nothing_held};
 ghost use Rattle.ownership_model.specs.Step.{end_from};
 ghost use Rattle.run_engine.specs.Segments.{trace_of, marks_from, BeginsMarked, IsRun, IsPiece};
 ghost use Rattle.run_engine.specs.OldRun.{old_trace, old_marks, new_trace};
-ghost use Rattle.run_engine.specs.Divergence.{IsJoint};
+ghost use Rattle.run_engine.specs.Divergence.{IsFork};
 ghost use Rattle.run_engine.specs.NewMarks.{AreNeighbours};
 ghost use Rattle.op_step.specs.Chunk.{Chunk};
 ghost use Rattle.run_engine.specs.Steps.{IsOldStretch};
 ghost use Rattle.run_engine.specs.Placed.{IsNext};
 
+use crate::replay::origin::Origin;
 use crate::replay::piece::Next;
-use crate::replay::progress::Joint;
+use crate::replay::progress::Fork;
 use crate::replay::revision::Revision;
 use crate::segments::blocks::Segments;
 use crate::segments::seek::segment_at;
@@ -22,19 +23,19 @@ use std::alloc::{AllocError, Global};
 /// The old stretch between neighbouring checkpoints that the operations from `at` on come from, if it begins with this heap,
 /// they are all of it, and it doesn't go past `to`; and how many old operations stand before its end.
 ///
-/// Where the joint stands just there, the heap is that of the stretch, and no heap is compared: as it is behind another old stretch.
+/// Where the fork stands just there, the heap is that of the stretch, and no heap is compared: as it is behind another old stretch.
 pub fn old_stretch(
     alloc: Global,
     revision: &Revision,
     heap: &Heap,
     at: usize,
     to: usize,
-    joint: Joint,
+    fork: Fork,
 ) -> Result<Option<(Next, usize)>, AllocError>
     requires some { at < to }
     requires within { to ≤ length (new_trace revision.now) }
     requires heap { heap.now ≡ end_from nothing_held (take at (new_trace revision.now)) }
-    requires joint { IsJoint revision.now joint }
+    requires fork { IsFork revision.now fork }
     ensures gap { IfOk result
         (λ o. IfSome o (λ p. AreNeighbours (old_marks revision.now) p.0.len)) }
     ensures stretch { IfOk result (λ o. IfSome o (λ p.
@@ -69,7 +70,7 @@ pub fn old_stretch(
     if len > to - at {
         return Ok(None);
     }
-    let is_same = has_heap(alloc, &mark, heap, joint.is_at(at, from))?;
+    let is_same = has_heap(alloc, &mark, heap, fork.is_at(at, from))?;
     if !is_same {
         return Ok(None);
     }
@@ -80,8 +81,7 @@ pub fn old_stretch(
         segments,
         end: after,
         len,
-        stepped: None,
-        kept: None,
+        origin: Origin::Old,
     };
     Ok(Some((piece, from + len)))
 }

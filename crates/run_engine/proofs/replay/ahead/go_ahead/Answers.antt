@@ -1,3 +1,4 @@
+use Rattle.run_engine.specs.Origins.{shelf_number}
 use Rattle.run_engine.proofs.OnwardLemmas.{IsOnward-ahead}
 use Rattle.run_engine.proofs.FreshLemmas.{EndsWith-fewer}
 use Rattle.run_engine.proofs.replay.ahead.go_ahead.Goals as goal
@@ -5,7 +6,7 @@ use Rattle.run_engine.proofs.replay.ahead.go_ahead.Goals as goal
 pub step_ahead-requires-clause-placed : goal.step_ahead-requires-clause-placed
 step_ahead-requires-clause-placed c = record {
   fresh = c.requires.placed.fresh;
-  kept = EndsWith-fewer c.args.shelf.now.chunks c.touch_ahead.new.shelf.chunks c.args.front.kept c.args.front.end c.in_ok-touch_ahead.ensures.answered.touched.fewer c.requires.placed.kept;
+  kept = EndsWith-fewer c.args.shelf.now.chunks c.touch_ahead.new.shelf.chunks (shelf_number c.args.front.behind) c.args.front.end c.in_ok-touch_ahead.ensures.answered.touched.fewer c.requires.placed.kept;
 }
 
 pub returns-clause-goes_on : goal.returns-clause-goes_on

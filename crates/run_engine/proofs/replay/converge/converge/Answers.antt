@@ -16,7 +16,7 @@ use Rattle.run_engine.proofs.ConvergeLemmas.{IsBeside-first, IsBeside-next, leas
 use Rattle.run_engine.proofs.replay.converge.converge.Goals.{then-at-seam+in-Some+in_ok-progress+in_ok-found+in_default-found, then-at-seam+in_default, else-at-seam}
 use Rattle.run_engine.proofs.MarksLemmas.{all_marks-stop, all_marks-rest, IsReached-length}
 use Rattle.run_engine.proofs.LeftLemmas.{left-at-stop, left-at-end}
-use Rattle.run_engine.proofs.DivergenceLemmas.{IsDivergence-joint}
+use Rattle.run_engine.proofs.DivergenceLemmas.{IsDivergence-fork}
 use Rattle.run_engine.proofs.GoesOnLemmas.{GoesOn-none, GoesOn-next, GoesOn-steps}
 use Rattle.run_engine.specs.Bounds.{AgreesAt}
 use Rattle.run_engine.proofs.SteppedLemmas.{AreStepped-stop, AreStepped-end}
@@ -33,7 +33,7 @@ advance-requires c = record {
     order = c.loop-i.invariant.place.order;
     within = moved-within _ _ c.args.seam.base c.args.seam.edited c.loop-i.at c.requires.shared (place-within c.args.revision.now.segments.now c.loop-i.i c.loop-i.at c.loop-i.invariant.place.place) c.if-at-seam.true;
   };
-  joint = c.loop-i.invariant.joint;
+  fork = c.loop-i.invariant.fork;
   placed = c.loop-i.invariant.placed;
 }
 
@@ -172,9 +172,9 @@ loop-i-init c = record {
   place = IsBeside-first c.args.revision.now.segments.now c.args.revision.now.ops.now.ops c.args.seam.base c.args.seam.edited c.args.front.len c.args.meter.now c.last_from-first.result.0 c.last_from-first.result.1 c.args.front.segments c.args.front.end
       c.args.revision.now.holds.kept.run.full c.last_from-first.ensures.last.within c.last_from-first.ensures.last.place c.last_from-first.ensures.last.before c.requires.may.reached c.requires.may.order;
   beside = GoesOn-none (trace_of c.args.revision.now.segments.now) c.args.revision.now.ops.now.ops (all_marks c.args.revision.now.segments.now) c.args.front c.args.shelf.now c.args.meter.now c.requires.may.reached;
-  joint = ap (end_from nothing_held) c.requires.begins;
+  fork = ap (end_from nothing_held) c.requires.begins;
   placed = c.requires.placed;
-  known = IsDivergence-joint c.args.revision.now c.none-divergence.result (record { edited = c.args.front.len; base = c.args.front.len }) c.none-divergence.ensures.within c.none-divergence.ensures.edited c.none-divergence.ensures.base (ap (end_from nothing_held) c.requires.begins);
+  known = IsDivergence-fork c.args.revision.now c.none-divergence.result (record { edited = c.args.front.len; base = c.args.front.len }) c.none-divergence.ensures.within c.none-divergence.ensures.edited c.none-divergence.ensures.base (ap (end_from nothing_held) c.requires.begins);
   never_less = omega arith;
 }
 
@@ -211,7 +211,7 @@ loop-i-preserved c =
                 let f : is_some w.in_ok-found.found ≡ false = ap is_some w.in_default-found.is in
                 cc);
             beside = GoesOn-next _ _ _ _ _ _ _ _ _ _ _ _ c.loop-i.invariant.beside w.in_ok-progress.ensures.beside;
-            joint = w.in_ok-progress.ensures.joint;
+            fork = w.in_ok-progress.ensures.fork;
             placed = w.in_ok-progress.ensures.placed;
             known = w.in_ok-found.ensures.known;
             never_less = omega (arith, c.loop-i.invariant.never_less, w.advance.ensures.never_less);
@@ -223,7 +223,7 @@ loop-i-preserved c =
                 c.loop-i.progress.front.len c.loop-i.progress.front.segments c.loop-i.progress.front.end c.loop-i.meter c.at-segment.result c.loop-i.invariant.place (omega (arith, c.loop-i-test.true, c.len-i-end.ensures)) c.at-segment.ensures c.loop-i.invariant.place.front c.loop-i.invariant.place.order c.loop-i.invariant.place.rise
                 (λ marked behind agrees. let f : is_some c.at-segment.result.mark ≡ false = ap is_some (sym w.in_default.ensures) in cc);
             beside = c.loop-i.invariant.beside;
-            joint = c.loop-i.invariant.joint;
+            fork = c.loop-i.invariant.fork;
             placed = c.loop-i.invariant.placed;
             known = c.loop-i.invariant.known;
             never_less = c.loop-i.invariant.never_less;
@@ -235,7 +235,7 @@ loop-i-preserved c =
                 c.loop-i.progress.front.len c.loop-i.progress.front.segments c.loop-i.progress.front.end c.loop-i.meter c.at-segment.result c.loop-i.invariant.place (omega (arith, c.loop-i-test.true, c.len-i-end.ensures)) c.at-segment.ensures c.loop-i.invariant.place.front c.loop-i.invariant.place.order c.loop-i.invariant.place.rise
                 (λ marked behind agrees. let lt : c.loop-i.at < c.args.seam.base = w.if-at-seam.false in omega arith);
             beside = c.loop-i.invariant.beside;
-            joint = c.loop-i.invariant.joint;
+            fork = c.loop-i.invariant.fork;
             placed = c.loop-i.invariant.placed;
             known = c.loop-i.invariant.known;
             never_less = c.loop-i.invariant.never_less;

@@ -1,5 +1,5 @@
 use Rattle.std.proofs.Common.{◌≤◌}
-use Rattle.run_engine.specs.Divergence.{IsJoint, IsDivergence}
+use Rattle.run_engine.specs.Divergence.{IsFork, IsDivergence}
 use Rattle.run_engine.specs.GoesOn.{GoesOnBeside}
 use Rattle.run_engine.specs.Placed.{IsPlaced}
 use Rattle.run_engine.proofs.ConvergeLemmas.{IsBeside}
@@ -9,7 +9,7 @@ abbrev pub invariant-loop-i : goal.invariant-loop-i
 invariant-loop-i l = record {
   place : IsBeside l.revision.segments.now l.revision.ops.now.ops l.seam.base l.seam.edited l.fn.front.len l.initial.meter l.i l.at l.progress.front.len l.progress.front.segments l.progress.front.end l.meter;
   beside : GoesOnBeside l.revision l.fn.front l.progress.front l.initial.shelf l.shelf l.initial.meter l.meter;
-  joint : IsJoint l.revision l.progress.joint;
+  fork : IsFork l.revision l.progress.fork;
   placed : IsPlaced l.shelf.chunks l.progress.front;
   known : IsDivergence l.revision l.divergence;
   never_less : l.initial.meter ≤ l.meter;

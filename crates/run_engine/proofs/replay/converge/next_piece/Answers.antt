@@ -38,8 +38,8 @@ returns-clause-piece c =
 pub returns-in-Some-stretch-clause-next : goal.returns-in-Some-stretch-clause-next
 returns-in-Some-stretch-clause-next c = rw c.in-Some-stretch.is at (c.in_ok-stretch.ensures.next c.found.new.shelf.chunks)
 
-pub returns-in-Some-stretch-clause-joint : goal.returns-in-Some-stretch-clause-joint
-returns-in-Some-stretch-clause-joint c =
+pub returns-in-Some-stretch-clause-fork : goal.returns-in-Some-stretch-clause-fork
+returns-in-Some-stretch-clause-fork c =
     let piece = rw c.in-Some-stretch.is at c.in_ok-stretch.ensures.piece in
     sym (IsReached-next c.args.revision.now.ops.now.ops c.args.progress.now.front.len c.args.to c.in-Some-stretch.piece.len c.args.progress.now.front.segments c.in-Some-stretch.piece.segments c.args.progress.now.front.end c.in-Some-stretch.piece.end
     c.requires.may.reached c.requires.may.order c.requires.may.within piece).state

@@ -2,6 +2,7 @@ use Rattle.std.proofs.Common.{◌-◌, ◌≤◌, drop, arith}
 use Rattle.std.proofs.lemmas.List.{length-take}
 use Rattle.run_engine.specs.Segments.{trace_of, marks_from, all_marks}
 use Rattle.run_engine.specs.GoesOn.{GoesOnBeside}
+use Rattle.run_engine.specs.Origins.{stepped_chunk, shelf_number}
 use Rattle.run_engine.proofs.PieceLemmas.{IsReached-next, marks_from-piece}
 use Rattle.run_engine.proofs.OnwardLemmas.{IsOnward-piece}
 use Rattle.run_engine.proofs.SteppedLemmas.{HaveStepped-next}
@@ -12,7 +13,7 @@ use Rattle.run_engine.proofs.replay.converge.serve.Goals as goal
 pub loop-progress-init : goal.loop-progress-init
 loop-progress-init c = record {
   beside = GoesOn-none (trace_of c.args.revision.now.segments.now) c.args.revision.now.ops.now.ops (all_marks c.args.revision.now.segments.now) c.args.progress.front c.args.shelf.now c.args.meter.now c.requires.may.reached;
-  joint = c.requires.joint;
+  fork = c.requires.fork;
   placed = c.requires.placed;
   order = c.requires.may.order;
   never_less = omega arith;
@@ -24,12 +25,11 @@ next_piece-requires-clause-placed c =
     let placed = c.loop-progress.invariant.placed in
     record {
       fresh = placed.fresh;
-      kept = EndsWith-fewer c.loop-progress.shelf.chunks c.touch_at.new.shelf.chunks c.loop-progress.progress.front.kept c.loop-progress.progress.front.end c.in_ok-touch_at.ensures.answered.touched.fewer placed.kept;
+      kept = EndsWith-fewer c.loop-progress.shelf.chunks c.touch_at.new.shelf.chunks (shelf_number c.loop-progress.progress.front.behind) c.loop-progress.progress.front.end c.in_ok-touch_at.ensures.answered.touched.fewer placed.kept;
     }
 
 pub joined-requires-clause-behind : goal.joined-requires-clause-behind
-joined-requires-clause-behind c =
-    begins-there c.in_ok-piece.piece.stepped c.loop-progress.progress.front.fresh c.loop-progress.progress.front.end c.in_ok-piece.ensures.next.start_is c.loop-progress.invariant.placed.fresh
+joined-requires-clause-behind c = λ last. begins-there (stepped_chunk c.in_ok-piece.piece.origin) c.loop-progress.progress.front.fresh c.loop-progress.progress.front.end c.in_ok-piece.ensures.next.start_is (c.loop-progress.invariant.placed.fresh last)
 
 pub joined-requires-clause-fits : goal.joined-requires-clause-fits
 joined-requires-clause-fits c =
@@ -45,7 +45,7 @@ loop-progress-preserved-then-at-next c =
     let old = c.args.revision.now.segments.now in
     record {
       beside = GoesOn-next _ _ _ _ _ _ _ _ _ _ _ _ h.beside (on.goes_on (trace_of old) (all_marks old));
-      joint = h.joint;
+      fork = h.fork;
       placed = on.placed;
       order = omega (arith, on.there, c.next_start-next.ensures.within);
       never_less = omega (arith, h.never_less, on.never_less);
@@ -74,7 +74,7 @@ loop-progress-preserved c =
     } in
     record {
       beside = GoesOn-next _ _ _ _ _ _ _ _ _ _ _ _ h.beside on;
-      joint = c.in_ok-piece.ensures.joint;
+      fork = c.in_ok-piece.ensures.fork;
       placed = joined.placed c.next_piece.new.shelf.chunks c.in_ok-piece.ensures.next;
       order = omega (arith, joined.len, long, order);
       never_less = omega (arith, h.never_less, c.in_ok-piece.ensures.never_less);

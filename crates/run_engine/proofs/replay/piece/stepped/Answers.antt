@@ -9,5 +9,5 @@ pub returns-clause-next : goal.returns-clause-next
 returns-clause-next c = λ chunks. record {
   start_is = ap (λ (k : Chunk). k.start) c.in_ok-chunk.ensures.chunk;
   end_is = sym c.in_ok-piece.ensures.end;
-  kept = rw c.in_ok-piece.ensures.kept tt;
+  kept = tt;
 }

@@ -9,7 +9,7 @@ use Rattle.run_engine.specs.HeadAndTail.{AreAlike}
 use Rattle.run_engine.proofs.PieceLemmas.{old-piece}
 use Rattle.run_engine.proofs.MarksLemmas.{old-neighbours, old-stretch-is}
 use Rattle.run_engine.proofs.PlaceLemmas.{trace_of-front}
-use Rattle.run_engine.proofs.StretchLemmas.{stretch-ops, stretch-behind, joint-mark}
+use Rattle.run_engine.proofs.StretchLemmas.{stretch-ops, stretch-behind, fork-mark}
 use Rattle.run_engine.proofs.replay.stretch.old_stretch.Goals as goal
 
 pub overflow_add-i : goal.overflow_add-i
@@ -53,5 +53,5 @@ returns c =
 
 pub has_heap-requires : goal.has_heap-requires
 has_heap-requires c = λ t.
-    joint-mark c.args.revision.now c.args.joint c.in-Some-segment_at.i c.args.at (c.in-Some.alike.from + (c.args.at - c.in-Some.alike.at)) c.at.result c.args.heap.now c.in-Some-mark.mark c.requires.joint (c.is_at.ensures.0 t) c.requires.heap
+    fork-mark c.args.revision.now c.args.fork c.in-Some-segment_at.i c.args.at (c.in-Some.alike.from + (c.args.at - c.in-Some.alike.at)) c.at.result c.args.heap.now c.in-Some-mark.mark c.requires.fork (c.is_at.ensures.0 t) c.requires.heap
     c.in-Some-segment_at.ensures.place c.in-Some-segment_at.ensures.within c.at.ensures c.in-Some-mark.ensures

@@ -14,7 +14,7 @@ returns-clause-known c =
             rw (w.self-is, v.self-is)
             (caught-up (new_trace c.args.revision.now) c.args.revision.now.segments.now c.args.progress.now.front.segments c.begin_anew.new.self.edited c.begin_anew.new.self.base c.args.progress.now.front.len c.args.index c.args.at
             w.in-Some.suspects w.follow.new.suspects v.follow-then-branch.new.suspects c.args.progress.now.front.end
-            (rw w.in-Some.is at c.begin_anew.ensures.known c.args.revision.now c.requires.known c.requires.joint) c.requires.front
+            (rw w.in-Some.is at c.begin_anew.ensures.known c.args.revision.now c.requires.known c.requires.fork) c.requires.front
             (rw w.len.ensures at w.in_ok-is_known.ensures v.if-branch.true)
             (v.in_ok-is_known-2.ensures (sym v.is_known-is ∙ w.if-not-is_known.false)) c.requires.place)
         | else-branch v ↦ absurd (let no = sym v.is_known-is ∙ w.if-not-is_known.false in cc)
