@@ -179,7 +179,7 @@ struct Own {
 void a_value_that_knows_itself() {
     const auto trace = recorded([] {
         Shared<Own> own(std::make_shared<Own>());
-        auto weak = own.get(&Own::me);
+        const auto weak = own.get(&Own::me);
         check(weak.lock() == own);
         own.reset();
         check(!weak.lock());
@@ -289,6 +289,7 @@ void stopped_by(Fault fault, const std::function<void()>& mistake, At at = At::c
         },
         fault, at);
     check(trace.find("\"fields\":[],") == trace.rfind("\"fields\":[],"), trace, at);
+    check(trace.find("\"me\"") == std::string::npos, trace, at);
 }
 
 struct Wide {
@@ -311,7 +312,10 @@ void what_stops_a_recording() {
         value.set(&Forgetful::hidden, new_node());
         check(value.get(&Forgetful::hidden).use_count() == 2);
     });
-    stopped_by(Fault::foreign_me, [] { Shared<Foreign> value(std::make_shared<Foreign>()); });
+    stopped_by(Fault::foreign_me, [] {
+        Shared<Foreign> value(std::make_shared<Foreign>());
+        check(!value.get(&Foreign::not_me).lock());
+    });
     stopped_by(Fault::held_before, [] {
         auto raw = std::make_shared<Node>();
         Shared<Node> node(raw);

@@ -42,11 +42,9 @@ class AnySlot {
     AnySlot(const AnySlot&) = delete;
     AnySlot& operator=(const AnySlot&) = delete;
 
-    virtual bool is_me() const = 0;
-    // What the slot holds as a handle. It is a field from now on.
-    virtual Name settle(std::size_t number) = 0;
-    // Makes a slot with `me` hold its own value weakly. False where the value is of another class than the slot names.
-    virtual bool hold(const std::shared_ptr<void>& value, const std::type_info& type) = 0;
+    // Makes the slot field `number` of a value that comes into a Shared, and says what it holds. A slot with `me` holds the value.
+    virtual FirstSlot settle(std::size_t number, const std::shared_ptr<void>& value,
+                             const std::type_info& type) = 0;
 
   protected:
     ~AnySlot() = default;

@@ -137,7 +137,7 @@ class Handle {
     }
 
     /// A handle to the object, or to nothing where it is gone.
-    Shared<element_type> lock(At at = At::current()) requires(!detail::is_shared<Pointer>) {
+    Shared<element_type> lock(At at = At::current()) const requires(!detail::is_shared<Pointer>) {
         detail::InOrder in_order;
         come_into_trace(at);
         std::shared_ptr<element_type> found = pointer_.lock();
@@ -218,33 +218,30 @@ class Handle {
     }
 
     void write_new() {
+        using Kind = detail::FirstSlot::Kind;
         if (pointer_.use_count() != 1) detail::recorder().stop(Fault::held_before);
-        const auto slots = detail::slots_of(*pointer_);
-        if (slots.size() > detail::max_fields) detail::recorder().stop(Fault::fields);
+        const std::vector<detail::FirstSlot> fields = settle();
+        if (fields.size() > detail::max_fields) detail::recorder().stop(Fault::fields);
         bool is_cyclic = false;
-        for (const auto* slot : slots) is_cyclic = is_cyclic || slot->is_me();
-        std::vector<detail::Name> over;
+        for (const auto& field : fields) {
+            if (field.kind == Kind::me) is_cyclic = true;
+            if (field.kind == Kind::foreign_me) detail::recorder().stop(Fault::foreign_me);
+        }
         name_ = detail::write(is_cyclic ? "new_cyclic" : "new", made_at_, [&](detail::Line& line) {
-            line.begin_fields();
-            for (std::size_t i = 0; i < slots.size(); i++) {
-                const bool is_me = slots[i]->is_me();
-                const detail::Name name = slots[i]->settle(i);
-                if (is_me)
-                    line.field("\"me\"");
-                else if (name)
-                    line.field(name);
-                else
-                    line.field("null");
-                if (name) over.push_back(name);
-            }
-            line.end_fields();
+            line.fields(fields);
             line.makes("to");
         });
-        for (const detail::Name name : over)
-            detail::ended(name);  // not before: `to` has to be another number
-        for (auto* slot : slots)
-            if (slot->is_me() && !slot->hold(pointer_, typeid(element_type)))
-                detail::recorder().stop(Fault::foreign_me);
+        for (const auto& field : fields)
+            if (field.kind == Kind::handle)
+                detail::ended(field.name);  // not before: `to` has to be another number
+    }
+
+    // Makes the slots of the object its fields, and says what they hold.
+    std::vector<detail::FirstSlot> settle() {
+        std::vector<detail::FirstSlot> fields;
+        for (detail::AnySlot* slot : detail::slots_of(*pointer_))
+            fields.push_back(slot->settle(fields.size(), pointer_, typeid(element_type)));
+        return fields;
     }
 
     Pointer pointer_;

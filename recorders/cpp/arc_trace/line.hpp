@@ -5,6 +5,7 @@
 #include <source_location>
 #include <string>
 #include <string_view>
+#include <vector>
 
 namespace arc_trace {
 
@@ -18,6 +19,12 @@ struct Name {
     unsigned recording = 0;
     unsigned number = 0;
     explicit operator bool() const { return recording != 0; }
+};
+
+// What a field of a new value holds, as the line says it.
+struct FirstSlot {
+    enum class Kind { nothing, handle, me, foreign_me } kind = Kind::nothing;
+    Name name;
 };
 
 // The bytes of one UTF-8 character at the front of a text, or 0 where there is none.
@@ -85,19 +92,25 @@ class Line {
         key("answer");
         ((members_ += '"') += answer) += '"';
     }
-    void begin_fields() {
+    void fields(const std::vector<FirstSlot>& fields) {
         key("fields");
         members_ += '[';
+        for (std::size_t i = 0; i < fields.size(); i++) {
+            if (i > 0) members_ += ',';
+            switch (fields[i].kind) {
+                case FirstSlot::Kind::handle:
+                    note(fields[i].name);
+                    members_ += std::to_string(fields[i].name.number);
+                    break;
+                case FirstSlot::Kind::me:
+                    members_ += "\"me\"";
+                    break;
+                default:
+                    members_ += "null";
+            }
+        }
+        members_ += ']';
     }
-    void field(std::string_view text) {
-        if (members_.back() != '[') members_ += ',';
-        members_ += text;
-    }
-    void field(Name name) {
-        note(name);
-        field(std::to_string(name.number));
-    }
-    void end_fields() { members_ += ']'; }
     // The operation makes a handle, or a cell.
     void makes(const char* member) { makes_ = member; }
     void makes_cell() { makes_ = cell; }

@@ -36,18 +36,18 @@ class BasicSlot final : public detail::AnySlot {
 
     static constexpr std::size_t unnumbered = ~std::size_t{0};
 
-    bool is_me() const override { return is_me_; }
-
-    detail::Name settle(std::size_t number) override {
-        number_ = number;
-        return std::exchange(held_.name_, {});
-    }
-
-    bool hold(const std::shared_ptr<void>& value, const std::type_info& type) override {
+    detail::FirstSlot settle(std::size_t number, const std::shared_ptr<void>& value,
+                             const std::type_info& type) override {
         using T = typename Pointer::element_type;
-        if (type != typeid(T)) return false;
+        using Kind = detail::FirstSlot::Kind;
+        number_ = number;
+        if (!is_me_) {
+            const detail::Name name = std::exchange(held_.name_, {});
+            return {name ? Kind::handle : Kind::nothing, name};
+        }
+        if (type != typeid(T)) return {Kind::foreign_me, {}};
         held_.pointer_ = std::static_pointer_cast<T>(value);
-        return true;
+        return {Kind::me, {}};
     }
 
     Handle<Pointer> held_;
