@@ -1,5 +1,5 @@
 //! The root: one entry alone, or a tree with as many levels as the keys need that came into it.
-ghost use Rattle.std.specs.Prelude.{◌≡◌, ℕ, ◌<◌, ◌*◌, ◌^◌, ◌↔◌, ◌++◌, OnOk, OnErr, Some, None, IfSome, IfOk, IsTrue, is_some, false, unwrap_or};
+ghost use Rattle.std.specs.Prelude.{◌≡◌, ℕ, ◌<◌, ◌≤◌, ◌*◌, ◌^◌, ◌↔◌, OnOk, OnErr, Some, None, IfSome, IfOk, IsTrue, is_some, false, unwrap_or};
 ghost use Rattle.std.specs.Bool.{IsFalse};
 ghost use Rattle.std.specs.Option.{option_copied, option_map, IfNone};
 ghost use Rattle.std.specs.Arc.{arc_value};
@@ -8,12 +8,13 @@ ghost use Rattle.share_tree.specs.Levels.{branch_at, root_at, height_of, HasRoom
 ghost use Rattle.share_tree.specs.Walk.{IsNowhereFrom, IsFirstFrom};
 ghost use Rattle.share_tree.specs.Digits.{updated, nowhere, below, child_at, AgreesBelow};
 
+use crate::change::{Change, Insert, Remove, Set};
 use crate::child::Child;
 use crate::leaf::{Leaf, put_in, update_in};
 use crate::leaf_node::LeafNode;
 use crate::level::Level;
 use crate::node::{Node, over};
-use crate::short;
+use crate::question::{FirstFrom, Get, Keys, Question};
 use crate::update::Update;
 use std::alloc::{AllocError, Global};
 use std::sync::Arc;
@@ -67,6 +68,38 @@ impl<V: Drop> Root<V> {
         }
     }
 
+    // The answer of a tree. Its levels are told apart here for all that is asked, and in `change` for all that is changed, since each
+    // function that names the types of all trees is long to prove.
+    #[inline(always)]
+    fn ask<'a, Q: Question<'a, V>>(&'a self, question: Q) -> Q::Answer
+        requires { 0 < height_of self.now }
+        ensures { Q.says question (root_at self.now) result }
+    {
+        match self {
+            Root::One(_, _) => unreachable!(),
+            Root::Two(child) => question.ask(child),
+            Root::Five(child) => question.ask(child),
+            Root::Eight(child) => question.ask(child),
+        }
+    }
+
+    // A tree changed at one key, in place where nobody else holds the level, and the answer.
+    #[inline(always)]
+    fn change<A: Change<V>>(&mut self, alloc: Global, change: A) -> Result<bool, AllocError>
+        requires tall { 0 < height_of self.old }
+        requires able { A.can change (16 ^ height_of self.old) (root_at self.old (A.key change)) }
+        ensures answer { IfOk result (λ b. b ≡ A.answer change (root_at self.old (A.key change))) }
+        ensures ok { OnOk result ((q : ℕ) → root_at self.new q ≡ updated (root_at self.old) (A.key change) (A.to change (root_at self.old (A.key change))) q) }
+        ensures err { OnErr result ((q : ℕ) → root_at self.new q ≡ root_at self.old q) }
+    {
+        match self {
+            Root::One(_, _) => unreachable!(),
+            Root::Two(child) => change.change(alloc, child),
+            Root::Five(child) => change.change(alloc, child),
+            Root::Eight(child) => change.change(alloc, child),
+        }
+    }
+
     /// The value at a key.
     pub fn get(&self, key: u32) -> Option<&V>
         ensures { option_copied result ≡ root_at self.now key }
@@ -79,9 +112,7 @@ impl<V: Drop> Root<V> {
                     None
                 }
             }
-            Root::Two(child) => short::get(child, key),
-            Root::Five(child) => short::get(child, key),
-            Root::Eight(child) => short::get(child, key),
+            _ => self.ask(Get { key }),
         }
     }
 
@@ -99,9 +130,7 @@ impl<V: Drop> Root<V> {
                     None
                 }
             }
-            Root::Two(child) => short::first_from(child, key),
-            Root::Five(child) => short::first_from(child, key),
-            Root::Eight(child) => short::first_from(child, key),
+            _ => self.ask(FirstFrom { key }),
         }
     }
 
@@ -145,9 +174,7 @@ impl<V: Drop> Root<V> {
                 put_in(alloc, leaf, value)?;
                 Ok(true)
             }
-            Root::Two(child) => short::insert(alloc, child, key, value),
-            Root::Five(child) => short::insert(alloc, child, key, value),
-            Root::Eight(child) => short::insert(alloc, child, key, value),
+            _ => self.change(alloc, Insert { key, value }),
         }
     }
 
@@ -207,9 +234,7 @@ impl<V: Drop> Root<V> {
                 }
                 update_in(alloc, leaf, how)
             }
-            Root::Two(child) => short::update(alloc, child, key, how),
-            Root::Five(child) => short::update(alloc, child, key, how),
-            Root::Eight(child) => short::update(alloc, child, key, how),
+            _ => self.change(alloc, Set { key, how }),
         }
     }
 
@@ -225,24 +250,24 @@ impl<V: Drop> Root<V> {
                 }
                 Ok(())
             }
-            Root::Two(child) => short::remove::<V, TwoLevels<V>>(alloc, child, key),
-            Root::Five(child) => short::remove::<V, FiveLevels<V>>(alloc, child, key),
-            Root::Eight(child) => short::remove::<V, EightLevels<V>>(alloc, child, key),
+            _ => {
+                self.change(alloc, Remove { key })?;
+                Ok(())
+            }
         }
     }
 
-    /// Adds the keys that are there, in rising order.
-    pub fn push_keys(&self, keys: &mut Vec<u32>) -> Result<(), AllocError>
-        ensures { OnOk result (keys.new.items ≡ keys.old.items ++ keys_from (root_at self.now) 0 (2 ^ 32)) }
+    /// The keys that are there, in rising order.
+    pub fn keys(&self, alloc: Global) -> Result<Vec<u32>, AllocError>
+        ensures { IfOk result (λ v. v.items ≡ keys_from (root_at self.now) 0 (2 ^ 32)) }
     {
         match self {
             Root::One(only, _) => {
+                let mut keys = Vec::new(alloc);
                 keys.push(*only)?;
-                Ok(())
+                Ok(keys)
             }
-            Root::Two(child) => short::push_keys::<V, TwoLevels<V>>(child, keys),
-            Root::Five(child) => short::push_keys::<V, FiveLevels<V>>(child, keys),
-            Root::Eight(child) => short::push_keys::<V, EightLevels<V>>(child, keys),
+            _ => self.ask(Keys { alloc }),
         }
     }
 
@@ -253,9 +278,9 @@ impl<V: Drop> Root<V> {
         ensures { IsTrue result ↔ AgreesBelow (2 ^ 32) (root_at self.now) (root_at other.now) }
     {
         match (self, other) {
-            (Root::Two(a), Root::Two(b)) => short::same::<V, TwoLevels<V>>(a, b),
-            (Root::Five(a), Root::Five(b)) => short::same::<V, FiveLevels<V>>(a, b),
-            (Root::Eight(a), Root::Eight(b)) => short::same::<V, EightLevels<V>>(a, b),
+            (Root::Two(a), Root::Two(b)) => same::<V, TwoLevels<V>>(a, b),
+            (Root::Five(a), Root::Five(b)) => same::<V, FiveLevels<V>>(a, b),
+            (Root::Eight(a), Root::Eight(b)) => same::<V, EightLevels<V>>(a, b),
             _ => same_walk(self, other),
         }
     }
@@ -317,4 +342,12 @@ fn same_walk<V: Same + Drop>(a: &Root<V>, b: &Root<V>) -> bool
         from = next;
     }
     b.first_from(from).is_none()
+}
+
+// Whether two children have the same entries, as maps from all keys.
+fn same<V: Same, C: Level<V>>(child: &Child<C>, other: &Child<C>) -> bool
+    requires { C.SPAN ≤ 2 ^ 32 }
+    ensures { IsTrue result ↔ AgreesBelow (2 ^ 32) (below C.SPAN (child_at C.at child.now)) (below C.SPAN (child_at C.at other.now)) }
+{
+    child.same::<V>(other)
 }
