@@ -6,20 +6,17 @@ use op_step::Meter;
 use op_step::replay::replay;
 use ownership_model::Remaining;
 use std::alloc::{AllocError, Global};
+use std::process::Abort;
 use std::test::Fail;
 use trace_reader::read_trace;
 use trace_types::kinds::Kind;
 use trace_types::ops::Op;
 use trace_types::sequence::Sequence;
 use trace_types::slots::{Entry, Slot};
+use trace_types::trace::Trace;
 
-// The heap after these lines, and then after operations up to the last number that make an object and drop it again, by turns.
-pub fn heap_of(alloc: Global, parts: &[&str], from: u32, to: u32) -> Result<Heap, Fail> {
-    let mut text = String::new(alloc);
-    for part in parts {
-        text.push_str(part)?;
-    }
-    let mut trace = read_trace(alloc, text.as_bytes()).map_err(|_| Fail::from("a fault"))?;
+// Operations from one number to another that make an object and drop it again, by turns.
+fn add_pairs(alloc: Global, trace: &mut Trace, from: u32, to: u32) -> Result<(), Fail> {
     let mut makes = true;
     for id in from..=to {
         let kind = if makes {
@@ -32,8 +29,47 @@ pub fn heap_of(alloc: Global, parts: &[&str], from: u32, to: u32) -> Result<Heap
         trace.push(op).map_err(|_| Fail::from("refused"))?;
         makes = !makes;
     }
-    let (_, end) = replay(alloc, &trace, &mut Meter::new())?;
+    Ok(())
+}
+
+/// The trace of these lines.
+pub fn read(alloc: Global, parts: &[&str]) -> Result<Trace, Fail> {
+    let mut text = String::new(alloc);
+    for part in parts {
+        text.push_str(part)?;
+    }
+    read_trace(alloc, text.as_bytes()).map_err(|_| Fail::from("a fault"))
+}
+
+/// The heap that the replay of a trace ends with.
+pub fn end_of(alloc: Global, trace: &Trace) -> Result<Heap, Fail> {
+    let (_, end) = replay(alloc, trace, &mut Meter::new())?;
     Ok(end)
+}
+
+// The heap after these lines, and then after operations up to the last number that make an object and drop it again, by turns.
+pub fn heap_of(alloc: Global, parts: &[&str], from: u32, to: u32) -> Result<Heap, Fail> {
+    let mut trace = read(alloc, parts)?;
+    add_pairs(alloc, &mut trace, from, to)?;
+    end_of(alloc, &trace)
+}
+
+/// Lends two such heaps.
+///
+/// A heap is dear to a proof wherever a function that owns one can end: so tests are lent them.
+pub fn with_heaps<F: FnOnce(&Heap, &Heap) -> Result<(), Fail>>(
+    alloc: Global,
+    new: &[&str],
+    old: &[&str],
+    from: u32,
+    to: u32,
+    judge: F,
+) -> Result<(), Fail>
+    requires { F.IsAlwaysCallable judge }
+{
+    let new = heap_of(alloc, new, from, to)?;
+    let old = heap_of(alloc, old, from, to)?;
+    judge(&new, &old)
 }
 
 fn is_apart(meeting: &Meeting) -> bool {
@@ -86,25 +122,48 @@ fn is_held_by(remaining: Option<&Remaining>, other: u32) -> bool {
     }
 }
 
-#[test]
-fn leaked_cycle_remains(rt: HostRuntime) -> Result<(), Fail> {
-    let alloc = rt.alloc();
-    let old = heap_of(alloc, &[CYCLE, BREAK, LET_GO], 12, 64)?;
-    let new = heap_of(alloc, &[CYCLE, LET_GO], 12, 64)?;
-    assert!(rt; !new.same(&old));
-    let found: Option<Remains> = agree(alloc, &new, &old)?;
-    let Some(remains) = found else {
-        return Err(Fail::from("they agree"));
-    };
+/// The remains of two heaps that agree.
+pub fn remains_of(alloc: Global, new: &Heap, old: &Heap) -> Result<Remains, Fail> {
+    match agree(alloc, new, old)? {
+        Some(remains) => Ok(remains),
+        None => Err(Fail::from("they agree")),
+    }
+}
+
+// The cycle is what the new heap has for itself.
+fn assert_cycle_remains(
+    rt: &impl Abort,
+    alloc: Global,
+    new: &Heap,
+    old: &Heap,
+) -> Result<(), Fail> {
+    let remains = remains_of(alloc, new, old)?;
     assert_eq!(rt; remains.removed().len(), 0);
     assert_eq!(rt; remains.added().len(), 2);
     assert!(rt; is_held_by(remains.added().get(1), 2));
     assert!(rt; is_held_by(remains.added().get(2), 1));
-    let Some(made) = made_new(alloc, &new, &old)? else {
+    Ok(())
+}
+
+// The remains make the new heap of the old one.
+fn assert_made_new(rt: &impl Abort, alloc: Global, new: &Heap, old: &Heap) -> Result<(), Fail> {
+    let Some(made) = made_new(alloc, new, old)? else {
         return Err(Fail::from("they agree"));
     };
-    assert!(rt; made.same(&new));
+    assert!(rt; made.same(new));
     Ok(())
+}
+
+#[test]
+fn leaked_cycle_remains(rt: HostRuntime) -> Result<(), Fail> {
+    let alloc = rt.alloc();
+    let new = [CYCLE, LET_GO];
+    let old = [CYCLE, BREAK, LET_GO];
+    with_heaps(alloc, &new, &old, 12, 64, |new, old| {
+        assert!(rt; !new.same(old));
+        assert_cycle_remains(&rt, alloc, new, old)?;
+        assert_made_new(&rt, alloc, new, old)
+    })
 }
 
 // As the cycle above, but what leaks names an object that can be reached, weakly.
@@ -130,24 +189,48 @@ const LET_THEM_GO: &str = "\
 {\"h\":1,\"id\":13,\"op\":\"drop\",\"t\":0}
 ";
 
+// The heaps have the same roots and don't agree.
+fn assert_only_roots_agree(
+    rt: &impl Abort,
+    alloc: Global,
+    new: &Heap,
+    old: &Heap,
+) -> Result<(), Fail> {
+    assert!(rt; new.same_roots(old));
+    assert!(rt; agree(alloc, new, old)?.is_none());
+    Ok(())
+}
+
+// The trail that a comparison of two heaps that don't agree leaves.
+fn trail_to(rt: &impl Abort, alloc: Global, new: &Heap, old: &Heap) -> Result<Trail, Fail> {
+    let mut seen = None;
+    assert!(rt; is_apart(&meet(alloc, new, old, &mut seen)?));
+    match seen {
+        Some(trail) => Ok(trail),
+        None => Err(Fail::from("a trail")),
+    }
+}
+
+// The trail tells the heaps apart, and the old one not from itself.
+fn assert_trail(rt: &impl Abort, alloc: Global, new: &Heap, old: &Heap) -> Result<(), Fail> {
+    let trail = trail_to(rt, alloc, new, old)?;
+    assert!(rt; refutes(&trail, new, old));
+    assert!(rt; !refutes(&trail, old, old));
+    Ok(())
+}
+
 // By its count alone a reached object differs, and the trail to it is found.
 #[test]
 fn counts_of_reached_objects_differ(rt: HostRuntime) -> Result<(), Fail> {
     let alloc = rt.alloc();
-    let old = heap_of(alloc, &[NAMES, UNNAMES, LET_THEM_GO], 14, 64)?;
-    let new = heap_of(alloc, &[NAMES, LET_THEM_GO], 14, 64)?;
-    assert_eq!(rt; old.weak(1), 0);
-    assert_eq!(rt; new.weak(1), 1);
-    assert!(rt; new.same_roots(&old));
-    assert!(rt; agree(alloc, &new, &old)?.is_none());
-    let mut seen = None;
-    assert!(rt; is_apart(&meet(alloc, &new, &old, &mut seen)?));
-    let Some(trail) = &seen else {
-        return Err(Fail::from("a trail"));
-    };
-    assert!(rt; refutes(trail, &new, &old));
-    assert!(rt; !refutes(trail, &old, &old));
-    Ok(())
+    let new = [NAMES, LET_THEM_GO];
+    let old = [NAMES, UNNAMES, LET_THEM_GO];
+    with_heaps(alloc, &new, &old, 14, 64, |new, old| {
+        assert_eq!(rt; old.weak(1), 0);
+        assert_eq!(rt; new.weak(1), 1);
+        assert_only_roots_agree(&rt, alloc, new, old)?;
+        assert_trail(&rt, alloc, new, old)
+    })
 }
 
 const HUSK: &str = "\
@@ -166,22 +249,41 @@ const LET_IT_GO: &str = "\
 {\"h\":0,\"id\":7,\"op\":\"drop\",\"t\":0}
 ";
 
+// The way to the object that the Weak leads to.
+fn way_to_husk(alloc: Global) -> Trail {
+    Trail::Path(Path {
+        root: Root::Handle(5),
+        first: 1,
+        rest: Vec::new(alloc),
+    })
+}
+
 // A Weak leads to the object, which is a husk in one heap and holds itself in the other.
 #[test]
 fn husk_is_not_alive(rt: HostRuntime) -> Result<(), Fail> {
     let alloc = rt.alloc();
-    let old = heap_of(alloc, &[HUSK, TAKE, LET_IT_GO], 8, 64)?;
-    let new = heap_of(alloc, &[HUSK, LET_IT_GO], 8, 64)?;
-    assert!(rt; new.same_roots(&old));
-    assert!(rt; agree(alloc, &new, &old)?.is_none());
-    let path = Path {
-        root: Root::Handle(5),
-        first: 1,
-        rest: Vec::new(alloc),
-    };
-    let trail = Trail::Path(path);
-    assert!(rt; refutes(&trail, &new, &old));
-    assert!(rt; !refutes(&trail, &new, &new));
+    let new = [HUSK, LET_IT_GO];
+    let old = [HUSK, TAKE, LET_IT_GO];
+    with_heaps(alloc, &new, &old, 8, 64, |new, old| {
+        assert_only_roots_agree(&rt, alloc, new, old)?;
+        let trail = way_to_husk(alloc);
+        assert!(rt; refutes(&trail, new, old));
+        assert!(rt; !refutes(&trail, new, new));
+        Ok(())
+    })
+}
+
+// The trail, and the place of the newest handle, tell the heaps apart; what the handle holds does not.
+fn assert_labels_differ(
+    rt: &impl Abort,
+    alloc: Global,
+    new: &Heap,
+    old: &Heap,
+) -> Result<(), Fail> {
+    let trail = trail_to(rt, alloc, new, old)?;
+    assert!(rt; refutes(&trail, new, old));
+    assert!(rt; refutes(&Trail::Last(0), new, old));
+    assert!(rt; !refutes(&Trail::Handle(0), new, old));
     Ok(())
 }
 
@@ -189,26 +291,10 @@ fn husk_is_not_alive(rt: HostRuntime) -> Result<(), Fail> {
 #[test]
 fn labels_differ(rt: HostRuntime) -> Result<(), Fail> {
     let alloc = rt.alloc();
-    let old = heap_of(
-        alloc,
-        &["{\"id\":1,\"op\":\"null\",\"t\":0,\"to\":0}\n"],
-        2,
-        65,
-    )?;
-    let new = heap_of(
-        alloc,
-        &["{\"id\":1,\"op\":\"null\",\"t\":1,\"to\":0}\n"],
-        2,
-        65,
-    )?;
-    assert!(rt; agree(alloc, &new, &old)?.is_none());
-    let mut seen = None;
-    assert!(rt; is_apart(&meet(alloc, &new, &old, &mut seen)?));
-    let Some(trail) = &seen else {
-        return Err(Fail::from("a trail"));
-    };
-    assert!(rt; refutes(trail, &new, &old));
-    assert!(rt; refutes(&Trail::Last(0), &new, &old));
-    assert!(rt; !refutes(&Trail::Handle(0), &new, &old));
-    Ok(())
+    let new = ["{\"id\":1,\"op\":\"null\",\"t\":1,\"to\":0}\n"];
+    let old = ["{\"id\":1,\"op\":\"null\",\"t\":0,\"to\":0}\n"];
+    with_heaps(alloc, &new, &old, 2, 65, |new, old| {
+        assert!(rt; agree(alloc, new, old)?.is_none());
+        assert_labels_differ(&rt, alloc, new, old)
+    })
 }

@@ -1,9 +1,8 @@
 //! Two replays compared as a chain of objects grows that differs deep down.
+use crate::agreeing::end_of;
 use agreement::agree::agree;
 use agreement::{Meeting, Trail, meet};
 use object_heap::Heap;
-use op_step::Meter;
-use op_step::replay::replay;
 use std::alloc::Global;
 use std::test::Fail;
 use trace_types::kinds::{Field, Kind};
@@ -24,6 +23,41 @@ fn new(alloc: Global, to: u32, fields: &[Field]) -> Result<Kind, Fail> {
     })
 }
 
+// Makes an object of the chain, by a free handle. The first has nothing in a field.
+fn link(alloc: Global, place: u32, free: u32, held: u32, differs: bool) -> Result<Kind, Fail> {
+    if place == 1 {
+        new(alloc, free, &[])
+    } else if place == 3 && differs {
+        new(alloc, free, &[Field::Held(held), Field::Null])
+    } else {
+        new(alloc, free, &[Field::Held(held)])
+    }
+}
+
+// Whether the meeting of two heaps tells that they are apart.
+fn are_apart(
+    alloc: Global,
+    new: &Heap,
+    old: &Heap,
+    seen: &mut Option<Trail>,
+) -> Result<bool, Fail> {
+    let meeting = meet(alloc, new, old, seen)?;
+    Ok(matches!(meeting, Meeting::Apart))
+}
+
+// Whether a meeting and a whole comparison both tell this.
+fn both_tell(
+    alloc: Global,
+    new: &Heap,
+    old: &Heap,
+    is_apart: bool,
+    seen: &mut Option<Trail>,
+) -> Result<bool, Fail> {
+    let apart = are_apart(alloc, new, old, seen)?;
+    let agreed = agree(alloc, new, old)?;
+    Ok(apart == is_apart && agreed.is_none() == is_apart)
+}
+
 // A chain of objects, each with the one made before it in a field. The third may have an empty field more. Numbers may rise or
 // fall along the chain. At its end it may be dropped, and there may be an object that names itself.
 #[derive(Drop)]
@@ -34,38 +68,59 @@ struct Chain {
 }
 
 impl Chain {
-    // The heap after so many objects.
-    fn heap(&self, alloc: Global, len: u32, differs: bool) -> Result<Heap, Fail> {
-        let mut trace = Trace::new(alloc);
+    // The number of the object that is made at a place, counted from 1.
+    fn id(&self, place: u32) -> u32 {
+        if self.rises {
+            place
+        } else {
+            5000u32.saturating_sub(place)
+        }
+    }
+
+    // Makes so many objects, by two handles in turn: the one that holds the last.
+    fn add_links(
+        &self,
+        alloc: Global,
+        trace: &mut Trace,
+        len: u32,
+        differs: bool,
+    ) -> Result<u32, Fail> {
         let mut held = 1;
         let mut free = 0;
         for k in 1..=len {
-            let id = if self.rises {
-                k
-            } else {
-                5000u32.saturating_sub(k)
-            };
-            let kind = if k == 1 {
-                new(alloc, free, &[])?
-            } else if k == 3 && differs {
-                new(alloc, free, &[Field::Held(held), Field::Null])?
-            } else {
-                new(alloc, free, &[Field::Held(held)])?
-            };
-            add(&mut trace, id, kind)?;
+            let link = link(alloc, k, free, held, differs)?;
+            add(trace, self.id(k), link)?;
             let last = free;
             free = held;
             held = last;
         }
+        Ok(held)
+    }
+
+    // All operations of the chain.
+    fn add_all(
+        &self,
+        alloc: Global,
+        trace: &mut Trace,
+        len: u32,
+        differs: bool,
+    ) -> Result<(), Fail> {
+        let held = self.add_links(alloc, trace, len, differs)?;
         if self.has_cycle {
             let fields = Sequence::from_vec(Vec::from_slice(alloc, &[Field::Me])?);
-            add(&mut trace, 6000, Kind::NewCyclic { to: 2, fields })?;
+            add(trace, 6000, Kind::NewCyclic { to: 2, fields })?;
         }
         if self.ends {
-            add(&mut trace, 6001, Kind::Drop { h: held })?;
+            add(trace, 6001, Kind::Drop { h: held })?;
         }
-        let (_, end) = replay(alloc, &trace, &mut Meter::new())?;
-        Ok(end)
+        Ok(())
+    }
+
+    // The heap after so many objects.
+    fn heap(&self, alloc: Global, len: u32, differs: bool) -> Result<Heap, Fail> {
+        let mut trace = Trace::new(alloc);
+        self.add_all(alloc, &mut trace, len, differs)?;
+        end_of(alloc, &trace)
     }
 
     // Whether the meeting of both heaps tells what a whole comparison tells, which is this.
@@ -78,8 +133,7 @@ impl Chain {
     ) -> Result<bool, Fail> {
         let new = self.heap(alloc, len, true)?;
         let old = self.heap(alloc, len, false)?;
-        let apart = matches!(meet(alloc, &new, &old, seen)?, Meeting::Apart);
-        Ok(apart == is_apart && agree(alloc, &new, &old)?.is_none() == is_apart)
+        both_tell(alloc, &new, &old, is_apart, seen)
     }
 
     // The trail that is left when the chain was compared as it grew, where each comparison told what it should.

@@ -2,6 +2,7 @@
 use crate::agreeing::heap_of;
 use object_heap::Heap;
 use std::alloc::Global;
+use std::process::Abort;
 use std::test::Fail;
 
 // Two objects; the first has a field, with a null pointer.
@@ -51,16 +52,28 @@ fn after(alloc: Global, lines: &str) -> Result<Heap, Fail> {
     heap_of(alloc, &[START, lines], 1, 0)
 }
 
+// The heap after other lines is another one, with another sum.
+fn assert_other(rt: &impl Abort, alloc: Global, heap: &Heap, others: &str) -> Result<(), Fail> {
+    let other = after(alloc, others)?;
+    assert!(rt; !heap.same(&other));
+    assert!(rt; heap.sum() != other.sum());
+    Ok(())
+}
+
+// So it is with each of the ways from this place on.
+fn assert_others(rt: &impl Abort, alloc: Global, heap: &Heap, from: usize) -> Result<(), Fail> {
+    for others in WAYS.iter().skip(from) {
+        assert_other(rt, alloc, heap, others)?;
+    }
+    Ok(())
+}
+
 #[test]
 fn other_heaps_have_other_sums(rt: HostRuntime) -> Result<(), Fail> {
     let alloc = rt.alloc();
     for (place, lines) in WAYS.iter().enumerate() {
         let heap = after(alloc, lines)?;
-        for others in WAYS.iter().skip(place + 1) {
-            let other = after(alloc, others)?;
-            assert!(rt; !heap.same(&other));
-            assert!(rt; heap.sum() != other.sum());
-        }
+        assert_others(&rt, alloc, &heap, place + 1)?;
     }
     Ok(())
 }
@@ -126,14 +139,20 @@ const SAME: [(&str, &str); 13] = [
     ),
 ];
 
+// The heap after other lines is the same one, with the same sum.
+fn assert_same(rt: &impl Abort, alloc: Global, heap: &Heap, others: &str) -> Result<(), Fail> {
+    let other = after(alloc, others)?;
+    assert!(rt; heap.same(&other));
+    assert_eq!(rt; heap.sum(), other.sum());
+    Ok(())
+}
+
 #[test]
 fn equal_heaps_have_equal_sums(rt: HostRuntime) -> Result<(), Fail> {
     let alloc = rt.alloc();
     for (lines, others) in SAME.iter() {
         let heap = after(alloc, lines)?;
-        let other = after(alloc, others)?;
-        assert!(rt; heap.same(&other));
-        assert_eq!(rt; heap.sum(), other.sum());
+        assert_same(&rt, alloc, &heap, others)?;
     }
     Ok(())
 }
