@@ -36,15 +36,23 @@ use trace_types::ops::Op;
 pub fn line_op(alloc: Global, line: &[u8], scratch: &mut LineScratch) -> Result<Op, LineCause>
     ensures { Gives result (op_of_line line.now) }
 {
+    if !scratch.pays() {
+        scratch.note_tokens(line);
+        return token_op(alloc, line, &mut scratch.tokens);
+    }
     let mut kept = KeptMembers::none();
     match plain_members(alloc, line, &mut kept)? {
-        Walk::Whole => members_of_op(alloc, &kept),
+        Walk::Whole => {
+            scratch.note_walk(line.len());
+            members_of_op(alloc, &kept)
+        }
         Walk::UpTo(rest) => {
-            scratch.note(rest);
+            scratch.note_end(line, rest);
             rest_op(alloc, rest, &mut scratch.tokens, &mut kept)
         }
         Walk::Nowhere => {
-            scratch.note(line);
+            scratch.note_tokens(line);
+            scratch.note_vain(line.len());
             token_op(alloc, line, &mut scratch.tokens)
         }
     }
