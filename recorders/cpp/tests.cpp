@@ -176,6 +176,30 @@ struct Own {
     auto fields() { return std::tie(me); }
 };
 
+void an_empty_weak_slot() {
+    const auto trace = recorded([] {
+        auto node = new_node();
+        auto weak = node.get(other(0));
+        check(!weak.lock());
+        node.set(other(1), weak);
+        check(node.take(other(1)).expired());
+    });
+    check_ops(trace, {
+                         R"(1 new,"fields":[null,null,null],"to":0)",
+                         R"(2 get,"h":0,"i":1,"to":1)",
+                         R"(3 drop,"h":1)",
+                         R"(4 weak_new,"to":1)",
+                         R"(5 upgrade,"from":1,"answer":"no","to":2)",
+                         R"(6 drop,"h":2)",
+                         R"(7 clone,"from":1,"to":2)",
+                         R"(8 set,"h":0,"i":0,"from":2)",
+                         R"(9 take,"h":0,"i":0,"to":2)",
+                         R"(10 drop,"h":2)",
+                         R"(11 drop,"h":1)",
+                         R"(12 drop,"h":0)",
+                     });
+}
+
 void a_value_that_knows_itself() {
     const auto trace = recorded([] {
         Shared<Own> own(std::make_shared<Own>());
@@ -459,6 +483,7 @@ int main() {
              TEST(handles),
              TEST(handles_to_nothing),
              TEST(field_0_is_declared_last),
+             TEST(an_empty_weak_slot),
              TEST(a_value_that_knows_itself),
              TEST(cells),
              TEST(handles_within_a_value_end_after_it),

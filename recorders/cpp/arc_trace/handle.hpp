@@ -167,8 +167,7 @@ class Handle {
         detail::InOrder in_order;
         auto& slot = std::invoke(where, *pointer_);
         const detail::Name to = write_of_slot("take", slot, at, [](detail::Line& line) { line.makes("to"); });
-        auto held = std::exchange(slot.held_.pointer_, {});
-        return Handle<decltype(held)>(std::move(held), to, at);
+        return found(std::exchange(slot.held_.pointer_, {}), to, at);
     }
 
     /// A copy of what a slot of the object holds.
@@ -178,7 +177,7 @@ class Handle {
         auto& slot = std::invoke(where, *pointer_);
         const detail::Name to = write_of_slot("get", slot, at, [](detail::Line& line) { line.makes("to"); });
         auto held = slot.held_.pointer_;
-        return Handle<decltype(held)>(std::move(held), to, at);
+        return found(std::move(held), to, at);
     }
 
   private:
@@ -191,6 +190,15 @@ class Handle {
 
     Handle(Pointer pointer, detail::Name name, At made_at)
         : pointer_(std::move(pointer)), name_(name), made_at_(made_at) {}
+
+    // What a slot held. An empty slot holds nothing in the trace, where an empty weak_ptr is one that was made so: its handle is dropped
+    // at once, and comes into the trace again when it is used.
+    template <class Held>
+    static Handle<Held> found(Held held, detail::Name to, At at) {
+        Handle<Held> handle(std::move(held), to, at);
+        if (!detail::is_shared<Held> && detail::is_empty(handle.pointer_)) handle.reset();
+        return handle;
+    }
 
     detail::Name write_making(const char* op, At at) const {
         return detail::write(op, at, [&](detail::Line& line) {
