@@ -3,7 +3,7 @@ use json::Scratch;
 use std::alloc::Global;
 
 // A walk that ends before a line does costs about as much as so many bytes of one, and what it went over in vain.
-const END: usize = 6;
+const END: usize = 14;
 // Of what is read token by token, one byte in so many may be gone over in vain.
 const SHARE: usize = 6;
 
