@@ -8,6 +8,8 @@ mod chains;
 #[cfg(test)]
 mod exchanges;
 #[cfg(test)]
+mod joints;
+#[cfg(test)]
 mod shelves;
 #[cfg(test)]
 mod sums;
