@@ -22,7 +22,7 @@ fn null_trace(alloc: Global, ops: u32) -> Result<Trace, Fail> {
 }
 
 // The operations of such a trace from one number to another.
-fn nulls(alloc: Global, first: u32, last: u32) -> Result<Trace, Fail> {
+pub fn nulls(alloc: Global, first: u32, last: u32) -> Result<Trace, Fail> {
     let mut trace = Trace::new(alloc);
     for id in first..=last {
         let kind = if id % 2 == 1 {
@@ -117,7 +117,7 @@ fn long_trace_is_opened(rt: HostRuntime) -> Result<(), Fail> {
 }
 
 // A run after an edit over a shelf, and how many operations were stepped for it.
-fn over(
+pub fn over(
     alloc: Global,
     run: &Run,
     edits: &Batch,
@@ -175,7 +175,7 @@ fn touched_checkpoints_stay(rt: HostRuntime) -> Result<(), Fail> {
 }
 
 // An object, and behind it others that come and go.
-fn pairs(alloc: Global) -> Result<Trace, Fail> {
+pub fn pairs(alloc: Global) -> Result<Trace, Fail> {
     let mut trace = Trace::new(alloc);
     add(&mut trace, 1, new(alloc, 0, &[])?)?;
     add_pairs(alloc, &mut trace, 2, 192)?;
@@ -183,7 +183,7 @@ fn pairs(alloc: Global) -> Result<Trace, Fail> {
 }
 
 // Operation 1 makes a null pointer, except in the second turn, where it makes an object.
-fn first_made(alloc: Global, turn: usize) -> Result<Batch, Fail> {
+pub fn first_made(alloc: Global, turn: usize) -> Result<Batch, Fail> {
     let kind = match turn {
         1 => new(alloc, 0, &[])?,
         _ => Kind::Null { to: 0 },
@@ -263,7 +263,7 @@ fn last_chunks_of_an_edit_stay(rt: HostRuntime) -> Result<(), Fail> {
 }
 
 // The operation makes a Weak to no allocation in place of a null pointer.
-fn dangling(id: u32) -> Result<Edit, Fail> {
+pub fn dangling(id: u32) -> Result<Edit, Fail> {
     change(id, Kind::WeakNew { to: 0 })
 }
 
@@ -289,7 +289,7 @@ fn rise_over(alloc: Global, shelf: &mut MarkShelf) -> Result<u64, Fail> {
 }
 
 // The operations as a chunk that begins with nothing.
-fn chunk(alloc: Global, trace: &Trace) -> Result<ChunkRun, Fail> {
+pub fn chunk(alloc: Global, trace: &Trace) -> Result<ChunkRun, Fail> {
     let start = Heap::empty();
     let mut meter = Meter::new();
     let chunk = run(alloc, &start, trace.as_slice(), &mut meter)?;
