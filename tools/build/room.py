@@ -30,6 +30,17 @@ def link_proofs(one, other):
     (link if one.endswith(".oantt") else shutil.copy2)(one, other)
 
 
+def copy_folder(one, other):
+    shutil.copytree(one, other, copy_function=link)
+
+
+def move_folder(one, other):
+    try:
+        os.rename(one, other)
+    except OSError:
+        copy_folder(one, other)
+
+
 def remove(path):
     if os.path.isdir(path):
         shutil.rmtree(path)
@@ -89,9 +100,9 @@ class Room:
 
     def build(self, name, below, words, niceness):
         """Runs rt on a crate, over the libraries that were built before, and returns its status and the seconds of a processor."""
-        shutil.copytree(f"{self.at}/sources", f"{self.at}/{name}", copy_function=link)
+        copy_folder(f"{self.at}/sources", f"{self.at}/{name}")
         for it in below:
-            shutil.copytree(f"{self.out(it)}/rlib", f"{self.at}/{name}/crates/{it}/out/rlib", copy_function=link)
+            copy_folder(f"{self.out(it)}/rlib", f"{self.at}/{name}/crates/{it}/out/rlib")
         os.mkdir(self.out(name))
         for part, copy in ("rlib", link), ("incremental", link_proofs):
             self.take(name, part, copy)
@@ -128,14 +139,13 @@ class Room:
                 new, to = f"{own}/new-{part}", f"{own}/{part}"
                 remove(new)
                 if os.path.isdir(f"{made}/{part}"):
-                    shutil.copytree(f"{made}/{part}", new, copy_function=link)
+                    # The trees above need the library, and nothing else of what was kept.
+                    (copy_folder if part == "rlib" else move_folder)(f"{made}/{part}", new)
                     remove(to)
                 else:
                     shutil.copy2(f"{made}/{part}", new)
                     os.utime(new, ns=(self.began, self.began))
                 os.replace(new, to)
-        # The trees above need the library alone.
-        remove(f"{made}/incremental")
 
     def stop(self):
         """Ends what is at work, and what is about to begin."""
