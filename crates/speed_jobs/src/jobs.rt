@@ -4,7 +4,7 @@ use crate::cells::cells;
 use crate::chain::chain;
 use crate::digest::Digest;
 use crate::leaks::leaks;
-use crate::lines::{Lines, Order, Plan};
+use crate::lines::{Lines, Order, Plan, Spaces};
 use crate::mixed::mixed;
 use crate::random::Random;
 use crate::requests::{BATCHES, Requests};
@@ -16,6 +16,8 @@ use trace_types::devices::{StdSink, StdSource};
 
 // Each so many-th request of a session is a batch.
 const BATCH_TURN: u32 = 32;
+// Each so many-th recorded trace is one that `json.dumps` wrote.
+const DUMP_TURN: u32 = 3;
 // How near the front the edits of a chain are.
 const FRONT: u32 = 256;
 
@@ -35,6 +37,7 @@ pub fn run(alloc: Global, job: Job, sizes: Sizes) -> Result<Digest, AllocError> 
         Job::Session => jobs.session()?,
         Job::SessionShort => jobs.session_short()?,
         Job::SessionChain => jobs.session_chain()?,
+        Job::ReplayRecorded => jobs.replay_recorded()?,
         Job::All => jobs.all()?,
     }
     Ok(jobs.digest)
@@ -70,7 +73,22 @@ impl Jobs {
     fn replay(&mut self) -> Result<(), AllocError> {
         for trace in 0..self.sizes.traces {
             let mut plan = self.plan();
-            plan.is_spaced = trace == 0;
+            if trace == 0 {
+                plan.spaces = Spaces::Everywhere;
+            }
+            self.replay_of(mixed(self.alloc, plan)?);
+        }
+        Ok(())
+    }
+
+    fn replay_recorded(&mut self) -> Result<(), AllocError> {
+        for trace in 0..self.sizes.traces {
+            let mut plan = self.plan();
+            plan.order = Order::HeadFirst;
+            plan.is_recorded = true;
+            if trace % DUMP_TURN == DUMP_TURN - 1 {
+                plan.spaces = Spaces::Dumped;
+            }
             self.replay_of(mixed(self.alloc, plan)?);
         }
         Ok(())
@@ -148,7 +166,8 @@ impl Jobs {
         Plan {
             operations: self.sizes.operations,
             order: Order::by_turn(self.planned),
-            is_spaced: false,
+            spaces: Spaces::Nowhere,
+            is_recorded: false,
             seed: self.seeds.draw(),
         }
     }

@@ -1,6 +1,7 @@
 //! The lines of a trace, as a recorder writes them.
 
 use crate::names::{Name, Op, Pieces};
+use crate::recorder::Recorder;
 use crate::text::Text;
 use std::alloc::{AllocError, Global};
 
@@ -26,14 +27,25 @@ impl Order {
     }
 }
 
+/// Where spaces stand in a line.
+#[derive(Clone, Copy, PartialEq, Eq)]
+pub enum Spaces {
+    Nowhere,
+    /// After the `{` and after each `:` and `,`.
+    Everywhere,
+    /// After each `:` and `,`, as `json.dumps` has them. Such a line is `HeadFirst`.
+    Dumped,
+}
+
 /// A trace that is wanted.
 #[derive(Clone, Copy)]
 pub struct Plan {
     /// How many lines it has, or a few fewer.
     pub operations: u32,
     pub order: Order,
-    /// A space stands after the `{` and after each `:` and `,`.
-    pub is_spaced: bool,
+    pub spaces: Spaces,
+    /// Each line says behind all else where in the program it was done.
+    pub is_recorded: bool,
     pub seed: u64,
 }
 
@@ -64,6 +76,7 @@ pub struct Lines {
     starts: Vec<usize>,
     pieces: Pieces,
     order: Order,
+    recorder: Option<Recorder>,
     count: u32,
 }
 
@@ -73,11 +86,17 @@ impl Lines {
         let mut starts = Vec::new(alloc);
         starts.reserve((plan.operations as usize).wrapping_add(1))?;
         starts.push(0)?;
+        let recorder = if plan.is_recorded {
+            Some(Recorder::new(plan))
+        } else {
+            None
+        };
         Ok(Lines {
             starts,
             text: Text::new(alloc, (plan.operations as usize).saturating_mul(60))?,
             pieces: Pieces::new(alloc, plan)?,
             order: plan.order,
+            recorder,
             count: 0,
         })
     }
@@ -123,6 +142,9 @@ impl Lines {
                 self.push_number(Name::Id, self.count);
             }
             Order::ByName => self.push_by_name(label, op, members),
+        }
+        if let Some(recorder) = &mut self.recorder {
+            recorder.push(&mut self.text)?;
         }
         // Each member came with a comma before it.
         self.text.set(begin, b'{');

@@ -13,6 +13,7 @@ mod names;
 mod objects;
 mod places;
 mod random;
+mod recorder;
 mod requests;
 mod text;
 mod wide;

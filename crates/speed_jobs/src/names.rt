@@ -1,6 +1,6 @@
 //! The names of members and operations, as pieces of lines.
 
-use crate::lines::{Order, Plan};
+use crate::lines::{Order, Plan, Spaces};
 use crate::text::Piece;
 use std::alloc::{AllocError, Global};
 
@@ -111,10 +111,18 @@ pub struct Pieces {
 
 impl Pieces {
     pub fn new(alloc: Global, plan: Plan) -> Result<Self, AllocError> {
-        let is_spaced = plan.is_spaced;
+        let is_spaced = plan.spaces != Spaces::Nowhere;
         let mut names = Vec::new(alloc);
         for name in NAMES {
             names.push(Piece::new(name, is_spaced))?;
+        }
+        if plan.spaces == Spaces::Dumped {
+            // The `{` comes in place of the comma, and no space behind it.
+            let mut first = Piece::new(b",", false);
+            first.add(b"\"id\":", true);
+            if let Some(id) = names.get_mut(Name::Id as usize) {
+                *id = first;
+            }
         }
         let mut heads = Vec::new(alloc);
         for op in OPS {
@@ -149,16 +157,17 @@ impl Pieces {
 }
 
 fn head(plan: Plan, op: &[u8], label: u8) -> Piece {
+    let is_spaced = plan.spaces != Spaces::Nowhere;
     let mut piece = Piece::new(b"", false);
     match plan.order {
         Order::HeadFirst => {
-            piece.add(b",\"t\":", plan.is_spaced);
+            piece.add(b",\"t\":", is_spaced);
             piece.add(&[label], false);
-            piece.add(op, plan.is_spaced);
+            piece.add(op, is_spaced);
         }
         _ => {
-            piece.add(op, plan.is_spaced);
-            piece.add(b",\"t\":", plan.is_spaced);
+            piece.add(op, is_spaced);
+            piece.add(b",\"t\":", is_spaced);
             piece.add(&[label], false);
         }
     }

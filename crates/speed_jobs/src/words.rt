@@ -17,6 +17,8 @@ pub enum Job {
     SessionChain,
     /// `all`: each of these.
     All,
+    /// `replay_recorded`: mixed traces as recorders write them, with a text in each line that says where it was done.
+    ReplayRecorded,
 }
 
 /// How much of it.
@@ -58,6 +60,7 @@ fn job_named(name: &str) -> Option<Job> {
         "session_short" => Some(Job::SessionShort),
         "session_chain" => Some(Job::SessionChain),
         "all" => Some(Job::All),
+        "replay_recorded" => Some(Job::ReplayRecorded),
         _ => None,
     }
 }
