@@ -80,7 +80,8 @@ pub fn is_delimited(text: &[u8]) -> bool
     }
 }
 
-#[inline(always)]
+// Apart, since few write a space there.
+#[inline(never)]
 fn closes(text: &[u8]) -> bool
     ensures { IsTrue result → (0 < length text.now) × ((get_or text.now 0 0 ≡ 93) ⊎ (get_or text.now 0 0 ≡ 125)) }
 {
@@ -93,6 +94,20 @@ fn closes(text: &[u8]) -> bool
 /// What comes after the spaces that come first.
 #[inline(always)]
 pub fn after_spaces(text: &[u8]) -> &[u8]
+    ensures { IsAfterSpaces text.now result.now }
+{
+    let [b' ', rest @ ..] = text else {
+        return text;
+    };
+    if let [b' ', ..] = rest {
+        return after_many_spaces(text);
+    }
+    rest
+}
+
+// Apart, since most have one at most.
+#[inline(never)]
+fn after_many_spaces(text: &[u8]) -> &[u8]
     ensures { IsAfterSpaces text.now result.now }
 {
     let mut rest = text;
