@@ -1,6 +1,7 @@
 //! Requests to a desk.
 ghost use Rattle.std.specs.Prelude.{◌≡◌, [], IfOk};
 
+use crate::small_runs::with_desk;
 use edit_desk::{Desk, Prepared, Published, Reply, Request, export, push_reply, what_if};
 use op_step::Meter;
 use run_engine::Refusal;
@@ -14,13 +15,19 @@ use trace_types::ops::Op;
 use trace_types::sequence::Sequence;
 use trace_types::trace::Trace;
 
-fn opened(alloc: Global) -> Result<Desk, Fail>
-    ensures { IfOk result (λ d. d.standing.history ≡ []) }
-{
+// A trace with one operation, which makes an object.
+fn one_new(alloc: Global) -> Result<Trace, Fail> {
     let fields = Sequence::empty(alloc);
     let op = Op::make(1, 0, Kind::New { to: 0, fields })?;
     let mut trace = Trace::new(alloc);
     trace.push(op)?;
+    Ok(trace)
+}
+
+fn opened(alloc: Global) -> Result<Desk, Fail>
+    ensures { IfOk result (λ d. d.standing.history ≡ []) }
+{
+    let trace = one_new(alloc)?;
     Ok(Desk::open(alloc, trace)?)
 }
 
@@ -78,8 +85,8 @@ fn assert_asked(rt: &impl Abort, alloc: Global, desk: &mut Desk) -> Result<(), F
 #[test]
 fn desk_replies(rt: HostRuntime) -> Result<(), Fail> {
     let alloc = rt.alloc();
-    let mut desk = opened(alloc)?;
-    assert_asked(&rt, alloc, &mut desk)
+    let trace = one_new(alloc)?;
+    with_desk(alloc, trace, |desk| assert_asked(&rt, alloc, desk))
 }
 
 #[test]
@@ -171,8 +178,8 @@ fn assert_version_stays(rt: &impl Abort, alloc: Global, desk: &Desk) -> Result<(
 #[test]
 fn version_asked_what_if_stays(rt: HostRuntime) -> Result<(), Fail> {
     let alloc = rt.alloc();
-    let desk = opened(alloc)?;
-    assert_version_stays(&rt, alloc, &desk)
+    let trace = one_new(alloc)?;
+    with_desk(alloc, trace, |desk| assert_version_stays(&rt, alloc, desk))
 }
 
 // As many requests for a version that isn't there as a history has room for.
@@ -195,6 +202,6 @@ fn assert_full(rt: &impl Abort, alloc: Global, desk: &mut Desk) -> Result<(), Fa
 #[test]
 fn full_history(rt: HostRuntime) -> Result<(), Fail> {
     let alloc = rt.alloc();
-    let mut desk = opened(alloc)?;
-    assert_full(&rt, alloc, &mut desk)
+    let trace = one_new(alloc)?;
+    with_desk(alloc, trace, |desk| assert_full(&rt, alloc, desk))
 }

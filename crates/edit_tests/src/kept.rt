@@ -1,7 +1,7 @@
 //! How many checkpoints a desk keeps, and which stretches it steps no second time.
 ghost use Rattle.std.specs.Prelude.{◌<◌};
 
-use crate::small_runs::{has_marks, run_of, with_run};
+use crate::small_runs::{has_marks, run_of, with_desk, with_run, with_shelf};
 use crate::small_traces::{add, add_pairs, batch, broken_cycle, change, insertion, new, set, two};
 use edit_desk::{Desk, KEPT_CHUNKS, KEPT_MARKS, KEPT_NAMES, Reply, Request};
 use mark_shelf::MarkShelf;
@@ -74,8 +74,7 @@ fn assert_most_marks(rt: &impl Abort, alloc: Global, desk: &mut Desk) -> Result<
 fn two_thousand_requests(rt: HostRuntime) -> Result<(), Fail> {
     let alloc = rt.alloc();
     let trace = null_trace(alloc, 20_000)?;
-    let mut desk = Desk::open(alloc, trace)?;
-    assert_most_marks(&rt, alloc, &mut desk)
+    with_desk(alloc, trace, |desk| assert_most_marks(&rt, alloc, desk))
 }
 
 // Lends the run of a trace that is loaded over a shelf.
@@ -107,13 +106,11 @@ fn assert_last_marks(rt: &impl Abort, alloc: Global, run: &Run) -> Result<(), Fa
 fn long_trace_is_opened(rt: HostRuntime) -> Result<(), Fail> {
     let alloc = rt.alloc();
     let trace = null_trace(alloc, 100_000)?;
-    let mut shelf = MarkShelf::new(alloc, KEPT_MARKS, KEPT_CHUNKS, KEPT_NAMES)?;
-    with_kept(
-        alloc,
-        &trace,
-        &mut shelf,
-        |run, _| assert_last_marks(&rt, alloc, run),
-    )
+    with_shelf(alloc, KEPT_MARKS, KEPT_CHUNKS, KEPT_NAMES, |shelf| {
+        with_kept(alloc, &trace, shelf, |run, _| {
+            assert_last_marks(&rt, alloc, run)
+        })
+    })
 }
 
 // A run after an edit over a shelf, and how many operations were stepped for it.
@@ -162,8 +159,9 @@ fn assert_touched_stay(
 
 // The shelf has room for two.
 fn assert_two_stay(rt: &impl Abort, alloc: Global, run: &mut Run) -> Result<(), Fail> {
-    let mut shelf = MarkShelf::new(alloc, 2, 1, 1)?;
-    assert_touched_stay(rt, alloc, run, &mut shelf)
+    with_shelf(alloc, 2, 1, 1, |shelf| {
+        assert_touched_stay(rt, alloc, run, shelf)
+    })
 }
 
 #[test]
@@ -224,9 +222,10 @@ fn assert_first_serves(
 fn chunk_behind_a_checkpoint_given_up(rt: HostRuntime) -> Result<(), Fail> {
     let alloc = rt.alloc();
     let trace = pairs(alloc)?;
-    let mut shelf = MarkShelf::new(alloc, 1, 8, 8)?;
-    with_kept(alloc, &trace, &mut shelf, |run, shelf| {
-        assert_first_serves(&rt, alloc, run, shelf)
+    with_shelf(alloc, 1, 8, 8, |shelf| {
+        with_kept(alloc, &trace, shelf, |run, shelf| {
+            assert_first_serves(&rt, alloc, run, shelf)
+        })
     })
 }
 
@@ -257,8 +256,9 @@ fn assert_last_serve(
 fn last_chunks_of_an_edit_stay(rt: HostRuntime) -> Result<(), Fail> {
     let alloc = rt.alloc();
     with_run(alloc, fewer_pairs(alloc)?, |run| {
-        let mut shelf = MarkShelf::new(alloc, 8, 2, 8)?;
-        assert_last_serve(&rt, alloc, run, &mut shelf)
+        with_shelf(alloc, 8, 2, 8, |shelf| {
+            assert_last_serve(&rt, alloc, run, shelf)
+        })
     })
 }
 
@@ -304,29 +304,19 @@ fn remember_nulls(alloc: Global, shelf: &mut MarkShelf) -> Result<(), Fail> {
     Ok(())
 }
 
-// How many operations that edit steps over a shelf that knows them.
-fn rise_over_nulls(alloc: Global, shelf: &mut MarkShelf) -> Result<u64, Fail> {
-    remember_nulls(alloc, shelf)?;
-    rise_over(alloc, shelf)
-}
-
-// The same over a shelf that knows nothing, or that chunk.
-fn rise_over_new(alloc: Global, knows: bool) -> Result<u64, Fail> {
-    let mut shelf = MarkShelf::new(alloc, 8, 8, 8)?;
-    if knows {
-        rise_over_nulls(alloc, &mut shelf)
-    } else {
-        rise_over(alloc, &mut shelf)
-    }
-}
-
 // A chunk of the shelf serves before an old stretch does, also where that is longer: then 64 operations more are stepped.
 #[test]
 fn chunk_serves_before_an_old_stretch(rt: HostRuntime) -> Result<(), Fail> {
     let alloc = rt.alloc();
-    assert_eq!(rt; rise_over_new(alloc, false)?, 128);
-    assert_eq!(rt; rise_over_new(alloc, true)?, 192);
-    Ok(())
+    with_shelf(alloc, 8, 8, 8, |shelf| {
+        assert_eq!(rt; rise_over(alloc, shelf)?, 128);
+        Ok(())
+    })?;
+    with_shelf(alloc, 8, 8, 8, |shelf| {
+        remember_nulls(alloc, shelf)?;
+        assert_eq!(rt; rise_over(alloc, shelf)?, 192);
+        Ok(())
+    })
 }
 
 // How many operations a desk steps for one edit.
@@ -363,8 +353,7 @@ fn assert_rises(rt: &impl Abort, alloc: Global, desk: &mut Desk) -> Result<(), F
 fn memo_by_content(rt: HostRuntime) -> Result<(), Fail> {
     let alloc = rt.alloc();
     let trace = broken_cycle(alloc)?;
-    let mut desk = Desk::open(alloc, trace)?;
-    assert_rises(&rt, alloc, &mut desk)
+    with_desk(alloc, trace, |desk| assert_rises(&rt, alloc, desk))
 }
 
 // Takes operation 2 out of the first stretch, and puts it back: two stretches, each of a name of its own.
@@ -398,27 +387,33 @@ fn rise_behind(alloc: Global, desk: &mut Desk, others: u32, again: bool) -> Resu
     rise(alloc, desk, Edit::Remove { id: 2 })
 }
 
-// The same of a desk that is opened for it.
-fn rise_after(alloc: Global, others: u32, again: bool) -> Result<u64, Fail> {
+// So many are stepped at a desk that is opened for it.
+fn assert_rise_after(
+    rt: &impl Abort,
+    alloc: Global,
+    others: u32,
+    again: bool,
+    due: u64,
+) -> Result<(), Fail> {
     let trace = null_trace(alloc, 1_280)?;
-    let mut desk = Desk::open(alloc, trace)?;
-    rise_behind(alloc, &mut desk, others, again)
+    with_desk(alloc, trace, |desk| {
+        assert_eq!(rt; rise_behind(alloc, desk, others, again)?, due);
+        Ok(())
+    })
 }
 
 // A stretch is found among the last 256, itself among them: behind it come that with operation 2 and the others.
 #[test]
 fn chunks_are_remembered(rt: HostRuntime) -> Result<(), Fail> {
     let alloc = rt.alloc();
-    assert_eq!(rt; rise_after(alloc, 254, false)?, 0);
-    assert_eq!(rt; rise_after(alloc, 255, false)?, 63);
-    Ok(())
+    assert_rise_after(&rt, alloc, 254, false, 0)?;
+    assert_rise_after(&rt, alloc, 255, false, 63)
 }
 
 // A stretch that is asked for again and again stays among those, but its name goes with the 1,024th that is new behind it.
 #[test]
 fn names_are_remembered(rt: HostRuntime) -> Result<(), Fail> {
     let alloc = rt.alloc();
-    assert_eq!(rt; rise_after(alloc, 1_022, true)?, 0);
-    assert_eq!(rt; rise_after(alloc, 1_023, true)?, 63);
-    Ok(())
+    assert_rise_after(&rt, alloc, 1_022, true, 0)?;
+    assert_rise_after(&rt, alloc, 1_023, true, 63)
 }

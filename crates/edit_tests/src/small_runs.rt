@@ -1,6 +1,8 @@
 //! Runs of small traces, their edits, and what is asked of them.
+ghost use Rattle.std.specs.Prelude.{◌<◌};
+
 use crate::small_traces::{batch, two};
-use edit_desk::{KEPT_CHUNKS, KEPT_MARKS, KEPT_NAMES};
+use edit_desk::{Desk, KEPT_CHUNKS, KEPT_MARKS, KEPT_NAMES};
 use leak_report::find_leaks;
 use mark_shelf::MarkShelf;
 use object_heap::Heap;
@@ -16,6 +18,35 @@ use trace_types::trace::Trace;
 
 pub fn run_of(alloc: Global, trace: Trace) -> Result<Run, Fail> {
     Ok(Run::load(alloc, &trace, &mut Meter::new())?)
+}
+
+/// Lends a shelf with room for so much.
+pub fn with_shelf<F: FnOnce(&mut MarkShelf) -> Result<(), Fail>>(
+    alloc: Global,
+    marks: usize,
+    chunks: usize,
+    names: usize,
+    judge: F,
+) -> Result<(), Fail>
+    requires some_marks { 0 < marks }
+    requires some_chunks { 0 < chunks }
+    requires some_names { 0 < names }
+    requires judge { F.IsAlwaysCallable judge }
+{
+    let mut shelf = MarkShelf::new(alloc, marks, chunks, names)?;
+    judge(&mut shelf)
+}
+
+/// Lends a desk that opens with a trace.
+pub fn with_desk<F: FnOnce(&mut Desk) -> Result<(), Fail>>(
+    alloc: Global,
+    trace: Trace,
+    judge: F,
+) -> Result<(), Fail>
+    requires { F.IsAlwaysCallable judge }
+{
+    let mut desk = Desk::open(alloc, trace)?;
+    judge(&mut desk)
 }
 
 /// The run of the trace after edits, over a shelf of its own as large as a desk's.
