@@ -1,4 +1,4 @@
-"""Reads planted/*.edit files, and finds the function that each plants a wrong body in."""
+"""Reads the files planted/*.edits, and finds the function that each edit plants a wrong body in."""
 
 import os
 import re
@@ -11,16 +11,15 @@ OTHER = ("safety", "requires", "loop invariant")
 class Edit:
     """A wrong body: in place by pairs of an old and a new text, or the whole body of a copy that may call the real function."""
 
-    def __init__(self, file):
-        self.name = os.path.basename(file)[: -len(".edit")]
-        self.file, self.pairs, self.wraps, self.body, self.of = "", [], None, None, None
+    def __init__(self, name, file, lines):
+        self.name, self.file = name, file
+        self.pairs, self.wraps, self.body, self.of = [], None, None, None
         self.refused_by, self.why = [], ""
         # what `place` finds: the function that is judged, the name that it is judged by, and its text
         self.function, self.symbol, self.text = None, "", ""
         # the verdict: its kind, what the check said, and the goals that were refused
         self.kind, self.told, self.goals, self.turns = "", "", [], 0
-        with open(file, encoding="utf-8") as it:
-            self.read(it.read().split("\n"))
+        self.read(lines)
 
     def read(self, lines):
         old = None
@@ -135,7 +134,23 @@ def copied(text, function, name, body):
     return f"{head}{name}{text[function.named[1] : function.opens]}{body}"
 
 
+def edits_in(path):
+    """Returns the edits of a file: a line 'file:' names the source, and each edit begins with a line 'edit: NAME'."""
+    with open(path, encoding="utf-8") as it:
+        head, *parts = re.split(r"(?m)^edit: ", it.read())
+    file = re.search(r"(?m)^file: (\S+)$", head)
+    named = [it.split("\n") for it in parts]
+    return [Edit(lines[0].strip(), file[1] if file else "", lines[1:]) for lines in named]
+
+
 def edits_of(folder):
-    """Returns the edits in a folder, by name."""
-    files = sorted(os.listdir(folder)) if os.path.isdir(folder) else []
-    return [Edit(f"{folder}/{it}") for it in files if it.endswith(".edit")]
+    """Returns the edits in a folder and below it, by name."""
+    found = []
+    for below, folders, files in os.walk(folder):
+        folders.sort()
+        found += [edit for it in files if it.endswith(".edits") for edit in edits_in(f"{below}/{it}")]
+    found.sort(key=lambda it: it.name)
+    for one, next_one in zip(found, found[1:]):
+        if one.name == next_one.name:
+            next_one.why = "another edit of the crate has this name"
+    return found
