@@ -151,16 +151,17 @@ fn tokens_begin_at_the_member_that_is_not_plain(rt: HostRuntime) -> Result<(), F
 
 #[test]
 fn a_line_that_is_not_plain_leaves_the_next_ones_as_they_are(rt: HostRuntime) -> Result<(), Fail> {
-    for every in [1, 2, 3, 5, 10] {
+    for every in [1u32, 2, 3, 5, 10] {
         let mut text = String::new(rt.alloc());
-        let mut wanted = 0;
-        for id in 1..61 {
-            let end = if id % every == 0 {
-                ",\"z\":1.5}\n"
+        let mut wanted = 0usize;
+        for id in 1..61u32 {
+            let is_plain = id.checked_rem(every) != Some(0);
+            let (end, tokens) = if is_plain {
+                ("}\n", 0)
             } else {
-                "}\n"
+                (",\"z\":1.5}\n", 8)
             };
-            wanted += if id % every == 0 { 8 } else { 0 };
+            wanted = wanted.saturating_add(tokens);
             let line = format!(in rt.alloc();
                 "{{\"id\":{id},\"t\":0,\"op\":\"null\",\"to\":0{end}"
             )?;
