@@ -3,14 +3,20 @@ ghost use Rattle.std.specs.Prelude.{◌≡◌, IfOk, IfSome};
 ghost use Rattle.std.specs.Arc.{arc_value};
 ghost use Rattle.ownership_model.specs.Patch.{patched};
 
-use crate::agreeing::{BREAK, CYCLE, LET_GO, remains_of, with_heaps};
+use crate::agreeing::{BREAK, CYCLE, LET_GO, heap_of};
 use agreement::agree::agree;
-use agreement::{Checkpoint, Exchange};
+use agreement::{Checkpoint, Exchange, Remains};
 use object_heap::Heap;
 use std::alloc::{AllocError, Global};
-use std::process::Abort;
 use std::sync::Arc;
 use std::test::Fail;
+
+fn remains_of(alloc: Global, new: &Heap, old: &Heap) -> Result<Remains, Fail> {
+    match agree(alloc, new, old)? {
+        Some(remains) => Ok(remains),
+        None => Err(Fail::from("they agree")),
+    }
+}
 
 // What is to be exchanged in the old heap to make it the new one, where both agree.
 fn exchange_between(
@@ -76,32 +82,18 @@ fn made_last(
     Ok(Some(heap))
 }
 
-// Whether what remains of two heaps changes nothing.
-fn changes_nothing(alloc: Global, new: &Heap, old: &Heap) -> Result<bool, Fail> {
-    let remains = remains_of(alloc, new, old)?;
-    Ok(remains.changes_nothing())
-}
-
-// How many objects are removed and added where both agree.
-fn remaining(alloc: Global, new: &Heap, old: &Heap) -> Result<(u64, u64), Fail> {
-    let remains = remains_of(alloc, new, old)?;
-    Ok((remains.removed().len(), remains.added().len()))
-}
-
 #[test]
 fn remains_tell_whether_they_change_anything(rt: HostRuntime) -> Result<(), Fail> {
     let alloc = rt.alloc();
-    let leaked = [CYCLE, LET_GO];
-    let without = [CYCLE, BREAK, LET_GO];
-    with_heaps(alloc, &leaked, &without, 12, 64, |leaked, without| {
-        assert!(rt; !changes_nothing(alloc, leaked, without)?);
-        assert!(rt; !changes_nothing(alloc, without, leaked)?);
-        let (removed, added) = remaining(alloc, leaked, leaked)?;
-        assert_eq!(rt; removed, 2);
-        assert_eq!(rt; added, 2);
-        assert!(rt; changes_nothing(alloc, leaked, leaked)?);
-        Ok(())
-    })
+    let without = heap_of(alloc, &[CYCLE, BREAK, LET_GO], 12, 64)?;
+    let leaked = heap_of(alloc, &[CYCLE, LET_GO], 12, 64)?;
+    assert!(rt; !remains_of(alloc, &leaked, &without)?.changes_nothing());
+    assert!(rt; !remains_of(alloc, &without, &leaked)?.changes_nothing());
+    let both = remains_of(alloc, &leaked, &leaked)?;
+    assert_eq!(rt; both.removed().len(), 2);
+    assert_eq!(rt; both.added().len(), 2);
+    assert!(rt; both.changes_nothing());
+    Ok(())
 }
 
 // Objects 70 and 71 hold each other.
@@ -126,60 +118,41 @@ const LET_SECOND_GO: &str = "\
 {\"h\":1,\"id\":80,\"op\":\"drop\",\"t\":0}
 ";
 
-// Lends a heap in which one cycle leaks, and that in which the second does, too.
-fn with_leaks<F: FnOnce(&Heap, &Heap) -> Result<(), Fail>>(
-    alloc: Global,
-    judge: F,
-) -> Result<(), Fail>
-    requires { F.IsAlwaysCallable judge }
-{
-    let fewer = [CYCLE, LET_GO, SECOND_CYCLE, SECOND_BREAK, LET_SECOND_GO];
-    let more = [CYCLE, LET_GO, SECOND_CYCLE, LET_SECOND_GO];
-    with_heaps(alloc, &fewer, &more, 81, 92, judge)
+// A heap in which one cycle leaks.
+fn fewer_leaks(alloc: Global) -> Result<Heap, Fail> {
+    let lines = [CYCLE, LET_GO, SECOND_CYCLE, SECOND_BREAK, LET_SECOND_GO];
+    heap_of(alloc, &lines, 81, 92)
 }
 
-// The first heap kept as the middle one, and that as the last one, is the last one.
-fn assert_made_last(
-    rt: &impl Abort,
-    alloc: Global,
-    first: &Heap,
-    middle: &Heap,
-    last: &Heap,
-) -> Result<(), Fail> {
-    let Some(made) = made_last(alloc, first, middle, last)? else {
-        return Err(Fail::from("they agree"));
-    };
-    assert!(rt; made.same(last));
-    Ok(())
-}
-
-// A checkpoint of a heap as it is stands for that.
-fn assert_as_it_is(rt: &impl Abort, alloc: Global, heap: &Heap) -> Result<(), Fail> {
-    let as_it_is = Checkpoint::of(heap);
-    let again = as_it_is.heap(alloc)?;
-    assert!(rt; again.same(heap));
-    Ok(())
+// The heap in which the second cycle leaks, too.
+fn more_leaks(alloc: Global) -> Result<Heap, Fail> {
+    let lines = [CYCLE, LET_GO, SECOND_CYCLE, LET_SECOND_GO];
+    heap_of(alloc, &lines, 81, 92)
 }
 
 #[test]
 fn checkpoints_stand_for_later_heaps(rt: HostRuntime) -> Result<(), Fail> {
     let alloc = rt.alloc();
-    with_leaks(alloc, |fewer, more| {
-        assert!(rt; !more.same(fewer));
-        let (removed, added) = remaining(alloc, more, fewer)?;
-        assert_eq!(rt; removed, 2);
-        assert_eq!(rt; added, 4);
-        for (first, middle, last) in [
-            (fewer, more, fewer),
-            (more, fewer, more),
-            (fewer, more, more),
-            (fewer, fewer, more),
-            (more, more, more),
-        ] {
-            assert_made_last(&rt, alloc, first, middle, last)?;
-        }
-        assert_as_it_is(&rt, alloc, more)
-    })
+    let fewer = fewer_leaks(alloc)?;
+    let more = more_leaks(alloc)?;
+    assert!(rt; !more.same(&fewer));
+    assert_eq!(rt; remains_of(alloc, &more, &fewer)?.removed().len(), 2);
+    assert_eq!(rt; remains_of(alloc, &more, &fewer)?.added().len(), 4);
+    for (first, middle, last) in [
+        (&fewer, &more, &fewer),
+        (&more, &fewer, &more),
+        (&fewer, &more, &more),
+        (&fewer, &fewer, &more),
+        (&more, &more, &more),
+    ] {
+        let Some(made) = made_last(alloc, first, middle, last)? else {
+            return Err(Fail::from("they agree"));
+        };
+        assert!(rt; made.same(last));
+    }
+    let as_it_is = Checkpoint::of(&more);
+    assert!(rt; as_it_is.heap(alloc)?.same(&more));
+    Ok(())
 }
 
 // An exchange that leaves a heap as it is, and then to another heap and back, as one.
@@ -198,69 +171,24 @@ fn there_and_back(
     }
 }
 
-// An exchange there and back, where they agree.
-fn there_and_back_again(
-    alloc: Global,
-    here: &Heap,
-    there: &Heap,
-    exchange: &Exchange,
-) -> Result<Exchange, Fail>
-    requires { patched here.now exchange.now ≡ here.now }
-    ensures { IfOk result (λ x. patched here.now x ≡ here.now) }
-{
-    match there_and_back(alloc, here, there, exchange)? {
-        None => Err(Fail::from("they agree")),
-        Some(further) => Ok(further),
-    }
-}
-
-// The exchange makes the heap that it is laid over.
-fn assert_made(rt: &impl Abort, alloc: Global, here: &Heap, exchange: &Exchange) -> Result<(), Fail>
-    requires { patched here.now exchange.now ≡ here.now }
-{
-    let heap = made(alloc, here, exchange, here)?;
-    assert!(rt; heap.same(here));
-    Ok(())
-}
-
-// An exchange there and back, twenty times, from one that leaves the heap as it is.
-fn assert_one(
-    rt: &impl Abort,
-    alloc: Global,
-    here: &Heap,
-    there: &Heap,
-    first: &Exchange,
-) -> Result<(), Fail>
-    requires { patched here.now first.now ≡ here.now }
-{
-    let mut exchange = there_and_back_again(alloc, here, there, first)?;
-    for _ in 0..20 {
-        let next = there_and_back_again(alloc, here, there, &exchange)?;
-        assert_made(rt, alloc, here, &next)?;
-        exchange = next;
-    }
-    Ok(())
-}
-
-// The exchange that begins it.
-fn assert_many_are_one(
-    rt: &impl Abort,
-    alloc: Global,
-    here: &Heap,
-    there: &Heap,
-) -> Result<(), Fail> {
-    let Some(first) = exchange_between(alloc, here, here)? else {
-        return Err(Fail::from("they agree"));
-    };
-    assert_one(rt, alloc, here, there, &first)
-}
-
 // Many exchanges are one that takes no more than the heap that they make.
 #[test]
 fn many_exchanges_are_one(rt: HostRuntime) -> Result<(), Fail> {
     let alloc = rt.alloc();
-    with_leaks(
-        alloc,
-        |here, there| assert_many_are_one(&rt, alloc, here, there),
-    )
+    let here = fewer_leaks(alloc)?;
+    let there = more_leaks(alloc)?;
+    let Some(first) = exchange_between(alloc, &here, &here)? else {
+        return Err(Fail::from("they agree"));
+    };
+    let Some(mut exchange) = there_and_back(alloc, &here, &there, &first)? else {
+        return Err(Fail::from("they agree"));
+    };
+    for _ in 0..20 {
+        let Some(next) = there_and_back(alloc, &here, &there, &exchange)? else {
+            return Err(Fail::from("they agree"));
+        };
+        assert!(rt; made(alloc, &here, &next, &here)?.same(&here));
+        exchange = next;
+    }
+    Ok(())
 }

@@ -1,15 +1,14 @@
 //! Heaps compared at suspects alone: what leaks apart from all else is told without a walk over the heaps.
-use crate::agreeing::{BREAK, CYCLE, LET_GO, read, with_heaps};
-use agreement::{Meeting, Remains, Suspects, Trail, meet_among, refutes};
+use crate::agreeing::{BREAK, CYCLE, LET_GO, heap_of};
+use agreement::{Meeting, Remains, Suspects, meet_among, refutes};
 use object_heap::Heap;
 use op_step::Meter;
 use op_step::replay::replay;
 use ownership_model::Remaining;
 use std::alloc::Global;
-use std::process::Abort;
 use std::test::Fail;
+use trace_reader::read_trace;
 use trace_types::slots::{Entry, Slot};
-use trace_types::trace::Trace;
 
 // What the comparison tells, where all objects are suspects at first, and which are left.
 fn meet_all(alloc: Global, new: &Heap, old: &Heap) -> Result<(Meeting, Suspects), Fail> {
@@ -50,34 +49,21 @@ const LEAK: &str = "\
 {\"h\":7,\"id\":24,\"op\":\"drop\",\"t\":0}
 ";
 
-// What leaks in the new heap alone is added to the old one.
-fn assert_added(rt: &impl Abort, alloc: Global, new: &Heap, old: &Heap) -> Result<(), Fail> {
-    let remains = remains_of(alloc, new, old)?;
-    assert_eq!(rt; remains.removed().len(), 0);
-    assert_eq!(rt; remains.added().len(), 2);
-    assert!(rt; is_with(remains.added().get(1), 2, 1, 0));
-    assert!(rt; is_with(remains.added().get(2), 1, 1, 0));
-    Ok(())
-}
-
-// The other way it is removed.
-fn assert_removed(rt: &impl Abort, alloc: Global, new: &Heap, old: &Heap) -> Result<(), Fail> {
-    let back = remains_of(alloc, new, old)?;
-    assert_eq!(rt; back.removed().len(), 2);
-    assert_eq!(rt; back.added().len(), 0);
-    Ok(())
-}
-
 // Of what leaks the objects that differ are told alone.
 #[test]
 fn differing_island_is_told_alone(rt: HostRuntime) -> Result<(), Fail> {
     let alloc = rt.alloc();
-    let new = [CYCLE, LET_GO, LEAK];
-    let old = [CYCLE, BREAK, LET_GO, LEAK];
-    with_heaps(alloc, &new, &old, 25, 64, |new, old| {
-        assert_added(&rt, alloc, new, old)?;
-        assert_removed(&rt, alloc, old, new)
-    })
+    let old = heap_of(alloc, &[CYCLE, BREAK, LET_GO, LEAK], 25, 64)?;
+    let new = heap_of(alloc, &[CYCLE, LET_GO, LEAK], 25, 64)?;
+    let remains = remains_of(alloc, &new, &old)?;
+    assert_eq!(rt; remains.removed().len(), 0);
+    assert_eq!(rt; remains.added().len(), 2);
+    assert!(rt; is_with(remains.added().get(1), 2, 1, 0));
+    assert!(rt; is_with(remains.added().get(2), 1, 1, 0));
+    let back = remains_of(alloc, &old, &new)?;
+    assert_eq!(rt; back.removed().len(), 2);
+    assert_eq!(rt; back.added().len(), 0);
+    Ok(())
 }
 
 // An object that holds itself and has a Weak, and another one that holds itself.
@@ -101,29 +87,22 @@ const LEAK_BOTH: &str = "\
 {\"h\":2,\"id\":10,\"op\":\"drop\",\"t\":0}
 ";
 
-// Both are exchanged, the first with its counts.
-fn assert_both_exchanged(rt: &impl Abort, remains: &Remains) {
-    assert_eq!(rt; remains.removed().len(), 2);
-    assert_eq!(rt; remains.added().len(), 2);
-    assert!(rt; is_with(remains.removed().get(1), 1, 1, 0));
-    assert!(rt; is_with(remains.added().get(1), 1, 1, 1));
-}
-
 // The first is the same in both but for its weak count.
 #[test]
 fn object_joins_by_its_count(rt: HostRuntime) -> Result<(), Fail> {
     let alloc = rt.alloc();
-    let new = [PAIR, HOLD, LEAK_BOTH];
-    let old = [PAIR, DROP, LEAK_BOTH];
-    with_heaps(alloc, &new, &old, 11, 64, |new, old| {
-        let (meeting, suspects) = meet_all(alloc, new, old)?;
-        let Meeting::Alike(remains) = &meeting else {
-            return Err(Fail::from("they agree"));
-        };
-        assert_eq!(rt; suspects.as_slice(), [5].as_slice());
-        assert_both_exchanged(&rt, remains);
-        Ok(())
-    })
+    let new = heap_of(alloc, &[PAIR, HOLD, LEAK_BOTH], 11, 64)?;
+    let old = heap_of(alloc, &[PAIR, DROP, LEAK_BOTH], 11, 64)?;
+    let (meeting, suspects) = meet_all(alloc, &new, &old)?;
+    let Meeting::Alike(remains) = &meeting else {
+        return Err(Fail::from("they agree"));
+    };
+    assert_eq!(rt; suspects.as_slice(), [5].as_slice());
+    assert_eq!(rt; remains.removed().len(), 2);
+    assert_eq!(rt; remains.added().len(), 2);
+    assert!(rt; is_with(remains.removed().get(1), 1, 1, 0));
+    assert!(rt; is_with(remains.added().get(1), 1, 1, 1));
+    Ok(())
 }
 
 // Where the first is held yet, its count differs in what can be reached.
@@ -131,14 +110,12 @@ fn object_joins_by_its_count(rt: HostRuntime) -> Result<(), Fail> {
 fn count_of_a_held_object_parts(rt: HostRuntime) -> Result<(), Fail> {
     let alloc = rt.alloc();
     let leak = "{\"h\":2,\"id\":10,\"op\":\"drop\",\"t\":0}\n";
-    let new = [PAIR, HOLD, leak];
-    let old = [PAIR, DROP, leak];
-    with_heaps(alloc, &new, &old, 11, 64, |new, old| {
-        let (meeting, suspects) = meet_all(alloc, new, old)?;
-        assert!(rt; matches!(meeting, Meeting::Apart));
-        assert_eq!(rt; suspects.as_slice(), [5].as_slice());
-        Ok(())
-    })
+    let new = heap_of(alloc, &[PAIR, HOLD, leak], 11, 64)?;
+    let old = heap_of(alloc, &[PAIR, DROP, leak], 11, 64)?;
+    let (meeting, suspects) = meet_all(alloc, &new, &old)?;
+    assert!(rt; matches!(meeting, Meeting::Apart));
+    assert_eq!(rt; suspects.as_slice(), [5].as_slice());
+    Ok(())
 }
 
 // Two objects, each held.
@@ -152,50 +129,27 @@ const PUT: &str = "{\"from\":1,\"h\":0,\"i\":0,\"id\":3,\"op\":\"set\",\"t\":0}\
 
 const END: &str = "{\"h\":1,\"id\":3,\"op\":\"drop\",\"t\":0}\n";
 
-// The heaps are apart where all objects are suspects at first: the trail that is left.
-fn trail_to(rt: &impl Abort, alloc: Global, new: &Heap, old: &Heap) -> Result<Trail, Fail> {
-    let mut suspects = Suspects::of_both(alloc, new, old)?;
-    let mut seen = None;
-    let meeting = meet_among(alloc, new, old, &mut suspects, &mut seen)?;
-    assert!(rt; matches!(meeting, Meeting::Apart));
-    match seen {
-        Some(trail) => Ok(trail),
-        None => Err(Fail::from("a trail")),
-    }
-}
-
 // A suspect that is reached parts the heaps, and the trail leads to it.
-fn assert_parts(rt: &impl Abort, alloc: Global, new: &Heap, old: &Heap) -> Result<(), Fail> {
-    let trail = trail_to(rt, alloc, new, old)?;
-    assert!(rt; refutes(&trail, new, old));
-    Ok(())
-}
-
 #[test]
 fn reached_suspect_parts(rt: HostRuntime) -> Result<(), Fail> {
     let alloc = rt.alloc();
-    with_heaps(alloc, &[HELD, END], &[HELD, PUT], 4, 65, |end, put| {
-        assert!(rt; end.same_roots(put));
-        assert_parts(&rt, alloc, end, put)?;
-        assert_parts(&rt, alloc, put, end)
-    })
-}
-
-// What is the same again is no suspect any more.
-fn assert_dropped(
-    rt: &impl Abort,
-    alloc: Global,
-    new: &Heap,
-    old: &Heap,
-    suspects: &mut Suspects,
-) -> Result<(), Fail> {
-    assert_eq!(rt; suspects.as_slice(), [1, 2, 1, 2].as_slice());
-    let meeting = meet_among(alloc, new, old, suspects, &mut None)?;
-    assert!(rt; matches!(meeting, Meeting::Same));
-    assert_eq!(rt; suspects.as_slice().len(), 0);
+    let put = heap_of(alloc, &[HELD, PUT], 4, 65)?;
+    let end = heap_of(alloc, &[HELD, END], 4, 65)?;
+    assert!(rt; end.same_roots(&put));
+    for (new, old) in &[(&end, &put), (&put, &end)] {
+        let mut suspects = Suspects::of_both(alloc, new, old)?;
+        let mut seen = None;
+        let meeting = meet_among(alloc, new, old, &mut suspects, &mut seen)?;
+        assert!(rt; matches!(meeting, Meeting::Apart));
+        let Some(trail) = &seen else {
+            return Err(Fail::from("a trail"));
+        };
+        assert!(rt; refutes(trail, new, old));
+    }
     Ok(())
 }
 
+// What is the same again is no suspect any more.
 #[test]
 fn equal_suspects_are_dropped(rt: HostRuntime) -> Result<(), Fail> {
     let alloc = rt.alloc();
@@ -203,28 +157,27 @@ fn equal_suspects_are_dropped(rt: HostRuntime) -> Result<(), Fail> {
 {\"from\":0,\"id\":31,\"op\":\"clone\",\"t\":0,\"to\":5}
 {\"h\":5,\"id\":32,\"op\":\"drop\",\"t\":0}
 ";
-    let new = [CYCLE, others, LET_GO];
-    let old = [CYCLE, LET_GO];
-    with_heaps(alloc, &new, &old, 33, 64, |new, old| {
-        let mut suspects = Suspects::of_both(alloc, new, old)?;
-        assert_dropped(&rt, alloc, new, old, &mut suspects)
-    })
+    let new = heap_of(alloc, &[CYCLE, others, LET_GO], 33, 64)?;
+    let old = heap_of(alloc, &[CYCLE, LET_GO], 33, 64)?;
+    let mut suspects = Suspects::of_both(alloc, &new, &old)?;
+    assert_eq!(rt; suspects.as_slice(), [1, 2, 1, 2].as_slice());
+    let meeting = meet_among(alloc, &new, &old, &mut suspects, &mut None)?;
+    assert!(rt; matches!(meeting, Meeting::Same));
+    assert_eq!(rt; suspects.as_slice().len(), 0);
+    Ok(())
 }
 
 // What outcomes tell of: their own numbers, those of their events and those of their counts.
-// The suspects that the replay of a trace makes.
-fn suspects_of(alloc: Global, trace: &Trace) -> Result<Suspects, Fail> {
-    let (outcomes, _) = replay(alloc, trace, &mut Meter::new())?;
-    let mut suspects = Suspects::none(alloc);
-    suspects.add(outcomes.as_slice())?;
-    Ok(suspects)
-}
-
 #[test]
 fn outcomes_make_suspects(rt: HostRuntime) -> Result<(), Fail> {
     let alloc = rt.alloc();
-    let trace = read(alloc, &[HELD, END])?;
-    let suspects = suspects_of(alloc, &trace)?;
+    let mut text = String::new(alloc);
+    text.push_str(HELD)?;
+    text.push_str(END)?;
+    let trace = read_trace(alloc, text.as_bytes()).map_err(|_| Fail::from("a fault"))?;
+    let (outcomes, _) = replay(alloc, &trace, &mut Meter::new())?;
+    let mut suspects = Suspects::none(alloc);
+    suspects.add(outcomes.as_slice())?;
     assert_eq!(rt; suspects.as_slice(), [1, 1, 2, 2, 3, 2, 2, 2].as_slice());
     Ok(())
 }
