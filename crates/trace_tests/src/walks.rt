@@ -172,6 +172,52 @@ fn a_line_that_is_not_plain_leaves_the_next_ones_as_they_are(rt: HostRuntime) ->
     Ok(())
 }
 
+// A text whose first lines begin with a tab, so that no walk reads them, and whose other lines are plain.
+fn tabs_then_plain(rt: &HostRuntime, tabs: u32, plain: u32) -> Result<String, Fail> {
+    let mut text = String::new(rt.alloc());
+    for id in 1..=tabs.saturating_add(plain) {
+        let start = if id <= tabs { "\t" } else { "" };
+        let line = format!(in rt.alloc();
+            "{start}{{\"id\":{id},\"t\":0,\"op\":\"null\",\"to\":0}}\n"
+        )?;
+        text.push_str(line.as_str())?;
+    }
+    Ok(text)
+}
+
+// How many bytes of forty plain lines are read token by token behind so many lines that no walk reads.
+fn left_out(rt: &HostRuntime, tabs: u32) -> Result<usize, Fail> {
+    let before = token_bytes(rt, tabs_then_plain(rt, tabs, 0)?.as_str())?;
+    let all = token_bytes(rt, tabs_then_plain(rt, tabs, 40)?.as_str())?;
+    Ok(all.saturating_sub(before))
+}
+
+// Walks that don't pay are left out, and tried again: behind some of these lines a few plain ones are read token by token.
+#[test]
+fn walks_are_left_out_where_they_do_not_pay(rt: HostRuntime) -> Result<(), Fail> {
+    let mut most = 0;
+    for tabs in 110..130 {
+        most = most.max(left_out(&rt, tabs)?);
+    }
+    assert!(rt; 0 < most);
+    assert!(rt; most < 450);
+    Ok(())
+}
+
+// A walk that reads most of each line pays, however long the trace is.
+#[test]
+fn walks_that_end_late_go_on(rt: HostRuntime) -> Result<(), Fail> {
+    let mut text = String::new(rt.alloc());
+    for id in 1..=1_000u32 {
+        let line = format!(in rt.alloc();
+            "{{\"id\":{id},\"t\":0,\"op\":\"null\",\"to\":0,\"z\":1.5}}\n"
+        )?;
+        text.push_str(line.as_str())?;
+    }
+    assert_eq!(rt; token_bytes(&rt, text.as_str())?, 8_000);
+    Ok(())
+}
+
 // The walk keeps members, and the tokens go on: what they find counts as if they had read the whole line.
 #[test]
 fn faults_behind_members_that_are_kept(rt: HostRuntime) -> Result<(), Fail> {
