@@ -28,6 +28,14 @@ fn found(shelf: &mut MarkShelf, heap: &Heap, ops: &[Op], before: Option<u64>) ->
     }
 }
 
+// Of some operations, 64 from a place on.
+fn part(ops: &[Op], at: usize) -> Result<&[Op], Fail> {
+    match ops.get(at..at.saturating_add(64)) {
+        Some(part) => Ok(part),
+        None => Err(Fail::from("a short trace")),
+    }
+}
+
 // The chunks that a shelf has of the first three times 64 operations of a run, each found behind the one before it.
 fn first_three(
     alloc: Global,
@@ -35,18 +43,14 @@ fn first_three(
     run: &Run,
 ) -> Result<(Found, Found, Found), Fail> {
     let trace = run.trace(alloc)?;
-    let ops = trace.as_slice();
-    if ops.len() < 192 {
-        return Err(Fail::from("a short trace"));
-    }
-    let first = found(shelf, &Heap::empty(), &ops[..64], None)?;
-    let second = found(shelf, first.chunk.end(), &ops[64..128], Some(first.number))?;
-    let third = found(
-        shelf,
-        second.chunk.end(),
-        &ops[128..192],
-        Some(second.number),
-    )?;
+    three_in(shelf, trace.as_slice())
+}
+
+fn three_in(shelf: &mut MarkShelf, ops: &[Op]) -> Result<(Found, Found, Found), Fail> {
+    let (one, two, three) = (part(ops, 0)?, part(ops, 64)?, part(ops, 128)?);
+    let first = found(shelf, &Heap::empty(), one, None)?;
+    let second = found(shelf, first.chunk.end(), two, Some(first.number))?;
+    let third = found(shelf, second.chunk.end(), three, Some(second.number))?;
     Ok((first, second, third))
 }
 
