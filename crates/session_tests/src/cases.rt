@@ -9,7 +9,6 @@ use std::alloc::Global;
 use std::marker::Brand;
 use std::process::Abort;
 use std::sync::Wait;
-use std::test::Fail;
 use std::thread::Threads;
 use trace_types::trace::Trace;
 
@@ -68,57 +67,14 @@ pub(crate) fn desk_after<S: Threads + Wait + Abort + Sync + Send>(
     with_live::<Brand, _>(rt, alloc, started, case)
 }
 
-// The desk has so many entries, and stands at this version.
-pub(crate) fn assert_stands(rt: &impl Abort, desk: &Desk, len: usize, version: u32) {
-    assert_eq!(rt; desk.len(), len);
-    assert_eq!(rt; desk.version(), version);
-}
-
-// Lends the desk that sessions leave of a trace. Where they leave none, this is what was due.
-//
-// A desk is dear to a proof wherever a function that owns one can end: so tests are lent it.
-pub(crate) fn with_left<
-    S: Threads + Wait + Abort + Sync + Send,
-    F: FnOnce(&Desk) -> Result<(), Fail>,
->(
-    rt: &S,
-    alloc: Global,
-    trace: Option<Trace>,
-    case: Case,
-    due: &'static str,
-    judge: F,
-) -> Result<(), Fail>
-    requires { F.IsAlwaysCallable judge }
-{
-    let trace = trace.ok_or("memory")?;
-    let desk = desk_after(rt, alloc, trace, case).ok_or(due)?;
-    judge(&desk)
-}
-
-// The desk that sessions leave of a trace has so many entries, and stands at this version.
-pub(crate) fn assert_left<S: Threads + Wait + Abort + Sync + Send>(
-    rt: &S,
-    alloc: Global,
-    trace: Option<Trace>,
-    case: Case,
-    due: &'static str,
-    len: usize,
-    version: u32,
-) -> Result<(), Fail> {
-    with_left(rt, alloc, trace, case, due, |desk| {
-        assert_stands(rt, desk, len, version);
-        Ok(())
-    })
-}
-
-// Both receipts, where there are two.
+// Both receipts.
 pub(crate) fn both<J: Naming>(
     alloc: Global,
-    first: Option<Receipt<J>>,
-    second: Option<Receipt<J>>,
+    first: Receipt<J>,
+    second: Receipt<J>,
 ) -> Option<Vec<Receipt<J>>> {
     let mut receipts = Vec::new(alloc);
-    receipts.push(first?).ok()?;
-    receipts.push(second?).ok()?;
+    receipts.push(first).ok()?;
+    receipts.push(second).ok()?;
     Some(receipts)
 }

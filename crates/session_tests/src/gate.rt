@@ -2,9 +2,9 @@
 ghost use Rattle.std.specs.Prelude.{◌≡◌, []};
 ghost use Rattle.live_sessions.specs.Events.{opening_of};
 
-use crate::cases::{assert_stands, both};
+use crate::cases::both;
 use crate::requests::{one_new, removal, wait_for};
-use crate::steps::{leaves, leaves_with, submits};
+use crate::steps::{leaves, submits};
 use edit_desk::{Desk, Reply};
 use live_sessions::{
     CountedDesk, Live, Naming, Pass, Places, Publisher, Receipt, Shown, Started, writer_of,
@@ -46,41 +46,34 @@ impl<P: Publisher, R: Wait + Drop> Publisher for Waiting<'_, P, R> {
     }
 }
 
-// Submits, which waits inside for the other session's reads: how many replies there were.
-fn submits_removal<J: Naming, W: Publisher<Value = Shown<J>>, S: Wait + Abort>(
-    rt: &S,
-    alloc: Global,
-    live: &Live<J, W>,
-    pass: &mut Pass<J>,
-) -> Option<u32> {
-    submits(rt, live, pass, removal(alloc, 0, 1), Reply::Accepted(1))?;
-    Some(1)
-}
-
+// Submits, which waits inside for the other session's reads.
 fn removes<J: Naming, W: Publisher<Value = Shown<J>>, S: Wait + Abort>(
     rt: &S,
     alloc: Global,
     live: &Live<J, W>,
     mut pass: Pass<J>,
 ) -> Option<Receipt<J>> {
-    let answered = submits_removal(rt, alloc, live, &mut pass);
-    leaves_with(rt, live, pass, answered)
+    submits(
+        rt,
+        live,
+        &mut pass,
+        removal(alloc, 0, 1),
+        Reply::Accepted(1),
+    )?;
+    leaves(rt, live, pass, 1)
 }
 
-// Reads this version many times.
-fn reads_often<J: Naming, S: Wait + Abort>(rt: &S, pass: &mut Pass<J>, version: u32) {
-    for _ in 0..10_000u32 {
-        assert!(rt; pass.read().version() == version);
-    }
-}
-
-// Reads while the submit is inside: the version that stood before it, and then the one that was published.
+// Reads many times while the submit is inside: the version that stood before it, and then the one that was published.
 fn reads<J: Naming, S: Wait + Abort>(rt: &S, mut pass: Pass<J>, turn: &AtomicU64) -> Pass<J> {
     wait_for(rt, turn, 1);
-    reads_often(rt, &mut pass, 0);
+    for _ in 0..10_000u32 {
+        assert!(rt; pass.read().version() == 0);
+    }
     turn.store(2, Ordering::SeqCst);
     wait_for(rt, turn, 3);
-    reads_often(rt, &mut pass, 1);
+    for _ in 0..10_000u32 {
+        assert!(rt; pass.read().version() == 1);
+    }
     turn.store(4, Ordering::SeqCst);
     pass
 }
@@ -97,8 +90,7 @@ fn side_by_side<
         move || removes(rt, alloc, live, first),
         move || reads(rt, second, turn),
     );
-    let other = leaves(rt, live, pass, 0);
-    both(alloc, left, other)
+    both(alloc, left?, leaves(rt, live, pass, 0)?)
 }
 
 fn with_waiting<J: Naming + Send + Sync, S: Threads + Wait + Abort + Sync + Send>(
@@ -134,6 +126,7 @@ fn desk_waited_for<S: Threads + Wait + Abort + Sync + Send>(rt: &S, alloc: Globa
 #[test]
 fn reads_go_on_inside_a_submit(rt: HostRuntime) -> Result<(), Fail> {
     let desk = desk_waited_for(&rt, rt.alloc()).ok_or("both sessions leave")?;
-    assert_stands(&rt, &desk, 1, 1);
+    assert_eq!(rt; desk.len(), 1);
+    assert_eq!(rt; desk.version(), 1);
     Ok(())
 }

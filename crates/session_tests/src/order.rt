@@ -1,7 +1,7 @@
 //! Two sessions whose requests meet.
-use crate::cases::{Case, assert_left, assert_stands, both, with_left};
+use crate::cases::{Case, both, desk_after};
 use crate::requests::{insertion, new_and_clone, one_new, removal, wait_for};
-use crate::steps::{leaves_with, submits};
+use crate::steps::{leaves, submits};
 use edit_desk::{Published, Reply};
 use live_sessions::{Live, Naming, Pass, Publisher, Receipt, Shown};
 use run_engine::{Refusal, Run};
@@ -36,22 +36,7 @@ fn shows_both(published: &Published) -> bool {
         && is_done(run, 2, 2, 2, 1)
 }
 
-// Session 0 inserts a clone, and reads when session 1 is done: how many replies it had.
-fn inserts_clone<J: Naming, W: Publisher<Value = Shown<J>>, S: Wait + Abort>(
-    rt: &S,
-    alloc: Global,
-    live: &Live<J, W>,
-    pass: &mut Pass<J>,
-    turn: &AtomicU64,
-) -> Option<u32> {
-    let clone = insertion(alloc, 0, 1, 2, Kind::Clone { from: 0, to: 1 });
-    submits(rt, live, pass, clone, Reply::Accepted(1))?;
-    turn.store(1, Ordering::SeqCst);
-    wait_for(rt, turn, 2);
-    assert!(rt; shows_both(pass.read()));
-    Some(1)
-}
-
+// Session 0 inserts a clone, and reads when session 1 is done.
 fn clones<J: Naming, W: Publisher<Value = Shown<J>>, S: Wait + Abort>(
     rt: &S,
     alloc: Global,
@@ -59,28 +44,15 @@ fn clones<J: Naming, W: Publisher<Value = Shown<J>>, S: Wait + Abort>(
     mut pass: Pass<J>,
     turn: &AtomicU64,
 ) -> Option<Receipt<J>> {
-    let answered = inserts_clone(rt, alloc, live, &mut pass, turn);
-    leaves_with(rt, live, pass, answered)
-}
-
-// Session 1 inserts a downgrade, which is stale at first: how many replies it had.
-fn inserts_downgrade<J: Naming, W: Publisher<Value = Shown<J>>, S: Wait + Abort>(
-    rt: &S,
-    alloc: Global,
-    live: &Live<J, W>,
-    pass: &mut Pass<J>,
-    turn: &AtomicU64,
-) -> Option<u32> {
-    wait_for(rt, turn, 1);
-    let early = insertion(alloc, 0, 1, 3, Kind::Downgrade { from: 0, to: 2 });
-    submits(rt, live, pass, early, Reply::Stale(1))?;
-    let late = insertion(alloc, 1, 1, 3, Kind::Downgrade { from: 0, to: 2 });
-    submits(rt, live, pass, late, Reply::Accepted(2))?;
+    let clone = insertion(alloc, 0, 1, 2, Kind::Clone { from: 0, to: 1 });
+    submits(rt, live, &mut pass, clone, Reply::Accepted(1))?;
+    turn.store(1, Ordering::SeqCst);
+    wait_for(rt, turn, 2);
     assert!(rt; shows_both(pass.read()));
-    turn.store(2, Ordering::SeqCst);
-    Some(2)
+    leaves(rt, live, pass, 1)
 }
 
+// Session 1 inserts a downgrade, which is stale at first.
 fn downgrades<J: Naming, W: Publisher<Value = Shown<J>>, S: Wait + Abort>(
     rt: &S,
     alloc: Global,
@@ -88,8 +60,14 @@ fn downgrades<J: Naming, W: Publisher<Value = Shown<J>>, S: Wait + Abort>(
     mut pass: Pass<J>,
     turn: &AtomicU64,
 ) -> Option<Receipt<J>> {
-    let answered = inserts_downgrade(rt, alloc, live, &mut pass, turn);
-    leaves_with(rt, live, pass, answered)
+    wait_for(rt, turn, 1);
+    let early = insertion(alloc, 0, 1, 3, Kind::Downgrade { from: 0, to: 2 });
+    submits(rt, live, &mut pass, early, Reply::Stale(1))?;
+    let late = insertion(alloc, 1, 1, 3, Kind::Downgrade { from: 0, to: 2 });
+    submits(rt, live, &mut pass, late, Reply::Accepted(2))?;
+    assert!(rt; shows_both(pass.read()));
+    turn.store(2, Ordering::SeqCst);
+    leaves(rt, live, pass, 2)
 }
 
 pub fn two_sessions<
@@ -106,35 +84,25 @@ pub fn two_sessions<
         move || clones(rt, alloc, live, a, flag),
         move || downgrades(rt, alloc, live, b, flag),
     );
-    both(alloc, a, b)
+    both(alloc, a?, b?)
 }
 
-// Submits the removal of operation 2 for version 0, and where that is stale for the version that stands: how many replies it had.
-fn submits_removal<J: Naming, W: Publisher<Value = Shown<J>>, S: Wait + Abort>(
-    rt: &S,
-    alloc: Global,
-    live: &Live<J, W>,
-    pass: &mut Pass<J>,
-) -> Option<u32> {
-    let first = live.submit(rt, pass, removal(alloc, 0, 2)?).ok()?;
-    let is_second = first != Reply::Accepted(1);
-    if is_second {
-        assert!(rt; first == Reply::Stale(1));
-        let none = Reply::Refused(Refusal::NoSuchOp(0));
-        submits(rt, live, pass, removal(alloc, 1, 2), none)?;
-    }
-    assert!(rt; pass.read().version() == 1);
-    Some(if is_second { 2 } else { 1 })
-}
-
+// Submits the removal of operation 2 for version 0, and where that is stale for the version that stands.
 fn removes<J: Naming, W: Publisher<Value = Shown<J>>, S: Wait + Abort>(
     rt: &S,
     alloc: Global,
     live: &Live<J, W>,
     mut pass: Pass<J>,
 ) -> Option<Receipt<J>> {
-    let answered = submits_removal(rt, alloc, live, &mut pass);
-    leaves_with(rt, live, pass, answered)
+    let first = live.submit(rt, &mut pass, removal(alloc, 0, 2)?).ok()?;
+    let is_second = first != Reply::Accepted(1);
+    if is_second {
+        assert!(rt; first == Reply::Stale(1));
+        let none = Reply::Refused(Refusal::NoSuchOp(0));
+        submits(rt, live, &mut pass, removal(alloc, 1, 2), none)?;
+    }
+    assert!(rt; pass.read().version() == 1);
+    leaves(rt, live, pass, if is_second { 2 } else { 1 })
 }
 
 pub fn both_remove<
@@ -149,25 +117,26 @@ pub fn both_remove<
         move || removes(rt, alloc, live, a),
         move || removes(rt, alloc, live, b),
     );
-    both(alloc, a, b)
+    both(alloc, a?, b?)
 }
 
 #[test]
 fn two_sessions_edit_in_turn(rt: HostRuntime) -> Result<(), Fail> {
     let alloc = rt.alloc();
-    let trace = one_new(alloc);
-    let due = "both sessions leave";
-    assert_left(&rt, alloc, trace, Case::TwoSessions, due, 3, 2)
+    let trace = one_new(alloc).ok_or("memory")?;
+    let desk = desk_after(&rt, alloc, trace, Case::TwoSessions).ok_or("both sessions leave")?;
+    assert_eq!(rt; desk.len(), 3);
+    assert_eq!(rt; desk.version(), 2);
+    Ok(())
 }
 
 #[test]
 fn two_sessions_remove_one_operation(rt: HostRuntime) -> Result<(), Fail> {
     let alloc = rt.alloc();
-    let trace = new_and_clone(alloc);
-    let due = "both sessions leave";
-    with_left(&rt, alloc, trace, Case::BothRemove, due, |desk| {
-        assert_stands(&rt, desk, 3, 1);
-        assert_eq!(rt; desk.published().run().len(), 1);
-        Ok(())
-    })
+    let trace = new_and_clone(alloc).ok_or("memory")?;
+    let desk = desk_after(&rt, alloc, trace, Case::BothRemove).ok_or("both sessions leave")?;
+    assert_eq!(rt; desk.len(), 3);
+    assert_eq!(rt; desk.version(), 1);
+    assert_eq!(rt; desk.published().run().len(), 1);
+    Ok(())
 }

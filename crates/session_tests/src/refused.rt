@@ -1,7 +1,7 @@
 //! A submit that finds no memory. `tools/refused_memory` refuses each allocation in turn.
-use crate::cases::{Case, assert_stands, desk_after};
+use crate::cases::{Case, desk_after};
 use crate::requests::{new_and_clone, removal};
-use crate::steps::{joins, leaves_with};
+use crate::steps::leaves;
 use edit_desk::{Desk, Reply, Request};
 use live_sessions::{Live, Naming, Pass, Publisher, Receipt, Shown, SubmitFault};
 use std::alloc::Global;
@@ -26,14 +26,11 @@ fn trace(alloc: Global) -> Option<Trace> {
     }
 }
 
-fn left<S: Threads + Wait + Abort + Sync + Send>(rt: &S, alloc: Global) -> Option<Desk> {
-    desk_after(rt, alloc, trace(alloc)?, Case::Refused)
-}
-
 fn desk<S: Threads + Wait + Abort + Sync + Send>(rt: &S, alloc: Global) -> Option<Desk> {
-    match left(rt, alloc) {
+    let first = desk_after(rt, alloc, trace(alloc)?, Case::Refused);
+    match first {
         Some(desk) => Some(desk),
-        None => left(rt, alloc),
+        None => desk_after(rt, alloc, trace(alloc)?, Case::Refused),
     }
 }
 
@@ -56,44 +53,25 @@ fn removes<J: Naming, W: Publisher<Value = Shown<J>>, S: Wait + Abort>(
     }
 }
 
-// The removal is accepted, which the other pass reads: how many replies there were.
-fn submits_removal<J: Naming, W: Publisher<Value = Shown<J>>, S: Wait + Abort>(
-    rt: &S,
-    alloc: Global,
-    live: &Live<J, W>,
-    pass: &mut Pass<J>,
-    other: &mut Pass<J>,
-) -> Option<u32> {
-    let reply = removes(rt, alloc, live, pass, other)?;
-    assert!(rt; reply == Reply::Accepted(1));
-    assert!(rt; other.read().version() == 1);
-    Some(1)
-}
-
-fn leaves_after_removal<J: Naming, W: Publisher<Value = Shown<J>>, S: Wait + Abort>(
-    rt: &S,
-    alloc: Global,
-    live: &Live<J, W>,
-) -> Option<Receipt<J>> {
-    let mut pass = joins(rt, live, 0)?;
-    let mut other = joins(rt, live, 1)?;
-    let answered = submits_removal(rt, alloc, live, &mut pass, &mut other);
-    leaves_with(rt, live, pass, answered)
-}
-
 pub fn submits<J: Naming, W: Publisher<Value = Shown<J>>, S: Wait + Abort>(
     rt: &S,
     alloc: Global,
     live: &Live<J, W>,
 ) -> Option<Vec<Receipt<J>>> {
     let mut receipts = Vec::with_capacity(alloc, 1).ok()?;
-    receipts.push(leaves_after_removal(rt, alloc, live)?).ok()?;
+    let mut pass = live.join(rt).ok()?;
+    let mut other = live.join(rt).ok()?;
+    let reply = removes(rt, alloc, live, &mut pass, &mut other)?;
+    assert!(rt; reply == Reply::Accepted(1));
+    assert!(rt; other.read().version() == 1);
+    receipts.push(leaves(rt, live, pass, 1)?).ok()?;
     Some(receipts)
 }
 
 #[test]
 fn refused_submit_stores_nothing(rt: HostRuntime) -> Result<(), Fail> {
     let desk = desk(&rt, rt.alloc()).ok_or("one of two tries goes well")?;
-    assert_stands(&rt, &desk, 1, 1);
+    assert_eq!(rt; desk.len(), 1);
+    assert_eq!(rt; desk.version(), 1);
     Ok(())
 }

@@ -4,7 +4,7 @@ ghost use Rattle.live_sessions.specs.Events.{opening_of};
 
 use command_race::{report_of_desk, report_of_front};
 use edit_desk::Request;
-use live_sessions::{Live, Naming, Pass, Publisher, Shown, Started, open};
+use live_sessions::{Naming, Started, open};
 use std::alloc::Global;
 use std::marker::Brand;
 use std::sync::Wait;
@@ -25,55 +25,6 @@ object 1 alive
 total 2 ops 0 skipped 1 objects 1 alive 0 leaks 0 husks
 ";
 
-// Submits the requests.
-fn submit_all<J: Naming, W: Publisher<Value = Shown<J>>, S: Wait>(
-    rt: &S,
-    live: &Live<J, W>,
-    pass: &mut Pass<J>,
-    lines: Sequence<RequestLine>,
-) -> Option<()> {
-    for line in lines.into_vec() {
-        let RequestLine {
-            base,
-            session: _,
-            batch,
-        } = line;
-        let _reply = live.submit(rt, pass, Request { base, batch }).ok()?;
-    }
-    Some(())
-}
-
-// What a session reads that joins now.
-fn read_now<J: Naming, W: Publisher<Value = Shown<J>>, S: Wait>(
-    rt: &S,
-    alloc: Global,
-    live: &Live<J, W>,
-) -> Option<Vec<u8>> {
-    let mut other = live.join(rt).ok()?;
-    report_of_front(alloc, &mut other).ok()
-}
-
-// What another session reads after one has submitted the requests.
-fn read_after<J: Naming, W: Publisher<Value = Shown<J>>, S: Wait>(
-    rt: &S,
-    alloc: Global,
-    live: &Live<J, W>,
-    lines: Sequence<RequestLine>,
-) -> Option<Vec<u8>> {
-    let mut pass = live.join(rt).ok()?;
-    submit_all(rt, live, &mut pass, lines)?;
-    read_now(rt, alloc, live)
-}
-
-// What the closed desk shows.
-fn closed<J: Naming, W: Publisher<Value = Shown<J>>>(
-    alloc: Global,
-    live: Live<J, W>,
-) -> Option<Vec<u8>> {
-    let desk = live.close(Vec::new(alloc)).ok()?;
-    report_of_desk(alloc, &desk).ok()
-}
-
 // What another session reads after one has submitted the requests, and what the closed desk shows.
 fn reports<J: Naming, S: Wait>(
     rt: &S,
@@ -86,8 +37,19 @@ fn reports<J: Naming, S: Wait>(
     requires fresh { (started.desk.standing.opening ≡ J.opening) × (started.desk.standing.history ≡ []) }
 {
     let live = open::<J, &S>(rt, alloc, started, 1).ok()?;
-    let read = read_after(rt, alloc, &live, lines)?;
-    let shown = closed(alloc, live)?;
+    let mut pass = live.join(rt).ok()?;
+    for line in lines.into_vec() {
+        let RequestLine {
+            base,
+            session: _,
+            batch,
+        } = line;
+        let _reply = live.submit(rt, &mut pass, Request { base, batch }).ok()?;
+    }
+    let mut other = live.join(rt).ok()?;
+    let read = report_of_front(alloc, &mut other).ok()?;
+    let desk = live.close(Vec::new(alloc)).ok()?;
+    let shown = report_of_desk(alloc, &desk).ok()?;
     Some((read, shown))
 }
 

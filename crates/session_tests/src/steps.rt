@@ -52,21 +52,3 @@ pub fn leaves<J: Naming, W: Publisher<Value = Shown<J>>, S: Wait + Abort>(
     assert!(rt; receipt.session() == session && receipt.answered() == answered);
     Some(receipt)
 }
-
-// Leaves with so many replies, where there are any.
-pub fn leaves_with<J: Naming, W: Publisher<Value = Shown<J>>, S: Wait + Abort>(
-    rt: &S,
-    live: &Live<J, W>,
-    pass: Pass<J>,
-    answered: Option<u32>,
-) -> Option<Receipt<J>> {
-    leaves(rt, live, pass, answered?)
-}
-
-// No place is left.
-pub fn assert_no_place<J: Naming, W: Publisher<Value = Shown<J>>, S: Wait + Abort>(
-    rt: &S,
-    live: &Live<J, W>,
-) {
-    assert!(rt; live.join(rt).is_err());
-}
