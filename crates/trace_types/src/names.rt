@@ -1,10 +1,9 @@
 //! The names of the operations.
-ghost use Rattle.std.specs.Prelude.{◌≡◌, Some};
-ghost use Rattle.trace_types.specs.Names.{name_text, name_of};
+ghost use Rattle.std.specs.Prelude.{◌≡◌};
+ghost use Rattle.trace_types.specs.Names.{name_of};
 ghost use Rattle.trace_types.specs.Names as Names;
 
 use crate::kinds::Kind;
-use std::fmt;
 
 /// The name of an operation, as a trace's line and a report write it.
 #[derive(Clone, Copy, Debug, PartialEq, Eq)]
@@ -33,39 +32,6 @@ pub enum OpName {
     CellCas,
     CellDrop,
     ScopeEnd,
-}
-
-impl fmt::Display for OpName {
-    ghost output = { λ n. Some (name_text n) };
-
-    fn fmt<W: fmt::Write>(&self, f: &mut fmt::Formatter<W>) -> fmt::Result {
-        f.write_str(match self {
-            OpName::New => "new",
-            OpName::NewCyclic => "new_cyclic",
-            OpName::NewFrom => "new_from",
-            OpName::WeakNew => "weak_new",
-            OpName::Null => "null",
-            OpName::Clone => "clone",
-            OpName::Drop => "drop",
-            OpName::Downgrade => "downgrade",
-            OpName::Upgrade => "upgrade",
-            OpName::TryUnwrap => "try_unwrap",
-            OpName::IntoInner => "into_inner",
-            OpName::GetMut => "get_mut",
-            OpName::MakeMut => "make_mut",
-            OpName::Counts => "counts",
-            OpName::PtrEq => "ptr_eq",
-            OpName::Set => "set",
-            OpName::Take => "take",
-            OpName::Get => "get",
-            OpName::CellNew => "cell_new",
-            OpName::CellLoad => "cell_load",
-            OpName::CellSwap => "cell_swap",
-            OpName::CellCas => "cell_cas",
-            OpName::CellDrop => "cell_drop",
-            OpName::ScopeEnd => "scope_end",
-        })
-    }
 }
 
 /// The operation that is written so, if one is.
