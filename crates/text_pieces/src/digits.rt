@@ -1,5 +1,6 @@
 //! The digits of a number, alone and behind a label.
 ghost use Rattle.std.specs.Prelude.{◌≡◌, ◌⊎◌, ◌++◌, decimal, string_bytes, OnOk, OnErr};
+ghost use Rattle.text_pieces.specs.Pieces.{Adds};
 
 use itoa::Buffer;
 use std::alloc::AllocError;
@@ -9,7 +10,7 @@ use std::alloc::AllocError;
 #[inline(always)]
 #[tactic(auto, using(std::proofs::lemmas::Fmt::decimal_digit))]
 pub fn push_decimal(text: &mut String, number: u64) -> Result<(), AllocError>
-    ensures digits { OnOk result (string_bytes text.new ≡ string_bytes text.old ++ decimal number) }
+    ensures digits { OnOk result (Adds text.old text.new (decimal number)) }
     ensures unchanged { OnErr result (string_bytes text.new ≡ string_bytes text.old) }
 {
     if number < 10 {
@@ -24,8 +25,9 @@ pub fn push_decimal(text: &mut String, number: u64) -> Result<(), AllocError>
 // Inlined, so that a label that is known where it is added is stored there at once: a text of any length is copied by a call.
 #[inline(always)]
 pub fn push_labelled(text: &mut String, label: &str, number: u64) -> Result<(), AllocError>
-    ensures both { OnOk result (string_bytes text.new ≡ string_bytes text.old ++ label.now ++ decimal number) }
-    ensures front { OnErr result ((string_bytes text.new ≡ string_bytes text.old) ⊎ (string_bytes text.new ≡ string_bytes text.old ++ label.now)) }
+    ensures both { OnOk result (Adds text.old text.new (label.now ++ decimal number)) }
+    ensures front { OnErr result
+        ((string_bytes text.new ≡ string_bytes text.old) ⊎ Adds text.old text.new label.now) }
 {
     text.push_str(label)?;
     push_decimal(text, number)
@@ -33,7 +35,7 @@ pub fn push_labelled(text: &mut String, label: &str, number: u64) -> Result<(), 
 
 #[inline(never)]
 fn push_long(text: &mut String, number: u64) -> Result<(), AllocError>
-    ensures digits { OnOk result (string_bytes text.new ≡ string_bytes text.old ++ decimal number) }
+    ensures digits { OnOk result (Adds text.old text.new (decimal number)) }
     ensures unchanged { OnErr result (string_bytes text.new ≡ string_bytes text.old) }
 {
     let mut buffer = Buffer::new();

@@ -1,5 +1,6 @@
 //! The names of the operations.
-ghost use Rattle.std.specs.Prelude.{◌≡◌, ◌++◌, string_bytes, OnOk, OnErr};
+ghost use Rattle.std.specs.Prelude.{◌≡◌, string_bytes, OnOk, OnErr};
+ghost use Rattle.text_pieces.specs.Pieces.{Adds};
 ghost use Rattle.trace_types.specs.Names.{name_text};
 
 use std::alloc::AllocError;
@@ -8,7 +9,7 @@ use trace_types::names::OpName;
 /// Adds the name of an operation, as a trace's line and a report write it. May take memory for the text.
 // Each name is added where it is known, so that its bytes are stored at once; a text of any length is copied by a call.
 pub fn push_name(text: &mut String, name: OpName) -> Result<(), AllocError>
-    ensures name { OnOk result (string_bytes text.new ≡ string_bytes text.old ++ name_text name) }
+    ensures name { OnOk result (Adds text.old text.new (name_text name)) }
     ensures unchanged { OnErr result (string_bytes text.new ≡ string_bytes text.old) }
 {
     match name {
