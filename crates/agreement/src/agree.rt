@@ -22,7 +22,8 @@ use trace_types::same::Same;
 pub fn agree(alloc: Global, new: &Heap, old: &Heap) -> Result<Option<Remains>, AllocError>
     ensures answer { IfOk result (λ r. IsTrue (is_some r) ↔ Agree new.now old.now) }
     ensures remains { IfOk result (λ r. IfSome r (λ x. AreRemains new.now old.now x)) }
-    ensures law { IfOk result (λ r. IfSome r (λ x. ReplayAlike (is_apart new.now old.now) new.now old.now x)) }
+    ensures law { IfOk result
+        (λ r. IfSome r (λ x. ReplayAlike (is_apart new.now old.now) new.now old.now x)) }
 {
     if !new.same_roots(old) {
         return Ok(None);

@@ -57,7 +57,8 @@ fn push_remaining(
     heap: &Heap,
     object: u32,
 ) -> Result<(), AllocError>
-    ensures { OnOk result ((q : ℕ) → map.get rest.new q ≡ with_remaining heap.now rest.old object q) }
+    ensures { OnOk result ((q : ℕ) → map.get rest.new q
+        ≡ with_remaining heap.now rest.old object q) }
 {
     match heap.object(object) {
         Some(entry) => {

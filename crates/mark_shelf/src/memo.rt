@@ -16,7 +16,8 @@ use trace_types::ops::Op;
 /// Puts a chunk in front, under a number above all. False where memory is refused: then the chunk is lost, and all stay.
 pub fn keep(chunks: &mut LruCache<u64, ChunkRun>, number: u64, chunk: ChunkRun) -> bool
     requires { AllByRecursion (λ e. e.0 < number) chunks.old.entries }
-    ensures ok { IsTrue result → chunks.new ≡ lru_cache (take chunks.old.cap ((number, chunk) ∷ chunks.old.entries)) chunks.old.cap }
+    ensures ok { IsTrue result → chunks.new
+        ≡ lru_cache (take chunks.old.cap ((number, chunk) ∷ chunks.old.entries)) chunks.old.cap }
     ensures err { IsFalse result → chunks.new ≡ chunks.old }
 {
     // This tells that there is room for one.
@@ -31,7 +32,8 @@ pub fn keep(chunks: &mut LruCache<u64, ChunkRun>, number: u64, chunk: ChunkRun) 
 pub fn note(names: &mut IndexMap<ChunkName, u64>, most: usize, name: ChunkName, number: u64)
     requires room { 0 < spare names.old }
     requires few { index_map_len names.old ≤ most }
-    ensures entries { names.new.entries ≡ newest most (insert_entry name_eq names.old.entries name number) }
+    ensures entries { names.new.entries
+        ≡ newest most (insert_entry name_eq names.old.entries name number) }
     ensures few { index_map_len names.new ≤ most }
 {
     let _ = names.insert(name, number);

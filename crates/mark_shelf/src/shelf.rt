@@ -109,8 +109,11 @@ impl MarkShelf {
     pub fn remember_behind(&mut self, chunk: ChunkRun, before: Option<u64>) -> Option<u64>
         requires { IfSome before (λ k. EndsWith self.old.chunks k chunk.start) }
         ensures remembers { RemembersBehind self.old chunk before self.new }
-        ensures number { MatchOption result (self.new ≡ self.old) (λ n. (n ≡ self.old.next) × Notes (remembered self.old chunk) (joint_behind n n before) self.new) }
-        ensures ends { IfSome result (λ n. EndsWith self.new.chunks n (end_from chunk.start chunk.ops)) }
+        ensures number { MatchOption result (self.new ≡ self.old)
+            (λ n. (n ≡ self.old.next)
+            × Notes (remembered self.old chunk) (joint_behind n n before) self.new) }
+        ensures ends { IfSome result
+            (λ n. EndsWith self.new.chunks n (end_from chunk.start chunk.ops)) }
     {
         if self.next == u64::MAX {
             return None;
@@ -145,13 +148,17 @@ impl MarkShelf {
     /// chunk that was remembered or found behind that one begins with this heap, and none is walked. That it was found behind that one is noted.
     pub fn find_behind(&mut self, heap: &Heap, ops: &[Op], before: Option<u64>) -> Option<Found>
         requires { IfSome before (λ k. EndsWith self.old.chunks k heap.now) }
-        ensures shelf { Notes (sought self.old (name_of ops.now)) (option_and_then (λ f. joint_behind self.old.next f.number before) result) self.new }
+        ensures shelf { Notes (sought self.old (name_of ops.now))
+            (option_and_then (λ f. joint_behind self.old.next f.number before) result) self.new }
         ensures start { IfSome result (λ f. f.chunk.start ≡ heap.now) }
         ensures ops { IfSome result (λ f. f.chunk.ops ≡ ops.now) }
         ensures named { IfSome result (λ f. named self.old (name_of ops.now) ≡ Some f.chunk) }
-        ensures number { IfSome result (λ f. lookup (name_eq (name_of ops.now)) self.old.names ≡ Some f.number) }
-        ensures joined { IfSome result (λ f. f.is_joined ≡ is_joined self.old.chunks self.old.joints f.number before) }
-        ensures ends { IfSome result (λ f. EndsWith self.new.chunks f.number (end_from f.chunk.start f.chunk.ops)) }
+        ensures number { IfSome result
+            (λ f. lookup (name_eq (name_of ops.now)) self.old.names ≡ Some f.number) }
+        ensures joined { IfSome result
+            (λ f. f.is_joined ≡ is_joined self.old.chunks self.old.joints f.number before) }
+        ensures ends { IfSome result
+            (λ f. EndsWith self.new.chunks f.number (end_from f.chunk.start f.chunk.ops)) }
     {
         let name = ChunkName::of(ops);
         let number = *self.names.get(&name)?;

@@ -98,7 +98,8 @@ impl Fields<'_> {
         i: u32,
         slot: Slot,
     ) -> Result<Change, AllocError>
-        ensures { IfOk result (λ change. change ≡ Table.write_field label h self.now.owner self.now.slots.now i slot) }
+        ensures { IfOk result (λ change. change
+            ≡ Table.write_field label h self.now.owner self.now.slots.now i slot) }
     {
         match self.owner {
             Some(object) => Ok(Change::SetField(object, i, slot)),

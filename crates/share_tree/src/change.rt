@@ -24,9 +24,13 @@ pub trait Change<V> {
     fn change<C: Level<V>>(self, alloc: Global, child: &mut Child<C>) -> Result<bool, AllocError>
         requires fits { C.SPAN ≤ 2 ^ 32 }
         requires able { can self C.SPAN (below C.SPAN (child_at C.at child.old) (key self)) }
-        ensures answer { IfOk result (λ b. b ≡ answer self (below C.SPAN (child_at C.at child.old) (key self))) }
-        ensures ok { OnOk result ((q : ℕ) → below C.SPAN (child_at C.at child.new) q ≡ updated (below C.SPAN (child_at C.at child.old)) (key self) (to self (below C.SPAN (child_at C.at child.old) (key self))) q) }
-        ensures err { OnErr result ((q : ℕ) → below C.SPAN (child_at C.at child.new) q ≡ below C.SPAN (child_at C.at child.old) q) };
+        ensures answer { IfOk result
+            (λ b. b ≡ answer self (below C.SPAN (child_at C.at child.old) (key self))) }
+        ensures ok { OnOk result ((q : ℕ) → below C.SPAN (child_at C.at child.new) q
+            ≡ updated (below C.SPAN (child_at C.at child.old)) (key self)
+            (to self (below C.SPAN (child_at C.at child.old) (key self))) q) }
+        ensures err { OnErr result ((q : ℕ) →
+            below C.SPAN (child_at C.at child.new) q ≡ below C.SPAN (child_at C.at child.old) q) };
 }
 
 /// One more entry. It says whether the key was there.

@@ -113,7 +113,8 @@ impl<C: Drop> Child<C> {
         C: Level<V>,
         requires fits { C.SPAN ≤ 2 ^ 32 }
         requires within { key < C.SPAN }
-        ensures { IfOk result (λ c. (q : ℕ) → child_at C.at c q ≡ updated (child_at C.at self.now) key (Some value) q) }
+        ensures { IfOk result (λ c. (q : ℕ) → child_at C.at c q
+            ≡ updated (child_at C.at self.now) key (Some value) q) }
     {
         let level = match &self.level {
             None => C::around(alloc, key, Leaf::of(alloc, value)?)?,
@@ -128,7 +129,8 @@ impl<C: Drop> Child<C> {
         C: Level<V>,
         requires fits { C.SPAN ≤ 2 ^ 32 }
         requires within { key < C.SPAN }
-        ensures { IfOk result (λ c. (q : ℕ) → child_at C.at c q ≡ updated (child_at C.at self.now) key None q) }
+        ensures { IfOk result (λ c. (q : ℕ) → child_at C.at c q
+            ≡ updated (child_at C.at self.now) key None q) }
     {
         match &self.level {
             None => Ok(Child { level: None }),
@@ -146,7 +148,8 @@ impl<C: Drop> Child<C> {
         requires fits { C.SPAN ≤ 2 ^ 32 }
         requires within { key < C.SPAN }
         ensures was { IfOk result (λ was. was ≡ is_some (child_at C.at self.old key)) }
-        ensures ok { OnOk result ((q : ℕ) → child_at C.at self.new q ≡ updated (child_at C.at self.old) key (Some value) q) }
+        ensures ok { OnOk result ((q : ℕ) → child_at C.at self.new q
+            ≡ updated (child_at C.at self.old) key (Some value) q) }
         ensures err { OnErr result ((q : ℕ) → child_at C.at self.new q ≡ child_at C.at self.old q) }
     {
         match &mut self.level {
@@ -165,7 +168,8 @@ impl<C: Drop> Child<C> {
         C: Level<V>,
         requires fits { C.SPAN ≤ 2 ^ 32 }
         requires within { key < C.SPAN }
-        ensures ok { OnOk result ((q : ℕ) → child_at C.at self.new q ≡ updated nowhere key (Some value) q) }
+        ensures ok { OnOk result ((q : ℕ) → child_at C.at self.new q
+            ≡ updated nowhere key (Some value) q) }
         ensures err { OnErr result (self.new ≡ self.old) }
     {
         self.level = Some(C::around(alloc, key, Leaf::of(alloc, value)?)?);
@@ -185,8 +189,12 @@ impl<C: Drop> Child<C> {
         requires fits { C.SPAN ≤ 2 ^ 32 }
         requires within { key < C.SPAN }
         requires able { IfSome (child_at C.at self.old key) (F.can how.now) }
-        ensures answer { IfOk result (λ b. b ≡ unwrap_or (option_map (F.answer how.now) (child_at C.at self.old key)) false) }
-        ensures ok { OnOk result ((q : ℕ) → child_at C.at self.new q ≡ updated (child_at C.at self.old) key (option_map (F.to how.now) (child_at C.at self.old key)) q) }
+        ensures answer { IfOk result
+            (λ b. b ≡ unwrap_or (option_map (F.answer how.now)
+            (child_at C.at self.old key)) false) }
+        ensures ok { OnOk result ((q : ℕ) → child_at C.at self.new q
+            ≡ updated (child_at C.at self.old) key
+            (option_map (F.to how.now) (child_at C.at self.old key)) q) }
         ensures err { OnErr result ((q : ℕ) → child_at C.at self.new q ≡ child_at C.at self.old q) }
     {
         match &mut self.level {
@@ -202,7 +210,8 @@ impl<C: Drop> Child<C> {
         C: Level<V>,
         requires fits { C.SPAN ≤ 2 ^ 32 }
         requires within { key < C.SPAN }
-        ensures ok { OnOk result ((q : ℕ) → child_at C.at self.new q ≡ updated (child_at C.at self.old) key None q) }
+        ensures ok { OnOk result ((q : ℕ) → child_at C.at self.new q
+            ≡ updated (child_at C.at self.old) key None q) }
         ensures err { OnErr result ((q : ℕ) → child_at C.at self.new q ≡ child_at C.at self.old q) }
     {
         match &mut self.level {
@@ -229,7 +238,8 @@ impl<C: Drop> Child<C> {
     where
         C: Level<V>,
         requires { base + C.SPAN ≤ 2 ^ 32 }
-        ensures { OnOk result (keys.new.items ≡ keys.old.items ++ keys_from (moved (child_at C.at self.now) base) base C.SPAN) }
+        ensures { OnOk result (keys.new.items ≡ keys.old.items
+            ++ keys_from (moved (child_at C.at self.now) base) base C.SPAN) }
     {
         match &self.level {
             None => Ok(()),
@@ -253,7 +263,8 @@ impl<C: Drop> Child<C> {
     pub fn same<V: Same>(&self, other: &Self) -> bool
     where
         C: Level<V>,
-        ensures { IsTrue result ↔ AgreesBelow C.SPAN (child_at C.at self.now) (child_at C.at other.now) }
+        ensures { IsTrue result ↔ AgreesBelow C.SPAN (child_at C.at self.now)
+            (child_at C.at other.now) }
     {
         match (&self.level, &other.level) {
             (Some(a), Some(b)) => a.same(b),

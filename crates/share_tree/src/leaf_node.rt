@@ -72,7 +72,8 @@ impl<V: Drop> LeafNode<V> {
     fn add(&mut self, place: u32, leaf: Arc<Leaf<V>>) -> Result<(), AllocError>
         requires within { place < 16 }
         requires none { child_of self.old place ≡ None }
-        ensures ok { OnOk result ((q : ℕ) → child_of self.new q ≡ updated (child_of self.old) place (Some (arc_value leaf).value) q) }
+        ensures ok { OnOk result ((q : ℕ) → child_of self.new q
+            ≡ updated (child_of self.old) place (Some (arc_value leaf).value) q) }
         ensures err { OnErr result (self.new ≡ self.old) }
     {
         let len = self.leaves.len();
@@ -100,7 +101,8 @@ impl<V: Drop> LeafNode<V> {
     // A copy in which a place has this leaf, and the other leaves are shared.
     fn copied_with(&self, alloc: Global, place: u32, leaf: Arc<Leaf<V>>) -> Result<Self, AllocError>
         requires { place < 16 }
-        ensures { IfOk result (λ t. (q : ℕ) → child_of t q ≡ updated (child_of self.now) place (Some (arc_value leaf).value) q) }
+        ensures { IfOk result (λ t. (q : ℕ) → child_of t q
+            ≡ updated (child_of self.now) place (Some (arc_value leaf).value) q) }
     {
         let len = self.leaves.len();
         let Some(at) = stand_of(&self.order, len, place) else {
@@ -147,7 +149,8 @@ fn push_shares<V: Drop>(
     leaves: &mut Vec<Arc<Leaf<V>>>,
     shared: &[Arc<Leaf<V>>],
 ) -> Result<(), AllocError>
-    ensures { OnOk result (values_of leaves.new.items ≡ values_of leaves.old.items ++ values_of shared.now) }
+    ensures { OnOk result (values_of leaves.new.items ≡ values_of leaves.old.items
+        ++ values_of shared.now) }
 {
     for leaf in shared {
         leaves.push(Arc::try_clone(leaf)?)?;
@@ -158,7 +161,8 @@ fn push_shares<V: Drop>(
 // The order, with `to` wherever `from` stands.
 fn renamed(order: [u8; 16], from: u8, to: u8) -> [u8; 16]
     ensures long { length result ≡ 16 }
-    ensures each { (p : ℕ) → p < 16 → slice_index_or result p 255 ≡ (if nat_eq (slice_index_or order p 255) from then to else slice_index_or order p 255) }
+    ensures each { (p : ℕ) → p < 16 → slice_index_or result p 255
+        ≡ (if nat_eq (slice_index_or order p 255) from then to else slice_index_or order p 255) }
 {
     let mut renamed = order;
     for i in 0..16 {
@@ -174,7 +178,8 @@ fn leaf_node_of<V: Drop>(
     leaf: Arc<Leaf<V>>,
 ) -> Result<Arc<LeafNode<V>>, AllocError>
     requires { place < 16 }
-    ensures { IfOk result (λ t. (q : ℕ) → child_of (arc_value t) q ≡ updated nowhere place (Some (arc_value leaf).value) q) }
+    ensures { IfOk result (λ t. (q : ℕ) → child_of (arc_value t) q
+        ≡ updated nowhere place (Some (arc_value leaf).value) q) }
 {
     let mut node = LeafNode {
         order: [NONE; 16],
@@ -201,7 +206,8 @@ impl<V: Drop> Level<V> for LeafNode<V> {
 
     fn around(alloc: Global, key: u32, leaf: Arc<Leaf<V>>) -> Result<Arc<Self>, AllocError>
         requires { key < 16 }
-        ensures { IfOk result (λ t. (q : ℕ) → child_of (arc_value t) q ≡ updated nowhere key (Some (arc_value leaf).value) q) }
+        ensures { IfOk result (λ t. (q : ℕ) → child_of (arc_value t) q
+            ≡ updated nowhere key (Some (arc_value leaf).value) q) }
     {
         leaf_node_of(alloc, key, leaf)
     }

@@ -21,8 +21,10 @@ pub fn insert_in<V, C: Level<V>>(
     requires fits { C.SPAN ≤ 2 ^ 32 }
     requires within { key < C.SPAN }
     ensures was { IfOk result (λ was. was ≡ is_some (C.at (arc_value level.old) key)) }
-    ensures ok { OnOk result ((q : ℕ) → C.at (arc_value level.new) q ≡ updated (C.at (arc_value level.old)) key (Some value) q) }
-    ensures err { OnErr result ((q : ℕ) → C.at (arc_value level.new) q ≡ C.at (arc_value level.old) q) }
+    ensures ok { OnOk result ((q : ℕ) → C.at (arc_value level.new) q
+        ≡ updated (C.at (arc_value level.old)) key (Some value) q) }
+    ensures err { OnErr result ((q : ℕ) →
+        C.at (arc_value level.new) q ≡ C.at (arc_value level.old) q) }
 {
     if let Some(own) = Arc::get_mut(level) {
         return own.insert(alloc, key, value);
@@ -41,8 +43,10 @@ fn insert_in_copy<V, C: Level<V>>(
     requires fits { C.SPAN ≤ 2 ^ 32 }
     requires within { key < C.SPAN }
     ensures was { IfOk result (λ was. was ≡ is_some (C.at (arc_value level.old) key)) }
-    ensures ok { OnOk result ((q : ℕ) → C.at (arc_value level.new) q ≡ updated (C.at (arc_value level.old)) key (Some value) q) }
-    ensures err { OnErr result ((q : ℕ) → C.at (arc_value level.new) q ≡ C.at (arc_value level.old) q) }
+    ensures ok { OnOk result ((q : ℕ) → C.at (arc_value level.new) q
+        ≡ updated (C.at (arc_value level.old)) key (Some value) q) }
+    ensures err { OnErr result ((q : ℕ) →
+        C.at (arc_value level.new) q ≡ C.at (arc_value level.old) q) }
 {
     let was = level.get(key).is_some();
     *level = level.with(alloc, key, value)?;
@@ -60,9 +64,14 @@ pub fn update_in<V: Drop, C: Level<V>, F: Update<V>>(
     requires fits { C.SPAN ≤ 2 ^ 32 }
     requires within { key < C.SPAN }
     requires able { IfSome (C.at (arc_value level.old) key) (F.can how.now) }
-    ensures answer { IfOk result (λ b. b ≡ unwrap_or (option_map (F.answer how.now) (C.at (arc_value level.old) key)) false) }
-    ensures ok { OnOk result ((q : ℕ) → C.at (arc_value level.new) q ≡ updated (C.at (arc_value level.old)) key (option_map (F.to how.now) (C.at (arc_value level.old) key)) q) }
-    ensures err { OnErr result ((q : ℕ) → C.at (arc_value level.new) q ≡ C.at (arc_value level.old) q) }
+    ensures answer { IfOk result
+        (λ b. b ≡ unwrap_or (option_map (F.answer how.now)
+        (C.at (arc_value level.old) key)) false) }
+    ensures ok { OnOk result ((q : ℕ) → C.at (arc_value level.new) q
+        ≡ updated (C.at (arc_value level.old)) key
+        (option_map (F.to how.now) (C.at (arc_value level.old) key)) q) }
+    ensures err { OnErr result ((q : ℕ) →
+        C.at (arc_value level.new) q ≡ C.at (arc_value level.old) q) }
 {
     if let Some(own) = Arc::get_mut(level) {
         return own.update(alloc, key, how);
@@ -81,9 +90,14 @@ fn update_in_copy<V: Drop, C: Level<V>, F: Update<V>>(
     requires fits { C.SPAN ≤ 2 ^ 32 }
     requires within { key < C.SPAN }
     requires able { IfSome (C.at (arc_value level.old) key) (F.can how.now) }
-    ensures answer { IfOk result (λ b. b ≡ unwrap_or (option_map (F.answer how.now) (C.at (arc_value level.old) key)) false) }
-    ensures ok { OnOk result ((q : ℕ) → C.at (arc_value level.new) q ≡ updated (C.at (arc_value level.old)) key (option_map (F.to how.now) (C.at (arc_value level.old) key)) q) }
-    ensures err { OnErr result ((q : ℕ) → C.at (arc_value level.new) q ≡ C.at (arc_value level.old) q) }
+    ensures answer { IfOk result
+        (λ b. b ≡ unwrap_or (option_map (F.answer how.now)
+        (C.at (arc_value level.old) key)) false) }
+    ensures ok { OnOk result ((q : ℕ) → C.at (arc_value level.new) q
+        ≡ updated (C.at (arc_value level.old)) key
+        (option_map (F.to how.now) (C.at (arc_value level.old) key)) q) }
+    ensures err { OnErr result ((q : ℕ) →
+        C.at (arc_value level.new) q ≡ C.at (arc_value level.old) q) }
 {
     let Some(value) = level.get(key) else {
         return Ok(false);
@@ -102,9 +116,12 @@ pub fn remove_from<V, C: Level<V>>(
 ) -> Result<bool, AllocError>
     requires fits { C.SPAN ≤ 2 ^ 32 }
     requires within { key < C.SPAN }
-    ensures rest { IfOk result (λ last. IsFalse last → (q : ℕ) → C.at (arc_value level.new) q ≡ updated (C.at (arc_value level.old)) key None q) }
-    ensures last { IfOk result (λ last. IsTrue last → (q : ℕ) → updated (C.at (arc_value level.old)) key None q ≡ None) }
-    ensures err { OnErr result ((q : ℕ) → C.at (arc_value level.new) q ≡ C.at (arc_value level.old) q) }
+    ensures rest { IfOk result (λ last. IsFalse last → (q : ℕ) →
+        C.at (arc_value level.new) q ≡ updated (C.at (arc_value level.old)) key None q) }
+    ensures last { IfOk result (λ last. IsTrue last → (q : ℕ) →
+        updated (C.at (arc_value level.old)) key None q ≡ None) }
+    ensures err { OnErr result ((q : ℕ) →
+        C.at (arc_value level.new) q ≡ C.at (arc_value level.old) q) }
 {
     if let Some(own) = Arc::get_mut(level) {
         return own.remove(alloc, key);
@@ -121,9 +138,12 @@ fn remove_from_copy<V, C: Level<V>>(
 ) -> Result<bool, AllocError>
     requires fits { C.SPAN ≤ 2 ^ 32 }
     requires within { key < C.SPAN }
-    ensures rest { IfOk result (λ last. IsFalse last → (q : ℕ) → C.at (arc_value level.new) q ≡ updated (C.at (arc_value level.old)) key None q) }
-    ensures last { IfOk result (λ last. IsTrue last → (q : ℕ) → updated (C.at (arc_value level.old)) key None q ≡ None) }
-    ensures err { OnErr result ((q : ℕ) → C.at (arc_value level.new) q ≡ C.at (arc_value level.old) q) }
+    ensures rest { IfOk result (λ last. IsFalse last → (q : ℕ) →
+        C.at (arc_value level.new) q ≡ updated (C.at (arc_value level.old)) key None q) }
+    ensures last { IfOk result (λ last. IsTrue last → (q : ℕ) →
+        updated (C.at (arc_value level.old)) key None q ≡ None) }
+    ensures err { OnErr result ((q : ℕ) →
+        C.at (arc_value level.new) q ≡ C.at (arc_value level.old) q) }
 {
     match level.without(alloc, key)? {
         None => Ok(true),

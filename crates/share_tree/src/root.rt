@@ -89,7 +89,9 @@ impl<V: Drop> Root<V> {
         requires tall { 0 < height_of self.old }
         requires able { A.can change (16 ^ height_of self.old) (root_at self.old (A.key change)) }
         ensures answer { IfOk result (λ b. b ≡ A.answer change (root_at self.old (A.key change))) }
-        ensures ok { OnOk result ((q : ℕ) → root_at self.new q ≡ updated (root_at self.old) (A.key change) (A.to change (root_at self.old (A.key change))) q) }
+        ensures ok { OnOk result ((q : ℕ) → root_at self.new q
+            ≡ updated (root_at self.old) (A.key change)
+            (A.to change (root_at self.old (A.key change))) q) }
         ensures err { OnErr result ((q : ℕ) → root_at self.new q ≡ root_at self.old q) }
     {
         match self {
@@ -137,7 +139,8 @@ impl<V: Drop> Root<V> {
     /// One more entry, in place where nobody else holds the level. It says whether the key was there.
     pub fn insert(&mut self, alloc: Global, key: u32, value: V) -> Result<bool, AllocError>
         ensures was { IfOk result (λ was. was ≡ is_some (root_at self.old key)) }
-        ensures ok { OnOk result ((q : ℕ) → root_at self.new q ≡ updated (root_at self.old) key (Some value) q) }
+        ensures ok { OnOk result ((q : ℕ) → root_at self.new q
+            ≡ updated (root_at self.old) key (Some value) q) }
         ensures err { OnErr result ((q : ℕ) → root_at self.new q ≡ root_at self.old q) }
     {
         if self.is_none() || !self.has_room(key) {
@@ -150,7 +153,8 @@ impl<V: Drop> Root<V> {
     #[inline(never)]
     fn insert_anew(&mut self, alloc: Global, key: u32, value: V) -> Result<bool, AllocError>
         ensures was { IfOk result (λ was. was ≡ is_some (root_at self.old key)) }
-        ensures ok { OnOk result ((q : ℕ) → root_at self.new q ≡ updated (root_at self.old) key (Some value) q) }
+        ensures ok { OnOk result ((q : ℕ) → root_at self.new q
+            ≡ updated (root_at self.old) key (Some value) q) }
         ensures err { OnErr result ((q : ℕ) → root_at self.new q ≡ root_at self.old q) }
     {
         if self.is_none() {
@@ -166,7 +170,8 @@ impl<V: Drop> Root<V> {
     fn put(&mut self, alloc: Global, key: u32, value: V) -> Result<bool, AllocError>
         requires { HasRoom key self.old }
         ensures was { IfOk result (λ was. was ≡ is_some (root_at self.old key)) }
-        ensures ok { OnOk result ((q : ℕ) → root_at self.new q ≡ updated (root_at self.old) key (Some value) q) }
+        ensures ok { OnOk result ((q : ℕ) → root_at self.new q
+            ≡ updated (root_at self.old) key (Some value) q) }
         ensures err { OnErr result ((q : ℕ) → root_at self.new q ≡ root_at self.old q) }
     {
         match self {
@@ -223,8 +228,10 @@ impl<V: Drop> Root<V> {
         how: &F,
     ) -> Result<bool, AllocError>
         requires { IfSome (root_at self.old key) (F.can how.now) }
-        ensures answer { IfOk result (λ b. b ≡ unwrap_or (option_map (F.answer how.now) (root_at self.old key)) false) }
-        ensures ok { OnOk result ((q : ℕ) → root_at self.new q ≡ updated (root_at self.old) key (option_map (F.to how.now) (root_at self.old key)) q) }
+        ensures answer { IfOk result
+            (λ b. b ≡ unwrap_or (option_map (F.answer how.now) (root_at self.old key)) false) }
+        ensures ok { OnOk result ((q : ℕ) → root_at self.new q
+            ≡ updated (root_at self.old) key (option_map (F.to how.now) (root_at self.old key)) q) }
         ensures err { OnErr result ((q : ℕ) → root_at self.new q ≡ root_at self.old q) }
     {
         match self {
@@ -240,7 +247,8 @@ impl<V: Drop> Root<V> {
 
     /// Takes out an entry, in place where nobody else holds the level.
     pub fn remove(&mut self, alloc: Global, key: u32) -> Result<(), AllocError>
-        ensures ok { OnOk result ((q : ℕ) → root_at self.new q ≡ updated (root_at self.old) key None q) }
+        ensures ok { OnOk result ((q : ℕ) → root_at self.new q
+            ≡ updated (root_at self.old) key None q) }
         ensures err { OnErr result ((q : ℕ) → root_at self.new q ≡ root_at self.old q) }
     {
         match self {
@@ -300,7 +308,8 @@ impl<V: Drop> Root<V> {
 
 // A tree with this entry alone, of as few levels as its key allows.
 fn tree_of<V: Drop>(alloc: Global, key: u32, leaf: Arc<Leaf<V>>) -> Result<Root<V>, AllocError>
-    ensures same { IfOk result (λ r. (q : ℕ) → root_at r q ≡ updated nowhere key (Some (arc_value leaf).value) q) }
+    ensures same { IfOk result (λ r. (q : ℕ) →
+        root_at r q ≡ updated nowhere key (Some (arc_value leaf).value) q) }
     ensures tall { IfOk result (λ r. 0 < height_of r) }
 {
     if key < 256 {
@@ -320,7 +329,10 @@ fn three_over<V: Drop, C: Level<V>>(
     alloc: Global,
     child: Child<C>,
 ) -> Result<Child<Node<Node<Node<C>>>>, AllocError>
-    ensures { IfOk result (λ c. (q : ℕ) → below (16 * (16 * (16 * C.SPAN))) (child_at (branch_at (branch_at (branch_at C.at C.SPAN) (16 * C.SPAN)) (16 * (16 * C.SPAN))) c) q ≡ below C.SPAN (child_at C.at child) q) }
+    ensures { IfOk result (λ c. (q : ℕ) →
+        below (16 * (16 * (16 * C.SPAN)))
+        (child_at (branch_at (branch_at (branch_at C.at C.SPAN) (16 * C.SPAN))
+        (16 * (16 * C.SPAN))) c) q ≡ below C.SPAN (child_at C.at child) q) }
 {
     let one = over::<V, C>(alloc, child)?;
     let two = over::<V, Node<C>>(alloc, one)?;
@@ -347,7 +359,8 @@ fn same_walk<V: Same + Drop>(a: &Root<V>, b: &Root<V>) -> bool
 // Whether two children have the same entries, as maps from all keys.
 fn same<V: Same, C: Level<V>>(child: &Child<C>, other: &Child<C>) -> bool
     requires { C.SPAN ≤ 2 ^ 32 }
-    ensures { IsTrue result ↔ AgreesBelow (2 ^ 32) (below C.SPAN (child_at C.at child.now)) (below C.SPAN (child_at C.at other.now)) }
+    ensures { IsTrue result ↔ AgreesBelow (2 ^ 32) (below C.SPAN (child_at C.at child.now))
+        (below C.SPAN (child_at C.at other.now)) }
 {
     child.same::<V>(other)
 }

@@ -26,7 +26,8 @@ impl PlainState {
         requires bounded { IsBounded (state_of self.old) }
         requires is_new { map.get self.old.objects op.now.id ≡ None }
         ensures state { OnOk result (state_of self.new ≡ (step (state_of self.old) op.now).state) }
-        ensures outcome { IfOk result (λ outcome. outcome ≡ (step (state_of self.old) op.now).outcome) }
+        ensures outcome { IfOk result
+            (λ outcome. outcome ≡ (step (state_of self.old) op.now).outcome) }
         ensures sound { OnOk result (IsSound (state_of self.new) []) }
         ensures bounded { OnOk result (IsBounded (state_of self.new)) }
     {
@@ -38,8 +39,10 @@ impl PlainState {
         requires carriable { IsCarriable (state_of self.old) plan }
         requires bounded { IsBounded (state_of self.old) }
         requires fits { PlanFits plan }
-        ensures state { OnOk result (state_of self.new ≡ (carried_out (state_of self.old) id plan).state) }
-        ensures outcome { IfOk result (λ outcome. outcome ≡ (carried_out (state_of self.old) id plan).outcome) }
+        ensures state { OnOk result
+            (state_of self.new ≡ (carried_out (state_of self.old) id plan).state) }
+        ensures outcome { IfOk result
+            (λ outcome. outcome ≡ (carried_out (state_of self.old) id plan).outcome) }
     {
         match plan {
             Plan::Skip(reason) => Ok(Outcome {

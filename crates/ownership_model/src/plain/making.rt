@@ -28,7 +28,8 @@ pub fn new(
     to: u32,
     fields: &[Field],
 ) -> Result<Plan, Stop>
-    ensures { Tells result (new_row label id to (elements_of (state_of state.now) fields.now) (map.get state.now.handles to)) }
+    ensures { Tells result (new_row label id to (elements_of (state_of state.now) fields.now)
+        (map.get state.now.handles to)) }
 {
     all_held(state, fields)?;
     all_slots(state, fields)?;
@@ -92,7 +93,8 @@ fn made_fields(
     id: u32,
     fields: &[Field],
 ) -> Result<Vec<Slot>, AllocError>
-    ensures { IfOk result (λ v. v.items ≡ Table.made_fields id (elements_of (state_of state.now) fields.now)) }
+    ensures { IfOk result (λ v. v.items
+        ≡ Table.made_fields id (elements_of (state_of state.now) fields.now)) }
 {
     let mut made = Vec::new(alloc);
     for field in fields {
@@ -123,7 +125,8 @@ fn making(
     fields: &[Field],
     to: u32,
 ) -> Result<Vec<Change>, AllocError>
-    ensures { IfOk result (λ v. let es = elements_of (state_of state.now) fields.now in v.items ≡ ending es (Table.make label id (Table.made_fields id es) to)) }
+    ensures { IfOk result (λ v. let es = elements_of (state_of state.now) fields.now in v.items
+        ≡ ending es (Table.make label id (Table.made_fields id es) to)) }
 {
     let made = made_fields(alloc, state, id, fields)?;
     let mut changes = Vec::new(alloc);

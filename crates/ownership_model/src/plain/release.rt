@@ -22,8 +22,10 @@ impl PlainState {
         items: &[Item],
     ) -> Result<Vec<Event>, AllocError>
         requires { IsBounded (state_of self.old) }
-        ensures state { OnOk result (state_of self.new ≡ (release (state_of self.old) items.now).state) }
-        ensures events { IfOk result (λ es. es.items ≡ (release (state_of self.old) items.now).events) }
+        ensures state { OnOk result
+            (state_of self.new ≡ (release (state_of self.old) items.now).state) }
+        ensures events { IfOk result
+            (λ es. es.items ≡ (release (state_of self.old) items.now).events) }
     {
         let mut pending = Vec::from_slice(alloc, items)?;
         let mut events = Vec::new(alloc);
@@ -43,7 +45,9 @@ impl PlainState {
         events: &mut Vec<Event>,
     ) -> Result<(), AllocError>
         requires { IsBounded (state_of self.old) }
-        ensures { OnOk result (Becomes (state_of self.new) rest.new.items events.old.items events.new.items (drop_first (state_of self.old) item rest.old.items)) }
+        ensures { OnOk result (Becomes
+            (state_of self.new) rest.new.items events.old.items events.new.items
+            (drop_first (state_of self.old) item rest.old.items)) }
     {
         match item {
             Item::Slot(Slot::Strong(object)) => {
@@ -74,7 +78,10 @@ impl PlainState {
         rest: &mut Vec<Item>,
         events: &mut Vec<Event>,
     ) -> Result<(), AllocError>
-        ensures { OnOk result (Becomes (state_of self.new) rest.new.items events.old.items events.new.items (left_by (state_of self.old) rest.old.items (fall object (map.get self.old.objects object)))) }
+        ensures { OnOk result (Becomes
+            (state_of self.new) rest.new.items events.old.items events.new.items
+            (left_by (state_of self.old) rest.old.items
+            (fall object (map.get self.old.objects object)))) }
     {
         match self.objects.get(object) {
             Some(Entry::Alive(fields)) => {
@@ -90,7 +97,8 @@ impl PlainState {
 
     // The allocation of the object goes.
     fn free(&mut self, object: u32, events: &mut Vec<Event>) -> Result<(), AllocError>
-        ensures { OnOk result (Becomes (state_of self.new) [] events.old.items events.new.items (left_by (state_of self.old) [] (Goes object))) }
+        ensures { OnOk result (Becomes (state_of self.new) [] events.old.items events.new.items
+            (left_by (state_of self.old) [] (Goes object))) }
     {
         events.push(Event::Freed(object))?;
         self.objects.remove(object);
@@ -100,7 +108,8 @@ impl PlainState {
     // Whether neither a weak slot is left to the object, nor its value, nor the end of that.
     fn is_last_weak(&self, object: u32, rest: &[Item]) -> bool
         requires { IsBounded (state_of self.now) }
-        ensures { result ≡ ((weak (state_of self.now) rest.now object == 0) && (is_husk (map.get self.now.objects object) && (ends object rest.now == 0))) }
+        ensures { result ≡ ((weak (state_of self.now) rest.now object == 0) &&
+            (is_husk (map.get self.now.objects object) && (ends object rest.now == 0))) }
     {
         self.count(Slot::Weak(object), rest) == 0
             && matches!(self.objects.get(object), Some(Entry::Husk))

@@ -18,7 +18,8 @@ use trace_types::outcomes::Reason;
 /// Why the operation is skipped, or what it does.
 pub fn plan_of(alloc: Global, state: &PlainState, op: &Op) -> Result<Plan, AllocError>
     requires { IsBounded (state_of state.now) }
-    ensures { IfOk result (λ plan. plan ≡ row op.now (view_of (state_of state.now) op.now.thread op.now.kind)) }
+    ensures { IfOk result (λ plan. plan
+        ≡ row op.now (view_of (state_of state.now) op.now.thread op.now.kind)) }
 {
     if let Some(h) = repeated(alloc, op.kind())? {
         return Ok(Plan::Skip(Reason::SameName(h)));

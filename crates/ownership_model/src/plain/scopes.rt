@@ -82,7 +82,8 @@ fn ends(alloc: Global, state: &PlainState, fields: &[Field]) -> Result<Vec<Chang
 // What the handles that are named hold, in order.
 #[tactic(auto, using(crate::proofs::PlainScopes::held_next))]
 fn held_by(alloc: Global, state: &PlainState, fields: &[Field]) -> Result<Vec<Item>, AllocError>
-    ensures { IfOk result (λ v. v.items ≡ held_drops (elements_of (state_of state.now) fields.now)) }
+    ensures { IfOk result (λ v. v.items
+        ≡ held_drops (elements_of (state_of state.now) fields.now)) }
 {
     let mut pending = Vec::new(alloc);
     for field in fields {
@@ -97,7 +98,8 @@ fn push_field(
     state: &PlainState,
     field: Field,
 ) -> Result<(), AllocError>
-    ensures { OnOk result (pending.new.items ≡ pending.old.items ++ held_drops (element_of (state_of state.now) field ∷ [])) }
+    ensures { OnOk result (pending.new.items ≡ pending.old.items
+        ++ held_drops (element_of (state_of state.now) field ∷ [])) }
 {
     match field {
         Field::Held(h) => push_held(alloc, pending, state.handles.get(h)),
@@ -111,7 +113,8 @@ fn push_held(
     pending: &mut Vec<Item>,
     held: Option<&Holding>,
 ) -> Result<(), AllocError>
-    ensures { OnOk result (pending.new.items ≡ pending.old.items ++ holding_drops (option_copied held.entry) []) }
+    ensures { OnOk result (pending.new.items ≡ pending.old.items
+        ++ holding_drops (option_copied held.entry) []) }
 {
     match held {
         Some(Holding::Slot(slot)) => Ok(pending.push(Item::Slot(*slot))?),

@@ -15,7 +15,8 @@ use trace_types::slots::{Entry, Holding, Slot};
 /// How many `Arc`s there are to the object.
 pub fn strong_named(state: &PlainState, h: u32) -> u64
     requires { IsBounded (state_of state.now) }
-    ensures { result ≡ (seen (state_of state.now) (View.named_in (map.get state.now.handles h))).strong }
+    ensures { result ≡ (seen (state_of state.now)
+        (View.named_in (map.get state.now.handles h))).strong }
 {
     match named_in(state, h) {
         Some(object) => state.count(Slot::Strong(object), &[]),
@@ -26,7 +27,8 @@ pub fn strong_named(state: &PlainState, h: u32) -> u64
 /// How many `Weak`s there are to the object.
 pub fn weak_named(state: &PlainState, h: u32) -> u64
     requires { IsBounded (state_of state.now) }
-    ensures { result ≡ (seen (state_of state.now) (View.named_in (map.get state.now.handles h))).weak }
+    ensures { result ≡ (seen (state_of state.now)
+        (View.named_in (map.get state.now.handles h))).weak }
 {
     match named_in(state, h) {
         Some(object) => state.count(Slot::Weak(object), &[]),
@@ -36,14 +38,16 @@ pub fn weak_named(state: &PlainState, h: u32) -> u64
 
 /// Whether the value of the object lives.
 pub fn is_alive_named(state: &PlainState, h: u32) -> bool
-    ensures { result ≡ is_alive (seen (state_of state.now) (View.named_in (map.get state.now.handles h))).entry }
+    ensures { result ≡ is_alive
+        (seen (state_of state.now) (View.named_in (map.get state.now.handles h))).entry }
 {
     matches!(entry_named(state, h), Some(Entry::Alive(_)))
 }
 
 /// The fields of the object; none where its value is gone.
 pub fn fields_named(state: &PlainState, h: u32) -> &[Slot]
-    ensures { result.now ≡ fields_of (seen (state_of state.now) (View.named_in (map.get state.now.handles h))).entry }
+    ensures { result.now ≡ fields_of
+        (seen (state_of state.now) (View.named_in (map.get state.now.handles h))).entry }
 {
     match entry_named(state, h) {
         Some(Entry::Alive(fields)) => fields.as_slice(),
@@ -52,7 +56,8 @@ pub fn fields_named(state: &PlainState, h: u32) -> &[Slot]
 }
 
 fn entry_named(state: &PlainState, h: u32) -> Option<&Entry>
-    ensures { option_copied result ≡ (seen (state_of state.now) (View.named_in (map.get state.now.handles h))).entry }
+    ensures { option_copied result
+        ≡ (seen (state_of state.now) (View.named_in (map.get state.now.handles h))).entry }
 {
     match named_in(state, h) {
         Some(object) => state.objects.get(object),

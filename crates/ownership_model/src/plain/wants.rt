@@ -56,7 +56,9 @@ pub fn absent_cell(state: &PlainState, c: u32) -> Result<(), Stop>
 
 /// The fields of the value that the handle's `Arc` keeps, with its object, or of the value that the handle holds itself.
 pub fn fields_in<'a>(state: &'a PlainState, h: u32, held: &'a Holding) -> Result<Fields<'a>, Stop>
-    ensures { AsksBoth (found_fields result) (Table.fields_in h held.now (seen (state_of state.now) (View.named_in (map.get state.now.handles h))).entry) }
+    ensures { AsksBoth (found_fields result)
+        (Table.fields_in h held.now
+        (seen (state_of state.now) (View.named_in (map.get state.now.handles h))).entry) }
 {
     match held {
         Holding::Slot(Slot::Strong(object)) => Ok(Fields {
@@ -75,7 +77,8 @@ pub fn fields_in<'a>(state: &'a PlainState, h: u32, held: &'a Holding) -> Result
 
 /// All handles among the fields of a new object are held.
 pub fn all_held(state: &PlainState, fields: &[Field]) -> Result<(), Stop>
-    ensures { Allows result (Table.all_held (Table.first_unheld (elements_of (state_of state.now) fields.now))) }
+    ensures { Allows result (Table.all_held
+        (Table.first_unheld (elements_of (state_of state.now) fields.now))) }
 {
     for field in fields {
         if let Field::Held(h) = field {
@@ -89,7 +92,8 @@ pub fn all_held(state: &PlainState, fields: &[Field]) -> Result<(), Stop>
 
 /// None of them holds a value outside any allocation.
 pub fn all_slots(state: &PlainState, fields: &[Field]) -> Result<(), Stop>
-    ensures { Allows result (Table.all_slots (Table.first_bare (elements_of (state_of state.now) fields.now))) }
+    ensures { Allows result (Table.all_slots
+        (Table.first_bare (elements_of (state_of state.now) fields.now))) }
 {
     for field in fields {
         if let Field::Held(h) = field {
