@@ -19,21 +19,21 @@ use Rattle.json.proofs.Printed.Decimals.{IsNumber-decimal}
 use Rattle.json.proofs.Printed.Numbers.{lex-number, in_word-ended}
 use Rattle.json.proofs.Printed.Strings.{content-escape, lex-escape, escape_byte_plain}
 use Rattle.serde_json.specs.Data.{Data, null, boolean, number, unsigned, string, array, object, Items, no_items, item, Members, no_members, put}
-use Rattle.serde_json.specs.Read.{of_json, of_items, of_members, converted}
+use Rattle.serde_json.specs.Read.{of_items, of_members, converted}
 use Rattle.serde_json.proofs.Numbers.{number_of-decimal}
 use Rattle.trace_types.specs.Names as Names
 use Rattle.trace_types.specs.declared.kinds.Field.{Field}
 use Rattle.trace_types.specs.declared.names.OpName.{OpName}
 use Rattle.trace_types.specs.declared.names.OpName.TheVariants as op
 use Rattle.trace_reader.specs.declared.fault.LineCause.{LineCause}
-use Rattle.trace_reader.specs.declared.kept.KeptMembers.{KeptMembers}
+use Rattle.trace_reader.specs.declared.member_slots.MemberSlots.{MemberSlots}
 use Rattle.trace_reader.specs.declared.names.NumberName.TheVariants as names
 use Rattle.trace_reader.specs.declared.names.MemberName.{MemberName}
 use Rattle.trace_reader.specs.declared.names.MemberName.TheVariants as member
-use Rattle.trace_reader.specs.declared.seen.Seen.{Seen}
-use Rattle.trace_reader.specs.declared.seen.Seen.TheVariants as seen
+use Rattle.trace_reader.specs.declared.look.Seen.{Seen}
+use Rattle.trace_reader.specs.declared.look.Seen.TheVariants as seen
 use Rattle.trace_reader.specs.Members.{field_of}
-use Rattle.trace_reader.specs.Looks.{told, field_told, elements_of, name_text, IsNamed, Tells, json_from}
+use Rattle.trace_reader.specs.Looks.{told, field_told, elements_of, name_text, IsNamed, Tells, json_from, first_value}
 use Rattle.trace_reader.specs.Looks as Looks
 use Rattle.trace_reader.specs.Plain.{tokens_at, is_unescaped_byte, IsAfterSpaces, IsDelimited, IsKey, IsScalar, AreElements, IsValue, IsMember}
 use Rattle.trace_reader.specs.Reading.{json_of, is_blank}
@@ -385,7 +385,7 @@ value_of_op text rest name is d =
     let s = Names.name_text name in
     let one : tokens_at fresh text ≡ Token.string s ∷ tokens_at after_value rest =
     ap (tokens_at fresh) is ∙ ap (punctuate fresh) (lex-text s rest (plain_op name)) ∙ string_placed fresh s (lex between rest) refl d.colon in record {
-      read = λ depth deep. ap (λ ts. converted of_json (value depth ts)) one ∙ at_string depth (tokens_at after_value rest) s;
+      read = λ depth deep. ap (first_value depth) one ∙ at_string depth (tokens_at after_value rest) s;
       shorter = omega (arith, ap length one);
       fewer = omega (arith, ap length is, length-append s (34 ∷ rest));
       utf8 = like_after_quoted text s rest is (plain_op name);
@@ -396,7 +396,7 @@ value_of_text inside s rest closes plain d =
     let is : 34 ∷ inside ≡ 34 ∷ s ++ 34 ∷ rest = ap (λ t. 34 ∷ t) closes in
     let one : tokens_at fresh (34 ∷ inside) ≡ Token.string s ∷ tokens_at after_value rest =
     ap (tokens_at fresh) is ∙ ap (punctuate fresh) (lex-text s rest (unescaped s plain)) ∙ string_placed fresh s (lex between rest) refl d.colon in record {
-      read = λ depth deep. ap (λ ts. converted of_json (value depth ts)) one ∙ at_string depth (tokens_at after_value rest) s;
+      read = λ depth deep. ap (first_value depth) one ∙ at_string depth (tokens_at after_value rest) s;
       shorter = omega (arith, ap length one);
       fewer = omega (arith, ap length is, length-append s (34 ∷ rest));
       utf8 = like_after_quoted (34 ∷ inside) s rest is (unescaped s plain);
@@ -406,7 +406,7 @@ pub value_of_truth : (text rest : List ℕ) (b : Bool) → text ≡ truth_text b
 value_of_truth text rest b is d =
     let one : tokens_at fresh text ≡ Token.boolean b ∷ tokens_at after_value rest =
     ap (tokens_at fresh) is ∙ ap (punctuate fresh) (lex-truth b rest d.word) ∙ boolean_placed b (lex between rest) in record {
-      read = λ depth deep. ap (λ ts. converted of_json (value depth ts)) one ∙ at_boolean depth (tokens_at after_value rest) b;
+      read = λ depth deep. ap (first_value depth) one ∙ at_boolean depth (tokens_at after_value rest) b;
       shorter = omega (arith, ap length one);
       fewer = omega (arith, truth_len b, ap length is, length-append (truth_text b) rest);
       utf8 = like_after_text text (truth_text b) rest is (truth_ascii b);
@@ -415,7 +415,7 @@ value_of_truth text rest b is d =
 pub value_of_array : (text listed rest : List ℕ) (found : List (Result Field LineCause)) → text ≡ 91 ∷ listed → (elements : AreElements listed found rest) → IsValue text (array elements.items) rest
 value_of_array text listed rest found is elements =
     let opens : tokens_at fresh text ≡ Token.begin_array ∷ tokens_at fresh listed = ap (tokens_at fresh) is ∙ open_array_at listed in record {
-      read = λ depth deep. ap (λ ts. converted of_json (value depth ts)) opens ∙ at_array depth (tokens_at fresh listed) deep ∙ ap (parse_map array) (elements.read (depth - 1));
+      read = λ depth deep. ap (first_value depth) opens ∙ at_array depth (tokens_at fresh listed) deep ∙ ap (parse_map array) (elements.read (depth - 1));
       shorter = omega (arith, ap length opens, elements.shorter);
       fewer = omega (arith, ap length is, elements.fewer);
       utf8 = and_then_like text listed rest (like_after_byte text listed 91 is (omega arith)) elements.utf8;
@@ -424,7 +424,7 @@ value_of_array text listed rest found is elements =
 pub value_after_spaces : (text spaced rest : List ℕ) (d : Data) → IsAfterSpaces spaced text → IsValue text d rest → IsValue spaced d rest
 value_after_spaces text spaced rest d spaces v =
     let is = same_tokens fresh spaced text spaces in record {
-      read = λ depth deep. ap (λ ts. converted of_json (value depth ts)) is ∙ v.read depth deep;
+      read = λ depth deep. ap (first_value depth) is ∙ v.read depth deep;
       shorter = omega (arith, ap length is, v.shorter);
       fewer = omega (arith, spaces.no_longer, v.fewer);
       utf8 = and_then_like spaced text rest spaces.utf8 v.utf8;
@@ -516,7 +516,7 @@ module _ (text rest after behind : List ℕ) (found : List (Result Field LineCau
   turn : (depth : ℕ) → converted of_items (items (value depth) l.turns (tokens_at l.place rest)) ≡ parse_map (item scalar.datum) (converted of_items (items (value depth) (l.turns - 1) (tokens_at after_value after)))
   turn depth =
       item_read (value depth) l.turns (tokens_at l.place rest) (tokens_at after_value after) scalar.datum (omega (arith, l.enough, ap length one_read)) (ap after_end_array one_read ∙ scalar.goes_on (tokens_at after_value after))
-      (ap (λ ts. converted of_json (value depth ts)) one_read ∙ scalar.is depth (tokens_at after_value after))
+      (ap (first_value depth) one_read ∙ scalar.is depth (tokens_at after_value after))
 
   one_more : (depth : ℕ) → converted of_items (items (value depth) (length (tokens_at fresh text)) (tokens_at fresh text))
       ≡ parse_map (λ ds. l.before (item scalar.datum ds)) (converted of_items (items (value depth) (l.turns - 1) (tokens_at after_value after)))
@@ -570,7 +570,7 @@ pub member_of : (text key valued spaced rest : List ℕ) (d : Data) → IsKey te
 member_of text key valued spaced rest d named spaces v = record { valued = spaced; named = named; value = value_after_spaces valued spaced rest d spaces v }
 
 -- the members before those of `rest`, which are kept, of those of `text`
-pub record IsAfterMembers (old : KeptMembers) (text : List ℕ) (kept : KeptMembers) (rest : List ℕ) : Type 0 where
+pub record IsAfterMembers (old : MemberSlots) (text : List ℕ) (kept : MemberSlots) (rest : List ℕ) : Type 0 where
   pub place : Place
   pub begins : may_begin place ≡ true
   pub turns : ℕ
@@ -580,7 +580,7 @@ pub record IsAfterMembers (old : KeptMembers) (text : List ℕ) (kept : KeptMemb
   pub tells : Tells old no_members → Tells kept grown
   pub utf8 : AreLike text rest
 
-pub no_members_yet : (old : KeptMembers) (text rest : List ℕ) → IsAfterSpaces text rest → IsAfterMembers old text old rest
+pub no_members_yet : (old : MemberSlots) (text rest : List ℕ) → IsAfterSpaces text rest → IsAfterMembers old text old rest
 no_members_yet old text rest spaces =
     let is = same_tokens fresh text rest spaces in record {
       place = fresh;
@@ -594,19 +594,19 @@ no_members_yet old text rest spaces =
     }
 
 -- an object's text, behind its brace
-object_read : (line text : List ℕ) → line ≡ 123 ∷ text → converted of_json (value 127 (tokens line)) ≡ parse_map object (converted (λ js. of_members js no_members) (members (value 126) (length (tokens_at fresh text)) (tokens_at fresh text)))
+object_read : (line text : List ℕ) → line ≡ 123 ∷ text → first_value 127 (tokens line) ≡ parse_map object (converted (λ js. of_members js no_members) (members (value 126) (length (tokens_at fresh text)) (tokens_at fresh text)))
 object_read line text opens =
-    ap (λ t. converted of_json (value 127 (tokens_at fresh t))) opens ∙ ap (λ ts. converted of_json (value 127 ts)) (open_object_at text) ∙ at_object 127 (tokens_at fresh text) (omega arith)
+    ap (λ t. first_value 127 (tokens_at fresh t)) opens ∙ ap (first_value 127) (open_object_at text) ∙ at_object 127 (tokens_at fresh text) (omega arith)
 
 -- the tokens go on with a member that the walk has not read
-pub member_is_left : (old kept : KeptMembers) (line text rest named : List ℕ) → IsAfterMembers old text kept rest → line ≡ 123 ∷ text → rest ≡ 34 ∷ named
+pub member_is_left : (old kept : MemberSlots) (line text rest named : List ℕ) → IsAfterMembers old text kept rest → line ≡ 123 ∷ text → rest ≡ 34 ∷ named
     → (ms : Members) × (json_of line ≡ json_from ms rest) × (Tells old no_members → Tells kept ms)
 member_is_left old kept line text rest named l opens quoted =
     let same : tokens_at l.place rest ≡ tokens rest = ap (tokens_at l.place) quoted ∙ quote_placed l.place named l.begins ∙ ap tokens (sym quoted) in
     let read = object_read line text opens ∙ ap (parse_map object) (l.read ∙ ap (λ ts. converted (λ js. of_members js l.grown) (members (value 126) l.turns ts)) same) in
     (l.grown, json_goes_on line rest l.grown l.turns (and_then_like line text rest (like_after_byte line text 123 opens (omega arith)) l.utf8) (omega (arith, l.enough, ap length same)) read, l.tells)
 
-module _ (old kept new : KeptMembers) (text rest named key after : List ℕ) (d : Data) (l : IsAfterMembers old text kept rest) (quoted : rest ≡ 34 ∷ named) (m : IsMember named key d after)
+module _ (old kept new : MemberSlots) (text rest named key after : List ℕ) (d : Data) (l : IsAfterMembers old text kept rest) (quoted : rest ≡ 34 ∷ named) (m : IsMember named key d after)
     (joins : (ms : Members) → Tells kept ms → Tells new (put key d ms)) where
   key_read : tokens_at l.place rest ≡ Token.key key ∷ tokens_at fresh m.valued
   key_read = ap (tokens_at l.place) quoted ∙ m.named.reads l.place l.begins
@@ -640,6 +640,6 @@ module _ (old kept new : KeptMembers) (text rest named key after : List ℕ) (d 
       let ms = put key d l.grown in
       let all : converted (λ js. of_members js no_members) (members (value 126) (length (tokens_at fresh text)) (tokens_at fresh text)) ≡ Some (ms, []) =
       with_one ∙ members_over (value 126) ms (l.turns - 1) (tokens_at after_value after) [] (omega (arith, l.enough, ap length key_read, m.value.shorter, ap length closes)) (ap read_key closes) in
-      let whole : converted of_json (value 127 (tokens line)) ≡ Some (object ms, []) = object_read line text opens ∙ ap (parse_map object) all in
+      let whole : first_value 127 (tokens line) ≡ Some (object ms, []) = object_read line text opens ∙ ap (parse_map object) all in
       let like = and_then_like line text after (like_after_byte line text 123 opens (omega arith)) like_after_it in
       (ms, json_of-read line (object ms) (like.1 utf8) (whole_read (value 127 (tokens line)) (object ms) whole), λ tells. joins l.grown (l.tells tells))

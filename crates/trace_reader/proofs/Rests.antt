@@ -15,7 +15,7 @@ use Rattle.trace_types.specs.Operation.{Operation}
 use Rattle.trace_reader.specs.declared.fault.LineCause.{LineCause}
 use Rattle.trace_reader.specs.declared.fault.LineCause.TheVariants.{NotJson}
 use Rattle.trace_reader.specs.Members.{◌>>=◌, Gives}
-use Rattle.trace_reader.specs.Looks.{read_tokens, all_members, members_from, json_from}
+use Rattle.trace_reader.specs.Looks.{read_tokens, all_members, members_from, json_from, first_value}
 use Rattle.trace_reader.specs.Plain.{op_from}
 use Rattle.trace_reader.specs.Reading.{json_of, read_op, members_of_op}
 use Rattle.trace_reader.proofs.Turns.{at_object}
@@ -88,7 +88,7 @@ same_test line rest like =
 
 -- the line of which a walk has read these members, and then the rest comes
 pub json_goes_on : (line rest : List ℕ) (grown : Members) (turns : ℕ) → (IsUtf8 line ↔ IsUtf8 rest) → length (tokens rest) ≤ turns
-    → converted of_json (value 127 (tokens line)) ≡ parse_map object (converted (λ js. of_members js grown) (members (value 126) turns (tokens rest))) → json_of line ≡ json_from grown rest
+    → first_value 127 (tokens line) ≡ parse_map object (converted (λ js. of_members js grown) (members (value 126) turns (tokens rest))) → json_of line ≡ json_from grown rest
 unfolding json_of json_from members_from
 json_goes_on line rest grown turns like enough is =
     let same = members_enough (value 126) (skip_value-shorter 126) turns (length (tokens rest)) (tokens rest) enough (omega arith) in

@@ -14,9 +14,9 @@ use Rattle.trace_reader.specs.declared.names.NumberName.{NumberName}
 use Rattle.trace_reader.specs.declared.names.NumberName.TheVariants as names
 use Rattle.trace_reader.specs.declared.names.MemberName.{MemberName}
 use Rattle.trace_reader.specs.declared.names.MemberName.TheVariants as member
-use Rattle.trace_reader.specs.declared.kept.KeptNumber.{KeptNumber}
-use Rattle.trace_reader.specs.declared.kept.KeptNumber.TheVariants as kept_number
-use Rattle.trace_reader.specs.declared.kept.KeptMembers.{KeptMembers}
+use Rattle.trace_reader.specs.declared.member_slots.KeptNumber.{KeptNumber}
+use Rattle.trace_reader.specs.declared.member_slots.KeptNumber.TheVariants as kept_number
+use Rattle.trace_reader.specs.declared.member_slots.MemberSlots.{MemberSlots}
 use Rattle.trace_reader.specs.Looks.{look_of, listed, is_array, text_of, number_text, name_text, place, number_of_look, number_kept, op_told, elements_told, kept_at, Tells}
 
 -- ---- names are told apart
@@ -81,7 +81,7 @@ module _ (d : Data) (ms : Members) where
       get_or-set_other xs (place n) (place m) k kept_number.Missing (λ e. absurd (false≢true (other.1 (ap number_text (same_place m n e)))))
       ∙ before ∙ ap (λ o. number_kept (option_map look_of o)) (sym (get_member-put_other (number_text m) (number_text n) d ms (λ e. absurd (false≢true (other.1 e)))))
 
-  pub Tells-number : (old new : KeptMembers) (name : NumberName) (k : KeptNumber) → Tells old ms → place name < length old.numbers → k ≡ number_of_look (look_of d)
+  pub Tells-number : (old new : MemberSlots) (name : NumberName) (k : KeptNumber) → Tells old ms → place name < length old.numbers → k ≡ number_of_look (look_of d)
       → new ≡ record old { numbers = set old.numbers (place name) k } → Tells new (put (number_text name) d ms)
   Tells-number old new name k tells inside seen is =
       subst (λ kept. Tells kept (put (number_text name) d ms)) (sym is) (record {
@@ -90,11 +90,11 @@ module _ (d : Data) (ms : Members) where
         fields = tells.fields ∙ ap (option_map listed) (other_name member.Fields (member.Number name) (λ e. absurd (cc)));
       })
 
-  numbers_stay : (kept : KeptMembers) (name : MemberName) → ((m : NumberName) → member.Number m ≡ name → ⊥) → Tells kept ms
+  numbers_stay : (kept : MemberSlots) (name : MemberName) → ((m : NumberName) → member.Number m ≡ name → ⊥) → Tells kept ms
       → (m : NumberName) → kept_at kept m ≡ number_kept (option_map look_of (get_member (number_text m) (put (name_text name) d ms)))
   numbers_stay kept name differ tells m = tells.numbers m ∙ ap (λ o. number_kept (option_map look_of o)) (other_name (member.Number m) name (differ m))
 
-  pub Tells-op : (old new : KeptMembers) → Tells old ms → op_told new.op ≡ Some (text_of (look_of d)) → new ≡ record old { op = new.op } → Tells new (put (codes "op") d ms)
+  pub Tells-op : (old new : MemberSlots) → Tells old ms → op_told new.op ≡ Some (text_of (look_of d)) → new ≡ record old { op = new.op } → Tells new (put (codes "op") d ms)
   Tells-op old new tells seen is =
       subst (λ kept. Tells kept (put (codes "op") d ms)) (sym is) (record {
         numbers = numbers_stay old member.Op (λ m e. absurd (cc)) tells;
@@ -102,7 +102,7 @@ module _ (d : Data) (ms : Members) where
         fields = tells.fields ∙ ap (option_map listed) (other_name member.Fields member.Op (λ e. absurd (cc)));
       })
 
-  pub Tells-fields : (old new : KeptMembers) → Tells old ms → elements_told new.fields ≡ Some (listed d) → new ≡ record old { fields = new.fields } → Tells new (put (codes "fields") d ms)
+  pub Tells-fields : (old new : MemberSlots) → Tells old ms → elements_told new.fields ≡ Some (listed d) → new ≡ record old { fields = new.fields } → Tells new (put (codes "fields") d ms)
   Tells-fields old new tells seen is =
       subst (λ kept. Tells kept (put (codes "fields") d ms)) (sym is) (record {
         numbers = numbers_stay old member.Fields (λ m e. absurd (cc)) tells;
@@ -111,7 +111,7 @@ module _ (d : Data) (ms : Members) where
       })
 
   -- of a name that no operation asks for nothing is kept
-  pub Tells-other : (kept : KeptMembers) (key : List ℕ) → ((name : MemberName) → key ≢ name_text name) → Tells kept ms → Tells kept (put key d ms)
+  pub Tells-other : (kept : MemberSlots) (key : List ℕ) → ((name : MemberName) → key ≢ name_text name) → Tells kept ms → Tells kept (put key d ms)
   Tells-other kept key other tells =
       let stays = λ (name : MemberName). sym (get_member-put_other (name_text name) key d ms (λ e. other name (sym e))) in record {
         numbers = λ m. tells.numbers m ∙ ap (λ o. number_kept (option_map look_of o)) (stays (member.Number m));

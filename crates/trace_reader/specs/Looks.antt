@@ -7,7 +7,7 @@ use Rattle.serde_json.specs.Data.{Num, unsigned, negative, float, Data, null, bo
 use Rattle.serde_json.specs.Find.{get_member, as_array}
 use Rattle.std.specs.Str.{is_utf8}
 use Rattle.json.specs.Lex.{tokens}
-use Rattle.serde_json.specs.Read.{of_json, of_members, converted, max_depth}
+use Rattle.serde_json.specs.Read.{of_json, of_items, of_members, converted, max_depth}
 use Rattle.trace_types.specs.declared.kinds.Field.{Field}
 use Rattle.trace_types.specs.declared.kinds.Field.TheVariants.{Held, Null, Me}
 use Rattle.trace_types.specs.declared.limits.TheConstants.{MAX_NAME, MAX_FIELDS}
@@ -19,15 +19,15 @@ use Rattle.trace_reader.specs.declared.names.NumberName.{NumberName}
 use Rattle.trace_reader.specs.declared.names.NumberName.TheVariants as names
 use Rattle.trace_reader.specs.declared.names.MemberName.{MemberName}
 use Rattle.trace_reader.specs.declared.names.MemberName.TheVariants as member
-use Rattle.trace_reader.specs.declared.kept.KeptNumber.{KeptNumber}
-use Rattle.trace_reader.specs.declared.kept.KeptNumber.TheVariants as kept_number
-use Rattle.trace_reader.specs.declared.kept.KeptText.{KeptText}
-use Rattle.trace_reader.specs.declared.kept.KeptText.TheVariants as kept_text
-use Rattle.trace_reader.specs.declared.kept.KeptElements.{KeptElements}
-use Rattle.trace_reader.specs.declared.kept.KeptElements.TheVariants as kept_elements
-use Rattle.trace_reader.specs.declared.kept.KeptMembers.{KeptMembers}
-use Rattle.trace_reader.specs.declared.seen.Seen.{Seen}
-use Rattle.trace_reader.specs.declared.seen.Seen.TheVariants as seen
+use Rattle.trace_reader.specs.declared.member_slots.KeptNumber.{KeptNumber}
+use Rattle.trace_reader.specs.declared.member_slots.KeptNumber.TheVariants as kept_number
+use Rattle.trace_reader.specs.declared.member_slots.KeptText.{KeptText}
+use Rattle.trace_reader.specs.declared.member_slots.KeptText.TheVariants as kept_text
+use Rattle.trace_reader.specs.declared.member_slots.KeptElements.{KeptElements}
+use Rattle.trace_reader.specs.declared.member_slots.KeptElements.TheVariants as kept_elements
+use Rattle.trace_reader.specs.declared.member_slots.MemberSlots.{MemberSlots}
+use Rattle.trace_reader.specs.declared.look.Seen.{Seen}
+use Rattle.trace_reader.specs.declared.look.Seen.TheVariants as seen
 use Rattle.trace_reader.specs.Members.{◌>>=◌, within, field_of, field_named}
 
 -- ---- names
@@ -146,11 +146,11 @@ elements_told (kept_elements.Listed v) = Some (Some v.items)
 elements_told kept_elements.Other = Some None
 
 -- what is kept of the member of that name, a number
-abbrev pub kept_at : KeptMembers → NumberName → KeptNumber
+abbrev pub kept_at : MemberSlots → NumberName → KeptNumber
 kept_at kept name = get_or kept.numbers (place name) kept_number.Missing
 
 -- of each name that an operation may ask for, what the object's member is, is kept
-pub record Tells (kept : KeptMembers) (ms : Members) : Type 0 where
+pub record Tells (kept : MemberSlots) (ms : Members) : Type 0 where
   pub numbers : (name : NumberName) → kept_at kept name ≡ number_kept (option_map look_of (get_member (number_text name) ms))
   pub op : op_told kept.op ≡ option_map (λ d. text_of (look_of d)) (get_member (codes "op") ms)
   pub fields : elements_told kept.fields ≡ option_map listed (get_member (codes "fields") ms)
@@ -261,6 +261,19 @@ is_array (object ms) = false
 abbrev pub read_tokens : List Token → Option Data
 read_tokens ts = option_and_then of_json (option_and_then (λ p. json.if_last p.0 p.1) (json.value max_depth ts))
 
+-- the value that comes first in these tokens, in which arrays and objects nest at most `depth` deep, as serde_json reads it; and
+-- the tokens behind it
+abbrev pub first_value : ℕ → List Token → Option (Data × List Token)
+first_value depth ts = converted of_json (json.value depth ts)
+
+-- the elements that come first, with the closing bracket
+abbrev pub first_items : ℕ → List Token → Option (Items × List Token)
+first_items depth ts = converted of_items (json.items (json.value depth) (length ts) ts)
+
+-- the members `before` and those that come first, with the closing brace
+abbrev pub first_members : Members → ℕ → List Token → Option (Members × List Token)
+first_members before depth ts = converted (λ js. of_members js before) (json.members (json.value depth) (length ts) ts)
+
 -- the members, where no token is left
 abbrev pub all_members : Option (Members × List Token) → Option Members
 all_members None = None
@@ -269,7 +282,7 @@ all_members (Some (ms, t ∷ ts)) = None
 
 -- the members of a line's object, of which the first ones are `before`, and these tokens the others with the closing brace
 unfoldable pub members_from : Members → List Token → Option Members
-members_from before ts = all_members (converted (λ js. of_members js before) (json.members (json.value 126) (length ts) ts))
+members_from before ts = all_members (first_members before 126 ts)
 
 -- the value of a line, of whose object the first members are `before`, and which goes on with this text, as serde_json reads it
 unfoldable pub json_from : Members → List ℕ → Result Data LineCause

@@ -4,19 +4,17 @@ use Rattle.std.specs.Str.{IsUtf8}
 use Rattle.json.specs.Token.{Token}
 use Rattle.json.specs.Word.{ends_word}
 use Rattle.json.specs.Lex.{Place, fresh, after_value, may_begin, begins_colon, lex, between, punctuate}
-use Rattle.json.specs.Json.{value, after_end_array}
-use Rattle.json.specs.Json as json
+use Rattle.json.specs.Json.{after_end_array}
 use Rattle.serde_json.specs.Data.{Data, Items, Members, no_members, object}
-use Rattle.serde_json.specs.Read.{of_json, of_items, converted}
 use Rattle.trace_types.specs.Operation.{Operation}
 use Rattle.trace_types.specs.declared.kinds.Field.{Field}
 use Rattle.trace_reader.specs.declared.fault.LineCause.{LineCause}
-use Rattle.trace_reader.specs.declared.kept.KeptMembers.{KeptMembers}
+use Rattle.trace_reader.specs.declared.member_slots.MemberSlots.{MemberSlots}
 use Rattle.trace_reader.specs.declared.plain.line.Walk.{Walk}
 use Rattle.trace_reader.specs.declared.plain.line.Walk.TheVariants as walk
-use Rattle.trace_reader.specs.declared.seen.Seen.{Seen}
+use Rattle.trace_reader.specs.declared.look.Seen.{Seen}
 use Rattle.trace_reader.specs.Members.{◌>>=◌, field_of}
-use Rattle.trace_reader.specs.Looks.{told, look_of, field_told, elements_of, Tells, json_from}
+use Rattle.trace_reader.specs.Looks.{told, look_of, field_told, elements_of, Tells, first_value, first_items, json_from}
 use Rattle.trace_reader.specs.Reading.{json_of, read_op}
 
 -- the tokens of a text that begins in that place
@@ -49,7 +47,7 @@ pub record IsScalar (text : List ℕ) (seen : Seen) (rest : List ℕ) : Type 0 w
   pub token : Token
   pub reads : (p : Place) → may_begin p ≡ true → tokens_at p text ≡ token ∷ tokens_at after_value rest
   pub datum : Data
-  pub is : (depth : ℕ) (ts : List Token) → converted of_json (value depth (token ∷ ts)) ≡ Some (datum, ts)
+  pub is : (depth : ℕ) (ts : List Token) → first_value depth (token ∷ ts) ≡ Some (datum, ts)
   pub goes_on : (ts : List Token) → after_end_array (token ∷ ts) ≡ None
   pub look : told seen ≡ look_of datum
   pub field : field_of true datum ≡ field_told (look_of datum)
@@ -59,7 +57,7 @@ pub record IsScalar (text : List ℕ) (seen : Seen) (rest : List ℕ) : Type 0 w
 -- the elements of an array come first, with its closing bracket, and then the rest
 pub record AreElements (text : List ℕ) (found : List (Result Field LineCause)) (rest : List ℕ) : Type 0 where
   pub items : Items
-  pub read : (depth : ℕ) → converted of_items (json.items (value depth) (length (tokens_at fresh text)) (tokens_at fresh text)) ≡ Some (items, tokens_at after_value rest)
+  pub read : (depth : ℕ) → first_items depth (tokens_at fresh text) ≡ Some (items, tokens_at after_value rest)
   pub are : elements_of items ≡ found
   pub shorter : length (tokens_at after_value rest) < length (tokens_at fresh text)
   pub fewer : length rest < length text
@@ -67,7 +65,7 @@ pub record AreElements (text : List ℕ) (found : List (Result Field LineCause))
 
 -- a value comes first, and then the rest
 pub record IsValue (text : List ℕ) (datum : Data) (rest : List ℕ) : Type 0 where
-  pub read : (depth : ℕ) → 0 < depth → converted of_json (value depth (tokens_at fresh text)) ≡ Some (datum, tokens_at after_value rest)
+  pub read : (depth : ℕ) → 0 < depth → first_value depth (tokens_at fresh text) ≡ Some (datum, tokens_at after_value rest)
   pub shorter : length (tokens_at after_value rest) < length (tokens_at fresh text)
   pub fewer : length rest < length text
   pub utf8 : IsUtf8 text ↔ IsUtf8 rest
@@ -79,7 +77,7 @@ pub record IsMember (text : List ℕ) (key : List ℕ) (datum : Data) (rest : Li
   pub value : IsValue valued datum rest
 
 -- how far a walk came over a line, from what was kept before it: over the whole line; or up to a member, and then those before it are kept
-abbrev pub IsWalked : List ℕ → KeptMembers → KeptMembers → Walk → Type 0
+abbrev pub IsWalked : List ℕ → MemberSlots → MemberSlots → Walk → Type 0
 IsWalked line old new walk.Whole = (ms : Members) × (json_of line ≡ Ok (object ms)) × (Tells old no_members → Tells new ms)
 IsWalked line old new (walk.UpTo rest) = (ms : Members) × (json_of line ≡ json_from ms rest.now) × (Tells old no_members → Tells new ms)
 IsWalked line old new walk.Nowhere = Unit {0}

@@ -6,7 +6,7 @@ ghost use Rattle.trace_reader.specs.Members.{Gives, fields_at, field_test};
 ghost use Rattle.trace_reader.specs.Looks.{elements_told, Tells, fields_told, few_told, fields_of, plain};
 
 use crate::fault::LineCause;
-use crate::kept::{KeptElements, KeptMembers};
+use crate::member_slots::{KeptElements, MemberSlots};
 use std::alloc::Global;
 use trace_types::kinds::Field;
 use trace_types::limits::{MAX_FIELDS, MAX_NAME};
@@ -15,10 +15,11 @@ use trace_types::sequence::Sequence;
 /// The member `fields`: at most `MAX_FIELDS` elements, each a handle's number, null, or where `cyclic` the text `me`.
 pub fn fields(
     alloc: Global,
-    kept: &KeptMembers<'_>,
+    kept: &MemberSlots<'_>,
     cyclic: bool,
 ) -> Result<Sequence<Field>, LineCause>
-    ensures value { (ms : Members) → Tells kept.now ms → Gives result (fields_at cyclic (object ms)) }
+    ensures value { (ms : Members) → Tells kept.now ms
+        → Gives result (fields_at cyclic (object ms)) }
     ensures length { IfOk result (λ fields. length fields ≤ MAX_FIELDS) }
     ensures within { IfOk result (λ fields. IsTrue (list_all (field_test cyclic) fields)) }
 {

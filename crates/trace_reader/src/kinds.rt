@@ -8,7 +8,7 @@ ghost use Rattle.trace_reader.specs.Kinds.{kind_of};
 
 use crate::fault::LineCause;
 use crate::fields::fields;
-use crate::kept::KeptMembers;
+use crate::member_slots::MemberSlots;
 use crate::members::{handle, index, perhaps_handle};
 use crate::names::NumberName;
 use std::alloc::Global;
@@ -17,7 +17,7 @@ use trace_types::names::OpName;
 
 /// What an operation of that name does, with its members.
 #[tactic(auto, unfolding(crate::specs::Kinds::one_at, crate::specs::Kinds::two_at, crate::specs::Kinds::three_at, crate::specs::Kinds::field_at, crate::specs::Kinds::made_at, crate::specs::Kinds::swap_at))]
-pub fn kind(alloc: Global, name: OpName, kept: &KeptMembers<'_>) -> Result<Kind, LineCause>
+pub fn kind(alloc: Global, name: OpName, kept: &MemberSlots<'_>) -> Result<Kind, LineCause>
     ensures value { (ms : Members) → Tells kept.now ms → Gives result (kind_of name (object ms)) }
     ensures within { IfOk result (λ k. IsTrue (is_kind k)) }
 {

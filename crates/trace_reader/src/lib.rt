@@ -3,17 +3,17 @@
 
 mod fault;
 mod fields;
-mod kept;
 mod kinds;
 mod line_scratch;
 mod lines;
+mod look;
+mod member_slots;
 mod members;
 mod names;
 mod op;
 mod plain;
 mod request;
 mod script;
-mod seen;
 mod tokens;
 mod trace;
 mod values;

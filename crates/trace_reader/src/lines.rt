@@ -12,7 +12,8 @@ use std::alloc::Global;
 /// The first line, and what comes after its newline.
 pub fn cut_line(bytes: &[u8]) -> (&[u8], Option<&[u8]>)
     ensures { MatchOption result.1 (lines_of bytes.now ≡ result.0.now ∷ [])
-        (λ rest. (lines_of bytes.now ≡ result.0.now ∷ lines_of rest.now) × (length rest.now < length bytes.now)) }
+        (λ rest. (lines_of bytes.now ≡ result.0.now ∷ lines_of rest.now)
+        × (length rest.now < length bytes.now)) }
 {
     match newline(bytes) {
         Some(at) => (&bytes[..at], Some(&bytes[at + 1..])),

@@ -6,7 +6,7 @@ ghost use Rattle.trace_reader.specs.Members.{within, number_at, handle_at, perha
 ghost use Rattle.trace_reader.specs.Looks.{number_text, kept_at, op_told, Tells, number_told, perhaps_told, text_told, named_by};
 
 use crate::fault::LineCause;
-use crate::kept::{KeptMembers, KeptNumber, KeptText};
+use crate::member_slots::{KeptNumber, KeptText, MemberSlots};
 use crate::names::NumberName;
 use trace_types::limits::{MAX_INDEX, MAX_NAME};
 use trace_types::names::{OpName, read_name};
@@ -27,19 +27,20 @@ pub fn in_range(n: Option<u64>, low: u32, high: u32) -> Result<u32, LineCause>
 
 /// The member of that name, a number from `low` to `high`.
 pub fn number(
-    kept: &KeptMembers<'_>,
+    kept: &MemberSlots<'_>,
     name: NumberName,
     low: u32,
     high: u32,
 ) -> Result<u32, LineCause>
-    ensures value { (ms : Members) → Tells kept.now ms → result ≡ number_at (number_text name) low high (object ms) }
+    ensures value { (ms : Members) → Tells kept.now ms
+        → result ≡ number_at (number_text name) low high (object ms) }
     ensures range { IfOk result (λ n. (low ≤ n) × (n ≤ high)) }
 {
     kept_number(kept, name, low, high)
 }
 
 fn kept_number(
-    kept: &KeptMembers<'_>,
+    kept: &MemberSlots<'_>,
     name: NumberName,
     low: u32,
     high: u32,
@@ -55,30 +56,33 @@ fn kept_number(
 }
 
 /// The number of a handle or a cell.
-pub fn handle(kept: &KeptMembers<'_>, name: NumberName) -> Result<u32, LineCause>
-    ensures value { (ms : Members) → Tells kept.now ms → result ≡ handle_at (number_text name) (object ms) }
+pub fn handle(kept: &MemberSlots<'_>, name: NumberName) -> Result<u32, LineCause>
+    ensures value { (ms : Members) → Tells kept.now ms
+        → result ≡ handle_at (number_text name) (object ms) }
     ensures range { IfOk result (λ h. h ≤ MAX_NAME) }
 {
     number(kept, name, 0, MAX_NAME)
 }
 
 /// The index of a field, from 0.
-pub fn index(kept: &KeptMembers<'_>) -> Result<u32, LineCause>
-    ensures value { (ms : Members) → Tells kept.now ms → result ≡ number_at (codes "i") 0 MAX_INDEX (object ms) }
+pub fn index(kept: &MemberSlots<'_>) -> Result<u32, LineCause>
+    ensures value { (ms : Members) → Tells kept.now ms
+        → result ≡ number_at (codes "i") 0 MAX_INDEX (object ms) }
     ensures range { IfOk result (λ i. i ≤ MAX_INDEX) }
 {
     number(kept, NumberName::Index, 0, MAX_INDEX)
 }
 
 /// The number of a handle that may be left out: there is none where the member is missing or null.
-pub fn perhaps_handle(kept: &KeptMembers<'_>, name: NumberName) -> Result<Option<u32>, LineCause>
-    ensures value { (ms : Members) → Tells kept.now ms → result ≡ perhaps_handle_at (number_text name) (object ms) }
+pub fn perhaps_handle(kept: &MemberSlots<'_>, name: NumberName) -> Result<Option<u32>, LineCause>
+    ensures value { (ms : Members) → Tells kept.now ms
+        → result ≡ perhaps_handle_at (number_text name) (object ms) }
     ensures range { IfOk result (λ h. IsTrue (is_perhaps_name h)) }
 {
     kept_perhaps(kept, name)
 }
 
-fn kept_perhaps(kept: &KeptMembers<'_>, name: NumberName) -> Result<Option<u32>, LineCause>
+fn kept_perhaps(kept: &MemberSlots<'_>, name: NumberName) -> Result<Option<u32>, LineCause>
     ensures value { result ≡ perhaps_told (kept_at kept.now name) }
     ensures range { IfOk result (λ h. IsTrue (is_perhaps_name h)) }
 {
@@ -93,8 +97,9 @@ fn kept_perhaps(kept: &KeptMembers<'_>, name: NumberName) -> Result<Option<u32>,
 }
 
 /// The operation that the member `op`, a text, names, if it names one.
-pub fn op_name(kept: &KeptMembers<'_>) -> Result<Option<OpName>, LineCause>
-    ensures { (ms : Members) → Tells kept.now ms → result ≡ named_by (text_at (codes "op") (object ms)) }
+pub fn op_name(kept: &MemberSlots<'_>) -> Result<Option<OpName>, LineCause>
+    ensures { (ms : Members) → Tells kept.now ms
+        → result ≡ named_by (text_at (codes "op") (object ms)) }
 {
     kept_name(kept.op)
 }

@@ -12,9 +12,9 @@ ghost use Rattle.trace_reader.specs.Reading as Reading;
 ghost use Rattle.trace_reader.specs.Writing.{op_of_line};
 
 use crate::fault::LineCause;
-use crate::kept::KeptMembers;
 use crate::kinds;
 use crate::line_scratch::LineScratch;
+use crate::member_slots::MemberSlots;
 use crate::members::{number, op_name};
 use crate::names::NumberName;
 use crate::plain::line::{Walk, plain_members};
@@ -40,7 +40,7 @@ pub fn line_op(alloc: Global, line: &[u8], scratch: &mut LineScratch) -> Result<
         scratch.note_tokens(line);
         return token_op(alloc, line, &mut scratch.tokens);
     }
-    let mut kept = KeptMembers::none();
+    let mut kept = MemberSlots::none();
     match plain_members(alloc, line, &mut kept)? {
         Walk::Whole => {
             scratch.note_walk(line.len());
@@ -65,7 +65,7 @@ fn rest_op<'a>(
     alloc: Global,
     rest: &'a [u8],
     scratch: &'a mut Scratch,
-    kept: &mut KeptMembers<'a>,
+    kept: &mut MemberSlots<'a>,
 ) -> Result<Op, LineCause>
     ensures { (before : Members) → Tells kept.old before → Gives result (op_from before rest.now) }
 {
@@ -82,7 +82,7 @@ fn rest_op<'a>(
 fn token_op(alloc: Global, line: &[u8], scratch: &mut Scratch) -> Result<Op, LineCause>
     ensures { Gives result (op_of_line line.now) }
 {
-    let mut kept = KeptMembers::none();
+    let mut kept = MemberSlots::none();
     match line_members(alloc, line, scratch, &mut kept) {
         Ok(true) => members_of_op(alloc, &kept),
         Ok(false) => Err(LineCause::NotObject),
@@ -101,7 +101,8 @@ pub fn read_op(alloc: Global, value: &Value) -> Result<Op, LineCause>
 
 /// The operation that an object is; `cause` is the fault of another value.
 pub fn object_op(alloc: Global, value: &Value, cause: LineCause) -> Result<Op, LineCause>
-    ensures { Gives result (on_object cause (as_object (view value.now)) (Reading.members_of_op (view value.now))) }
+    ensures { Gives result
+        (on_object cause (as_object (view value.now)) (Reading.members_of_op (view value.now))) }
 {
     let Some(members) = value.as_object() else {
         return Err(cause);
@@ -111,8 +112,9 @@ pub fn object_op(alloc: Global, value: &Value, cause: LineCause) -> Result<Op, L
 }
 
 #[tactic(auto, unfolding(crate::specs::Reading::members_of_op))]
-fn members_of_op(alloc: Global, kept: &KeptMembers<'_>) -> Result<Op, LineCause>
-    ensures { (ms : Members) → Tells kept.now ms → Gives result (Reading.members_of_op (object ms)) }
+fn members_of_op(alloc: Global, kept: &MemberSlots<'_>) -> Result<Op, LineCause>
+    ensures { (ms : Members) → Tells kept.now ms
+        → Gives result (Reading.members_of_op (object ms)) }
 {
     let id = number(kept, NumberName::Id, 1, MAX_ID)?;
     let thread = number(kept, NumberName::Thread, 0, MAX_THREAD)?;
@@ -121,8 +123,9 @@ fn members_of_op(alloc: Global, kept: &KeptMembers<'_>) -> Result<Op, LineCause>
 }
 
 #[tactic(auto, unfolding(crate::specs::Reading::kind_at))]
-fn kind(alloc: Global, kept: &KeptMembers<'_>) -> Result<Kind, LineCause>
-    ensures value { (ms : Members) → Tells kept.now ms → Gives result (Reading.kind_at (object ms)) }
+fn kind(alloc: Global, kept: &MemberSlots<'_>) -> Result<Kind, LineCause>
+    ensures value { (ms : Members) → Tells kept.now ms
+        → Gives result (Reading.kind_at (object ms)) }
     ensures within { IfOk result (λ k. IsTrue (is_kind k)) }
 {
     let Some(name) = op_name(kept)? else {

@@ -28,7 +28,8 @@ pub struct Script {
 /// `TooMany`.
 pub fn read_script(alloc: Global, bytes: &[u8], lone: bool) -> Result<Script, LineFault>
     ensures ok { IfOk result (λ script. Scripts.read_script lone bytes.now ≡ Ok script) }
-    ensures fault { IfErr result (λ e. e.cause ≢ LineCause.Memory → Scripts.read_script lone bytes.now ≡ Err e) }
+    ensures fault { IfErr result
+        (λ e. e.cause ≢ LineCause.Memory → Scripts.read_script lone bytes.now ≡ Err e) }
     // Where memory runs out, no line before was faulty.
     ensures memory { IfErr result (λ e. IsReadUpTo e.line (Scripts.read_script lone bytes.now)) }
     ensures line { IfErr result (λ e. (1 ≤ e.line) × (e.line ≤ length (lines_of bytes.now))) }
@@ -70,10 +71,14 @@ fn read_requests(
     lone: bool,
 ) -> Result<Sequence<RequestLine>, LineFault>
     requires { first + length bytes.now < 2 ^ 64 }
-    ensures ok { IfOk result (λ requests. after_requests lone [] first (lines_of bytes.now) ≡ Ok requests) }
-    ensures fault { IfErr result (λ e. e.cause ≢ LineCause.Memory → after_requests lone [] first (lines_of bytes.now) ≡ Err e) }
-    ensures memory { IfErr result (λ e. IsReadUpTo e.line (after_requests lone [] first (lines_of bytes.now))) }
-    ensures line { IfErr result (λ e. (first ≤ e.line) × (e.line < first + length (lines_of bytes.now))) }
+    ensures ok { IfOk result
+        (λ requests. after_requests lone [] first (lines_of bytes.now) ≡ Ok requests) }
+    ensures fault { IfErr result (λ e. e.cause ≢ LineCause.Memory
+        → after_requests lone [] first (lines_of bytes.now) ≡ Err e) }
+    ensures memory { IfErr result
+        (λ e. IsReadUpTo e.line (after_requests lone [] first (lines_of bytes.now))) }
+    ensures line { IfErr result
+        (λ e. (first ≤ e.line) × (e.line < first + length (lines_of bytes.now))) }
 {
     let mut requests = Sequence::empty(alloc);
     let mut rest = bytes;
@@ -103,7 +108,8 @@ fn read_request_line(
     lone: bool,
 ) -> Result<(), LineCause>
     ensures ok { OnOk result (after_request lone requests.old line.now ≡ Ok requests.new) }
-    ensures fault { IfErr result (λ e. e ≢ LineCause.Memory → after_request lone requests.old line.now ≡ Err e) }
+    ensures fault { IfErr result
+        (λ e. e ≢ LineCause.Memory → after_request lone requests.old line.now ≡ Err e) }
 {
     if line.len() > MAX_LINE {
         return Err(LineCause::LineTooLong);
@@ -122,7 +128,8 @@ fn join(
     lone: bool,
 ) -> Result<(), LineCause>
     ensures ok { OnOk result (joined lone requests.old request ≡ Ok requests.new) }
-    ensures fault { IfErr result (λ e. e ≢ LineCause.Memory → joined lone requests.old request ≡ Err e) }
+    ensures fault { IfErr result
+        (λ e. e ≢ LineCause.Memory → joined lone requests.old request ≡ Err e) }
 {
     if lone && requests.len() > 0 {
         return Err(LineCause::TooMany);

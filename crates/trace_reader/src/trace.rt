@@ -18,7 +18,8 @@ use trace_types::trace::Trace;
 /// Each line is a JSON object, as `read_op` reads it; blank lines are skipped.
 pub fn read_trace(alloc: Global, bytes: &[u8]) -> Result<Trace, LineFault>
     ensures ok { IfOk result (λ t. Reading.read_trace bytes.now ≡ Ok t) }
-    ensures fault { IfErr result (λ e. e.cause ≢ LineCause.Memory → Reading.read_trace bytes.now ≡ Err e) }
+    ensures fault { IfErr result
+        (λ e. e.cause ≢ LineCause.Memory → Reading.read_trace bytes.now ≡ Err e) }
     // Where memory runs out, no line before was faulty.
     ensures memory { IfErr result (λ e. IsReadUpTo e.line (Reading.read_trace bytes.now)) }
     ensures line { IfErr result (λ e. (1 ≤ e.line) × (e.line ≤ length (lines_of bytes.now))) }
@@ -37,7 +38,11 @@ pub struct CountedTrace {
 /// The trace that a text is, as `read_trace` reads it, and what that took.
 pub fn read_trace_counted(alloc: Global, bytes: &[u8]) -> Result<CountedTrace, LineFault>
     ensures ok { IfOk result (λ read. Reading.read_trace bytes.now ≡ Ok read.trace) }
-    ensures fault { IfErr result (λ e. e.cause ≢ LineCause.Memory → Reading.read_trace bytes.now ≡ Err e) }
+    ensures fault { IfErr result
+        (λ e. e.cause ≢ LineCause.Memory → Reading.read_trace bytes.now ≡ Err e) }
+    // Where memory runs out, no line before was faulty.
+    ensures memory { IfErr result (λ e. IsReadUpTo e.line (Reading.read_trace bytes.now)) }
+    ensures line { IfErr result (λ e. (1 ≤ e.line) × (e.line ≤ length (lines_of bytes.now))) }
 {
     let mut scratch = LineScratch::new(alloc);
     let trace = read_lines(alloc, bytes, &mut scratch)?;
@@ -49,7 +54,8 @@ pub fn read_trace_counted(alloc: Global, bytes: &[u8]) -> Result<CountedTrace, L
 
 fn read_lines(alloc: Global, bytes: &[u8], scratch: &mut LineScratch) -> Result<Trace, LineFault>
     ensures ok { IfOk result (λ t. Reading.read_trace bytes.now ≡ Ok t) }
-    ensures fault { IfErr result (λ e. e.cause ≢ LineCause.Memory → Reading.read_trace bytes.now ≡ Err e) }
+    ensures fault { IfErr result
+        (λ e. e.cause ≢ LineCause.Memory → Reading.read_trace bytes.now ≡ Err e) }
     ensures memory { IfErr result (λ e. IsReadUpTo e.line (Reading.read_trace bytes.now)) }
     ensures line { IfErr result (λ e. (1 ≤ e.line) × (e.line ≤ length (lines_of bytes.now))) }
 {
@@ -81,7 +87,8 @@ pub fn read_line(
     scratch: &mut LineScratch,
 ) -> Result<(), LineCause>
     ensures ok { OnOk result (after_line trace.old line.now ≡ Ok trace.new) }
-    ensures fault { IfErr result (λ e. e ≢ LineCause.Memory → after_line trace.old line.now ≡ Err e) }
+    ensures fault { IfErr result
+        (λ e. e ≢ LineCause.Memory → after_line trace.old line.now ≡ Err e) }
 {
     if line.len() > MAX_LINE {
         return Err(LineCause::LineTooLong);
@@ -95,7 +102,8 @@ pub fn read_line(
 
 fn push(trace: &mut Trace, op: Op) -> Result<(), LineCause>
     ensures ok { OnOk result (push_cause (pushed trace.old op) ≡ Ok trace.new) }
-    ensures fault { IfErr result (λ e. e ≢ LineCause.Memory → push_cause (pushed trace.old op) ≡ Err e) }
+    ensures fault { IfErr result
+        (λ e. e ≢ LineCause.Memory → push_cause (pushed trace.old op) ≡ Err e) }
 {
     match trace.push(op) {
         Ok(()) => Ok(()),

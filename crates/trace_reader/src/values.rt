@@ -6,10 +6,10 @@ ghost use Rattle.trace_reader.specs.Members.{field_of, number_at, text_at};
 ghost use Rattle.trace_reader.specs.Looks.{told, look_of, elements_of, listed, elements_told, field_told, Tells};
 
 use crate::fault::LineCause;
-use crate::kept::{KeptElements, KeptMembers};
+use crate::look::{Seen, field};
+use crate::member_slots::{KeptElements, MemberSlots};
 use crate::members::in_range;
 use crate::names::{MemberName, member_name};
-use crate::seen::{Seen, field};
 use serde_json::{Map, Value};
 use std::alloc::{AllocError, Global};
 use trace_types::kinds::Field;
@@ -45,10 +45,10 @@ pub fn text<'a>(value: &'a Value, name: &str) -> Result<&'a str, LineCause>
 pub fn value_members<'a>(
     alloc: Global,
     members: &'a Map<String, Value>,
-) -> Result<KeptMembers<'a>, AllocError>
+) -> Result<MemberSlots<'a>, AllocError>
     ensures { IfOk result (λ kept. Tells kept (members_view members.now.entries)) }
 {
-    let mut kept = KeptMembers::none();
+    let mut kept = MemberSlots::none();
     for (text, value) in members.iter() {
         keep(alloc, text.as_str(), value, &mut kept)?;
     }
@@ -60,9 +60,10 @@ fn keep<'a>(
     alloc: Global,
     text: &str,
     value: &'a Value,
-    kept: &mut KeptMembers<'a>,
+    kept: &mut MemberSlots<'a>,
 ) -> Result<(), AllocError>
-    ensures { OnOk result ((ms : Members) → Tells kept.old ms → Tells kept.new (put text.now (view value.now) ms)) }
+    ensures { OnOk result ((ms : Members) → Tells kept.old ms
+        → Tells kept.new (put text.now (view value.now) ms)) }
 {
     match member_name(text) {
         Some(MemberName::Number(name)) => kept.keep_number(name, glance(value)),

@@ -1,8 +1,9 @@
 //! The canonical lines of operations: member names in the order of their bytes, no spaces.
-ghost use Rattle.std.specs.Prelude.{◌≡◌, ◌++◌, ◌∷◌, [], List, Some, Ok, IfOk, OnOk, IsTrue, false, codes, decimal, string_bytes};
+ghost use Rattle.std.specs.Prelude.{◌≡◌, List, Some, Ok, IfOk, OnOk, IsTrue, false, codes, decimal, string_bytes};
 ghost use Rattle.std.specs.Option.{option_map};
 ghost use Rattle.std.specs.List.{list_all};
 ghost use Rattle.serde_json.specs.Written.{comma_if};
+ghost use Rattle.text_pieces.specs.Pieces.{Adds};
 ghost use Rattle.trace_types.specs.Limits.{is_within_limits};
 ghost use Rattle.trace_types.specs.Operation.{Operation};
 ghost use Rattle.trace_types.specs.Trace.{IsTrace};
@@ -42,11 +43,13 @@ pub fn write_ops(alloc: Global, ops: &[Op]) -> Result<Vec<u8>, AllocError>
 
 /// The canonical lines of a trace read as the trace.
 pub fn lines_read_back()
-    ensures { (ops : List Operation) → IsTrace ops → IsTrue (list_all is_within_limits ops) → read_trace (lines_text ops) ≡ Ok ops }
+    ensures { (ops : List Operation) → IsTrace ops → IsTrue (list_all is_within_limits ops)
+        → read_trace (lines_text ops) ≡ Ok ops }
 {}
 
 fn line(alloc: Global, op: &Op) -> Result<String, AllocError>
-    ensures { IfOk result (λ line. (string_bytes line ≡ line_of op.now) × IsTrue (is_within_limits op.now)) }
+    ensures { IfOk result
+        (λ line. (string_bytes line ≡ line_of op.now) × IsTrue (is_within_limits op.now)) }
 {
     let mut line = String::new(alloc);
     push_line(&mut line, op)?;
@@ -54,7 +57,8 @@ fn line(alloc: Global, op: &Op) -> Result<String, AllocError>
 }
 
 fn lines(alloc: Global, ops: &[Op]) -> Result<Vec<u8>, AllocError>
-    ensures { IfOk result (λ text. (text.items ≡ lines_text ops.now) × IsTrue (list_all is_within_limits ops.now)) }
+    ensures { IfOk result
+        (λ text. (text.items ≡ lines_text ops.now) × IsTrue (list_all is_within_limits ops.now)) }
 {
     let mut text = String::new(alloc);
     for op in ops {
@@ -66,7 +70,7 @@ fn lines(alloc: Global, ops: &[Op]) -> Result<Vec<u8>, AllocError>
 
 #[tactic(auto, using(crate::proofs::LinePieces::line_text_is))]
 fn push_line(text: &mut String, op: &Op) -> Result<(), AllocError>
-    ensures line { OnOk result (string_bytes text.new ≡ string_bytes text.old ++ line_of op.now) }
+    ensures line { OnOk result (Adds text.old text.new (line_of op.now)) }
     ensures within { OnOk result (IsTrue (is_within_limits op.now)) }
 {
     push_pieces(text, op)?;
@@ -75,7 +79,7 @@ fn push_line(text: &mut String, op: &Op) -> Result<(), AllocError>
 
 #[tactic(auto, unfolding(crate::specs::LineText::line_text))]
 fn push_pieces(text: &mut String, op: &Op) -> Result<(), AllocError>
-    ensures line { OnOk result (string_bytes text.new ≡ string_bytes text.old ++ line_text op.now) }
+    ensures line { OnOk result (Adds text.old text.new (line_text op.now)) }
     ensures within { OnOk result (IsTrue (is_within_limits op.now)) }
 {
     text.push('{')?;
@@ -88,7 +92,7 @@ fn push_pieces(text: &mut String, op: &Op) -> Result<(), AllocError>
 
 // The members of every operation.
 fn push_between(text: &mut String, op: &Op) -> Result<(), AllocError>
-    ensures text { OnOk result (string_bytes text.new ≡ string_bytes text.old ++ text_between op.now) }
+    ensures text { OnOk result (Adds text.old text.new (text_between op.now)) }
     ensures within { OnOk result (IsTrue (is_within_limits op.now)) }
 {
     push_labelled(text, "\"id\":", op.id() as u64)?;
@@ -99,23 +103,22 @@ fn push_between(text: &mut String, op: &Op) -> Result<(), AllocError>
 
 // The members whose names come before `id`.
 fn push_before(text: &mut String, kind: &Kind) -> Result<(), AllocError>
-    ensures { OnOk result (string_bytes text.new ≡ string_bytes text.old ++ text_before kind.now) }
+    ensures { OnOk result (Adds text.old text.new (text_before kind.now)) }
 {
     match kind {
-        Kind::New { fields, .. } => push_fields(text, fields.as_slice()),
-        Kind::NewCyclic { fields, .. } => push_fields(text, fields.as_slice()),
-        Kind::NewFrom { from, .. } => push_number(text, "from", *from),
-        Kind::WeakNew { .. } => Ok(()),
-        Kind::Null { .. } => Ok(()),
-        Kind::Clone { from, .. } => push_number(text, "from", *from),
-        Kind::Drop { h } => push_number(text, "h", *h),
-        Kind::Downgrade { from, .. } => push_number(text, "from", *from),
-        Kind::Upgrade { from, .. } => push_number(text, "from", *from),
-        Kind::TryUnwrap { h } => push_number(text, "h", *h),
-        Kind::IntoInner { h } => push_number(text, "h", *h),
-        Kind::GetMut { h } => push_number(text, "h", *h),
-        Kind::MakeMut { h } => push_number(text, "h", *h),
-        Kind::Counts { h } => push_number(text, "h", *h),
+        Kind::New { fields, .. } | Kind::NewCyclic { fields, .. } => {
+            push_fields(text, fields.as_slice())
+        }
+        Kind::NewFrom { from, .. }
+        | Kind::Clone { from, .. }
+        | Kind::Downgrade { from, .. }
+        | Kind::Upgrade { from, .. } => push_number(text, "from", *from),
+        Kind::Drop { h }
+        | Kind::TryUnwrap { h }
+        | Kind::IntoInner { h }
+        | Kind::GetMut { h }
+        | Kind::MakeMut { h }
+        | Kind::Counts { h } => push_number(text, "h", *h),
         Kind::PtrEq { a, b } => {
             push_number(text, "a", *a)?;
             push_number(text, "b", *b)
@@ -125,23 +128,15 @@ fn push_before(text: &mut String, kind: &Kind) -> Result<(), AllocError>
             push_number(text, "h", *h)?;
             push_number(text, "i", *i)
         }
-        Kind::Take { h, i, .. } => {
+        Kind::Take { h, i, .. } | Kind::Get { h, i, .. } => {
             push_number(text, "h", *h)?;
             push_number(text, "i", *i)
         }
-        Kind::Get { h, i, .. } => {
-            push_number(text, "h", *h)?;
-            push_number(text, "i", *i)
-        }
-        Kind::CellNew { c, from } => {
+        Kind::CellNew { c, from } | Kind::CellSwap { c, from, .. } => {
             push_number(text, "c", *c)?;
             push_number(text, "from", *from)
         }
-        Kind::CellLoad { c, .. } => push_number(text, "c", *c),
-        Kind::CellSwap { c, from, .. } => {
-            push_number(text, "c", *c)?;
-            push_number(text, "from", *from)
-        }
+        Kind::CellLoad { c, .. } | Kind::CellDrop { c } => push_number(text, "c", *c),
         Kind::CellCas {
             c,
             desired,
@@ -151,46 +146,45 @@ fn push_before(text: &mut String, kind: &Kind) -> Result<(), AllocError>
             push_number(text, "desired", *desired)?;
             push_number(text, "expected", *expected)
         }
-        Kind::CellDrop { c } => push_number(text, "c", *c),
-        Kind::ScopeEnd => Ok(()),
+        Kind::WeakNew { .. } | Kind::Null { .. } | Kind::ScopeEnd => Ok(()),
     }
 }
 
 // The members whose names come after `t`.
 fn push_after(text: &mut String, kind: &Kind) -> Result<(), AllocError>
-    ensures { OnOk result (string_bytes text.new ≡ string_bytes text.old ++ text_after kind.now) }
+    ensures { OnOk result (Adds text.old text.new (text_after kind.now)) }
 {
     match kind {
-        Kind::New { to, .. } => push_to(text, *to),
-        Kind::NewCyclic { to, .. } => push_to(text, *to),
-        Kind::NewFrom { to, .. } => push_to(text, *to),
-        Kind::WeakNew { to, .. } => push_to(text, *to),
-        Kind::Null { to, .. } => push_to(text, *to),
-        Kind::Clone { to, .. } => push_to(text, *to),
-        Kind::Downgrade { to, .. } => push_to(text, *to),
-        Kind::Upgrade { to, .. } => push_to(text, *to),
-        Kind::Take { to, .. } => push_to(text, *to),
-        Kind::Get { to, .. } => push_to(text, *to),
-        Kind::CellLoad { to, .. } => push_to(text, *to),
+        Kind::New { to, .. }
+        | Kind::NewCyclic { to, .. }
+        | Kind::NewFrom { to, .. }
+        | Kind::WeakNew { to }
+        | Kind::Null { to }
+        | Kind::Clone { to, .. }
+        | Kind::Downgrade { to, .. }
+        | Kind::Upgrade { to, .. }
+        | Kind::Take { to, .. }
+        | Kind::Get { to, .. }
+        | Kind::CellLoad { to, .. } => push_to(text, *to),
         Kind::CellSwap { to, .. } => push_perhaps_to(text, *to),
-        Kind::Drop { .. } => Ok(()),
-        Kind::TryUnwrap { .. } => Ok(()),
-        Kind::IntoInner { .. } => Ok(()),
-        Kind::GetMut { .. } => Ok(()),
-        Kind::MakeMut { .. } => Ok(()),
-        Kind::Counts { .. } => Ok(()),
-        Kind::PtrEq { .. } => Ok(()),
-        Kind::Set { .. } => Ok(()),
-        Kind::CellNew { .. } => Ok(()),
-        Kind::CellCas { .. } => Ok(()),
-        Kind::CellDrop { .. } => Ok(()),
-        Kind::ScopeEnd => Ok(()),
+        Kind::Drop { .. }
+        | Kind::TryUnwrap { .. }
+        | Kind::IntoInner { .. }
+        | Kind::GetMut { .. }
+        | Kind::MakeMut { .. }
+        | Kind::Counts { .. }
+        | Kind::PtrEq { .. }
+        | Kind::Set { .. }
+        | Kind::CellNew { .. }
+        | Kind::CellCas { .. }
+        | Kind::CellDrop { .. }
+        | Kind::ScopeEnd => Ok(()),
     }
 }
 
 #[tactic(auto, unfolding(crate::specs::LineText::text_ahead))]
 fn push_number(text: &mut String, name: &str, n: u32) -> Result<(), AllocError>
-    ensures { OnOk result (string_bytes text.new ≡ string_bytes text.old ++ text_ahead name.now (decimal n)) }
+    ensures { OnOk result (Adds text.old text.new (text_ahead name.now (decimal n))) }
 {
     text.push('"')?;
     text.push_str(name)?;
@@ -200,13 +194,13 @@ fn push_number(text: &mut String, name: &str, n: u32) -> Result<(), AllocError>
 }
 
 fn push_to(text: &mut String, to: u32) -> Result<(), AllocError>
-    ensures { OnOk result (string_bytes text.new ≡ string_bytes text.old ++ to_text (Some (decimal to))) }
+    ensures { OnOk result (Adds text.old text.new (to_text (Some (decimal to)))) }
 {
     push_labelled(text, ",\"to\":", to as u64)
 }
 
 fn push_perhaps_to(text: &mut String, to: Option<u32>) -> Result<(), AllocError>
-    ensures { OnOk result (string_bytes text.new ≡ string_bytes text.old ++ to_text (option_map decimal to)) }
+    ensures { OnOk result (Adds text.old text.new (to_text (option_map decimal to))) }
 {
     match to {
         Some(to) => push_to(text, to),
@@ -216,7 +210,8 @@ fn push_perhaps_to(text: &mut String, to: Option<u32>) -> Result<(), AllocError>
 
 #[tactic(auto, unfolding(crate::specs::LineText::text_ahead))]
 fn push_fields(text: &mut String, fields: &[Field]) -> Result<(), AllocError>
-    ensures { OnOk result (string_bytes text.new ≡ string_bytes text.old ++ text_ahead (codes "fields") (fields_text fields.now)) }
+    ensures { OnOk result (Adds text.old text.new
+        (text_ahead (codes "fields") (fields_text fields.now))) }
 {
     text.push_str("\"fields\":[")?;
     push_elements(text, fields)?;
@@ -226,7 +221,7 @@ fn push_fields(text: &mut String, fields: &[Field]) -> Result<(), AllocError>
 
 // The elements, with the closing bracket.
 fn push_elements(text: &mut String, fields: &[Field]) -> Result<(), AllocError>
-    ensures { OnOk result (string_bytes text.new ≡ string_bytes text.old ++ elements_text false fields.now) }
+    ensures { OnOk result (Adds text.old text.new (elements_text false fields.now)) }
 {
     let mut later = false;
     for field in fields {
@@ -239,7 +234,7 @@ fn push_elements(text: &mut String, fields: &[Field]) -> Result<(), AllocError>
 }
 
 fn push_comma_if(text: &mut String, later: bool) -> Result<(), AllocError>
-    ensures { OnOk result (string_bytes text.new ≡ string_bytes text.old ++ comma_if later) }
+    ensures { OnOk result (Adds text.old text.new (comma_if later)) }
 {
     if !later {
         return Ok(());
@@ -249,7 +244,7 @@ fn push_comma_if(text: &mut String, later: bool) -> Result<(), AllocError>
 }
 
 fn push_field(text: &mut String, field: Field) -> Result<(), AllocError>
-    ensures { OnOk result (string_bytes text.new ≡ string_bytes text.old ++ field_text field) }
+    ensures { OnOk result (Adds text.old text.new (field_text field)) }
 {
     match field {
         Field::Held(h) => push_handle(text, h),
@@ -259,7 +254,7 @@ fn push_field(text: &mut String, field: Field) -> Result<(), AllocError>
 }
 
 fn push_handle(text: &mut String, h: u32) -> Result<(), AllocError>
-    ensures { OnOk result (string_bytes text.new ≡ string_bytes text.old ++ decimal h) }
+    ensures { OnOk result (Adds text.old text.new (decimal h)) }
 {
     push_decimal(text, h as u64)
 }

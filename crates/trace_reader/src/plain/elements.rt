@@ -3,9 +3,9 @@ ghost use Rattle.std.specs.Prelude.{IfOk, IfSome};
 ghost use Rattle.trace_reader.specs.Plain.{AreElements};
 
 use crate::fault::LineCause;
+use crate::look::field;
 use crate::plain::scalars::scalar;
 use crate::plain::texts::after_spaces;
-use crate::seen::field;
 use std::alloc::{AllocError, Global};
 use trace_types::kinds::Field;
 
@@ -14,7 +14,8 @@ pub fn elements(
     alloc: Global,
     text: &[u8],
 ) -> Result<Option<(Vec<Result<Field, LineCause>>, &[u8])>, AllocError>
-    ensures { IfOk result (λ read. IfSome read (λ found. AreElements text.now found.0.items found.1.now)) }
+    ensures { IfOk result (λ read. IfSome read
+        (λ found. AreElements text.now found.0.items found.1.now)) }
 {
     let mut found = Vec::new(alloc);
     let mut rest = after_spaces(text);

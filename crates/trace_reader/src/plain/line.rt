@@ -7,8 +7,8 @@ ghost use Rattle.serde_json.specs.Data.{Data, Members, put};
 ghost use Rattle.trace_reader.specs.Looks.{IsNamed, Tells};
 ghost use Rattle.trace_reader.specs.Plain.{IsMember, IsValue, IsWalked, tokens_at};
 
-use crate::kept::{KeptElements, KeptMembers};
 use crate::lines::is_blank;
+use crate::member_slots::{KeptElements, MemberSlots};
 use crate::names::MemberName;
 use crate::plain::elements::elements;
 use crate::plain::names::key;
@@ -33,7 +33,7 @@ pub enum Walk<'a> {
 pub fn plain_members<'a>(
     alloc: Global,
     line: &'a [u8],
-    kept: &mut KeptMembers<'_>,
+    kept: &mut MemberSlots<'_>,
 ) -> Result<Walk<'a>, AllocError>
     ensures { IfOk result (λ walk. IsWalked line.now kept.old kept.new walk) }
 {
@@ -65,10 +65,11 @@ pub fn plain_members<'a>(
 fn member<'a>(
     alloc: Global,
     text: &'a [u8],
-    kept: &mut KeptMembers<'_>,
+    kept: &mut MemberSlots<'_>,
 ) -> Result<Option<&'a [u8]>, AllocError>
-    ensures { IfOk result (λ read. MatchOption read (kept.new ≡ kept.old) (λ rest. (key : List ℕ) × (d : Data)
-        × IsMember text.now key d rest.now × ((ms : Members) → Tells kept.old ms → Tells kept.new (put key d ms)))) }
+    ensures { IfOk result (λ read. MatchOption read (kept.new ≡ kept.old)
+        (λ rest. (key : List ℕ) × (d : Data) × IsMember text.now key d rest.now
+        × ((ms : Members) → Tells kept.old ms → Tells kept.new (put key d ms)))) }
 {
     let Some((name, value)) = key(text) else {
         return Ok(None);
@@ -82,6 +83,10 @@ fn is_end(text: &[u8]) -> bool
     ensures tokens { IsTrue result → tokens_at after_value text.now ≡ Token.end_object ∷ [] }
     ensures utf8 { IsTrue result → IsUtf8 text.now }
 {
+    // Most lines end with the brace.
+    if let [b'}'] = text {
+        return true;
+    }
     let [b'}', behind @ ..] = after_spaces(text) else {
         return false;
     };
@@ -94,10 +99,12 @@ fn keep<'a>(
     alloc: Global,
     text: &'a [u8],
     name: Option<MemberName>,
-    kept: &mut KeptMembers<'_>,
+    kept: &mut MemberSlots<'_>,
 ) -> Result<Option<&'a [u8]>, AllocError>
-    ensures { IfOk result (λ read. MatchOption read (kept.new ≡ kept.old) (λ rest. (d : Data) × IsValue text.now d rest.now
-        × ((key : List ℕ) (ms : Members) → IsNamed key name → Tells kept.old ms → Tells kept.new (put key d ms)))) }
+    ensures { IfOk result (λ read. MatchOption read (kept.new ≡ kept.old)
+        (λ rest. (d : Data) × IsValue text.now d rest.now
+        × ((key : List ℕ) (ms : Members) → IsNamed key name
+        → Tells kept.old ms → Tells kept.new (put key d ms)))) }
 {
     match name {
         Some(MemberName::Number(name)) => {

@@ -14,7 +14,8 @@ const LONGEST: usize = 10;
 /// The name of a member, of which the opening quote was read, or None where no operation asks for it, and what comes after its colon.
 #[inline(always)]
 pub fn key(text: &[u8]) -> Option<(Option<MemberName>, &[u8])>
-    ensures { IfSome result (λ found. (key : List ℕ) × IsNamed key found.0 × IsKey text.now key found.1.now) }
+    ensures { IfSome result (λ found. (key : List ℕ)
+        × IsNamed key found.0 × IsKey text.now key found.1.now) }
 {
     match short_member_name(text) {
         Some((name, rest)) => Some((Some(name), rest)),
@@ -45,7 +46,8 @@ fn short_member_name(text: &[u8]) -> Option<(MemberName, &[u8])>
 // Apart, since it is rare.
 #[inline(never)]
 fn other_key(text: &[u8]) -> Option<(Option<MemberName>, &[u8])>
-    ensures { IfSome result (λ found. (key : List ℕ) × IsNamed key found.0 × IsKey text.now key found.1.now) }
+    ensures { IfSome result (λ found. (key : List ℕ)
+        × IsNamed key found.0 × IsKey text.now key found.1.now) }
 {
     let (word, after) = unescaped(text)?;
     let [b':', rest @ ..] = after else {

@@ -8,7 +8,8 @@ use crate::plain::texts::is_delimited;
 /// The number that stands at the front, and what comes after it: a comma or a closing bracket.
 #[inline(always)]
 pub fn natural(text: &[u8]) -> Option<(u64, &[u8])>
-    ensures number { IfSome result (λ found. (text.now ≡ decimal found.0 ++ found.1.now) × (found.0 < 2 ^ 64)) }
+    ensures number { IfSome result
+        (λ found. (text.now ≡ decimal found.0 ++ found.1.now) × (found.0 < 2 ^ 64)) }
     ensures ended { IfSome result (λ found. IsDelimited found.1.now) }
 {
     let (n, len) = digits(text)?;
@@ -25,8 +26,10 @@ pub fn natural(text: &[u8]) -> Option<(u64, &[u8])>
 // The number that the digits at the front write, below 2^64 - 6, and how many there are.
 #[inline(always)]
 fn digits(text: &[u8]) -> Option<(u64, usize)>
-    ensures value { IfSome result (λ found. (found.0 ≡ digits_value 10 (take found.1 text.now)) × AllDigits 10 (take found.1 text.now)) }
-    ensures len { IfSome result (λ found. (0 < found.1) × (found.1 ≤ length text.now) × (found.0 < 2 ^ 64)) }
+    ensures value { IfSome result (λ found. (found.0 ≡ digits_value 10 (take found.1 text.now))
+        × AllDigits 10 (take found.1 text.now)) }
+    ensures len { IfSome result
+        (λ found. (0 < found.1) × (found.1 ≤ length text.now) × (found.0 < 2 ^ 64)) }
 {
     let mut n: u64 = 0;
     let mut len = 0;

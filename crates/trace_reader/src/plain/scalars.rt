@@ -4,10 +4,10 @@ ghost use Rattle.serde_json.specs.Data.{Data, string};
 ghost use Rattle.trace_types.specs.Names.{name_text};
 ghost use Rattle.trace_reader.specs.Plain.{IsScalar, IsValue};
 
+use crate::look::Seen;
 use crate::plain::names::op_name;
 use crate::plain::numbers::natural;
 use crate::plain::texts::{is_delimited, unescaped};
-use crate::seen::Seen;
 use trace_types::names::OpName;
 
 /// A natural number, null or the text `me`, and what comes after it.

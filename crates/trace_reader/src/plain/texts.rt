@@ -12,8 +12,20 @@ pub fn unescaped(text: &[u8]) -> Option<(&[u8], &[u8])>
     ensures quoted { IfSome result (λ found. text.now ≡ found.0.now ++ 34 ∷ found.1.now) }
     ensures plain { IfSome result (λ found. list_all is_unescaped_byte found.0.now ≡ true) }
 {
-    let whole = unescaped_blocks(text);
-    // The closing quote stands in the next block, or else a byte that isn't so: no more than that block is looked at.
+    // Most names and texts end in their first block.
+    match closed_behind(text, 0) {
+        Some(found) => Some(found),
+        None => closed_behind(text, unescaped_blocks(text)),
+    }
+}
+
+// The same, where the closing quote stands in the block behind so many bytes that stand for themselves.
+fn closed_behind(text: &[u8], whole: usize) -> Option<(&[u8], &[u8])>
+    requires within { whole ≤ length text.now }
+    requires plain { list_all is_unescaped_byte (take whole text.now) ≡ true }
+    ensures quoted { IfSome result (λ found. text.now ≡ found.0.now ++ 34 ∷ found.1.now) }
+    ensures plain { IfSome result (λ found. list_all is_unescaped_byte found.0.now ≡ true) }
+{
     let last = &text[whole..text.len().min(whole.saturating_add(BLOCK))];
     let len = quote(last)?;
     if !is_unescaped(&last[..len]) {
@@ -38,12 +50,17 @@ fn unescaped_blocks(text: &[u8]) -> usize
     end
 }
 
-// Where the first quote stands.
+// Where the first quote stands, if no backslash is before it.
+// It looks for both bytes, since LLVM inlines `memchr` where lines are cut only if nothing else calls it.
 #[inline(always)]
 fn quote(text: &[u8]) -> Option<usize>
     ensures { IfSome result (λ at. (at < length text.now) × (get_or text.now at 0 ≡ 34)) }
 {
-    memchr::memchr(b'"', text)
+    let at = memchr::memchr2(b'"', b'\\', text)?;
+    if text[at] != b'"' {
+        return None;
+    }
+    Some(at)
 }
 
 // Whether a text is of ASCII, and stands for itself between quotes. It goes on behind a byte that isn't so, since vectors can't stop.
@@ -83,7 +100,8 @@ pub fn is_delimited(text: &[u8]) -> bool
 // Apart, since few write a space there.
 #[inline(never)]
 fn closes(text: &[u8]) -> bool
-    ensures { IsTrue result → (0 < length text.now) × ((get_or text.now 0 0 ≡ 93) ⊎ (get_or text.now 0 0 ≡ 125)) }
+    ensures { IsTrue result → (0 < length text.now)
+        × ((get_or text.now 0 0 ≡ 93) ⊎ (get_or text.now 0 0 ≡ 125)) }
 {
     let [first, _after @ ..] = text else {
         return false;

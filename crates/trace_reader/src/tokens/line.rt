@@ -6,7 +6,7 @@ ghost use Rattle.trace_reader.specs.Reading.{json_of};
 ghost use Rattle.trace_reader.specs.declared.fault.LineCause.TheVariants.{NotJson};
 ghost use Rattle.trace_reader.specs.Looks.{Tells, is_object, read_tokens, members_from, json_from};
 
-use crate::kept::KeptMembers;
+use crate::member_slots::MemberSlots;
 use crate::tokens::object::{glance, read_members};
 use json::{Reader, Scratch, Token};
 use std::alloc::Global;
@@ -28,10 +28,11 @@ pub fn line_members<'a>(
     alloc: Global,
     line: &'a [u8],
     scratch: &'a mut Scratch,
-    kept: &mut KeptMembers<'a>,
+    kept: &mut MemberSlots<'a>,
 ) -> Result<bool, Unread>
     ensures ok { IfOk result (λ b. MatchBool b
-        ((ms : Members) × (json_of line.now ≡ Ok (object ms)) × (Tells kept.old no_members → Tells kept.new ms))
+        ((ms : Members) × (json_of line.now ≡ Ok (object ms))
+        × (Tells kept.old no_members → Tells kept.new ms))
         ((d : Data) × (json_of line.now ≡ Ok d) × (is_object d ≡ false))) }
     ensures err { IsErrOf result Unread.Refused → json_of line.now ≡ Err NotJson }
 {
@@ -50,10 +51,13 @@ pub fn rest_members<'a>(
     alloc: Global,
     rest: &'a [u8],
     scratch: &'a mut Scratch,
-    kept: &mut KeptMembers<'a>,
+    kept: &mut MemberSlots<'a>,
 ) -> Result<(), Unread>
-    ensures ok { OnOk result ((before : Members) → (ms : Members) × (json_from before rest.now ≡ Ok (object ms)) × (Tells kept.old before → Tells kept.new ms)) }
-    ensures err { IsErrOf result Unread.Refused → (before : Members) → json_from before rest.now ≡ Err NotJson }
+    ensures ok { OnOk result ((before : Members) → (ms : Members)
+        × (json_from before rest.now ≡ Ok (object ms))
+        × (Tells kept.old before → Tells kept.new ms)) }
+    ensures err { IsErrOf result Unread.Refused
+        → (before : Members) → json_from before rest.now ≡ Err NotJson }
 {
     let Ok(text) = simdutf8::basic::from_utf8(rest) else {
         return Err(Unread::Refused);
@@ -69,10 +73,13 @@ pub fn rest_members<'a>(
 fn last_members<'a>(
     alloc: Global,
     reader: &mut Reader<'a>,
-    kept: &mut KeptMembers<'a>,
+    kept: &mut MemberSlots<'a>,
 ) -> Result<(), Unread>
-    ensures ok { OnOk result ((before : Members) → (ms : Members) × (members_from before reader.old ≡ Some ms) × (Tells kept.old before → Tells kept.new ms)) }
-    ensures err { IsErrOf result Unread.Refused → (before : Members) → members_from before reader.old ≡ None }
+    ensures ok { OnOk result ((before : Members) → (ms : Members)
+        × (members_from before reader.old ≡ Some ms)
+        × (Tells kept.old before → Tells kept.new ms)) }
+    ensures err { IsErrOf result Unread.Refused
+        → (before : Members) → members_from before reader.old ≡ None }
 {
     read_members(alloc, reader, MAX_DEPTH - 1, kept)?;
     if let Some(_) = reader.next() {
@@ -85,10 +92,11 @@ fn last_members<'a>(
 fn whole<'a>(
     alloc: Global,
     reader: &mut Reader<'a>,
-    kept: &mut KeptMembers<'a>,
+    kept: &mut MemberSlots<'a>,
 ) -> Result<bool, Unread>
     ensures ok { IfOk result (λ b. MatchBool b
-        ((ms : Members) × (read_tokens reader.old ≡ Some (object ms)) × (Tells kept.old no_members → Tells kept.new ms))
+        ((ms : Members) × (read_tokens reader.old ≡ Some (object ms))
+        × (Tells kept.old no_members → Tells kept.new ms))
         ((d : Data) × (read_tokens reader.old ≡ Some d) × (is_object d ≡ false))) }
     ensures err { IsErrOf result Unread.Refused → read_tokens reader.old ≡ None }
 {

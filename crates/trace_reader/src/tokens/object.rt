@@ -1,17 +1,16 @@
 //! The members of an object, as far as an operation asks of them.
 ghost use Rattle.std.specs.Prelude.{◌≡◌, ◌<◌, ℕ, List, length, Some, None, Ok, Err, IfOk, OnOk, OnSome, IsErrOf, MatchOption, false, ◌∷◌, ◌≤◌, true};
-ghost use Rattle.json.specs.Json.{value, items, members};
 ghost use Rattle.json.specs.Reads.{token_of};
 ghost use Rattle.serde_json.specs.Data.{Data, Items, Members, put};
-ghost use Rattle.serde_json.specs.Read.{of_json, of_items, of_members, converted};
 ghost use Rattle.trace_reader.specs.Members.{field_of};
 ghost use Rattle.trace_reader.specs.Looks.{told, look_of, elements_of, listed, elements_told, IsNamed, Tells};
 ghost use Rattle.trace_reader.specs.Looks.{field_told, opens_array, opens_object, is_object, is_array};
+ghost use Rattle.trace_reader.specs.Looks.{first_value, first_items, first_members};
 
 use crate::fault::LineCause;
-use crate::kept::{KeptElements, KeptMembers};
+use crate::look::{Seen, field};
+use crate::member_slots::{KeptElements, MemberSlots};
 use crate::names::{MemberName, member_name};
-use crate::seen::{Seen, field};
 use crate::tokens::line::Unread;
 use crate::tokens::numbers::natural;
 use crate::tokens::pass::{pass, pass_items, pass_members};
@@ -23,10 +22,13 @@ use trace_types::kinds::Field;
 // size would go through memory at each member.
 #[inline(always)]
 pub fn glance<'a>(reader: &mut Reader<'a>, token: Token<'a>, depth: usize) -> Option<Seen<'a>>
-    ensures value { MatchOption result (converted of_json (value depth (token_of token.entry ∷ reader.old)) ≡ None)
-        (λ s. (d : Data) × (converted of_json (value depth (token_of token.entry ∷ reader.old)) ≡ Some (d, reader.new))
+    ensures value { MatchOption result
+        (first_value depth (token_of token.entry ∷ reader.old) ≡ None)
+        (λ s. (d : Data)
+        × (first_value depth (token_of token.entry ∷ reader.old) ≡ Some (d, reader.new))
         × (told s ≡ look_of d) × (field_of true d ≡ field_told (look_of d))
-        × (is_object d ≡ opens_object (token_of token.entry)) × (is_array d ≡ opens_array (token_of token.entry))) }
+        × (is_object d ≡ opens_object (token_of token.entry))
+        × (is_array d ≡ opens_array (token_of token.entry))) }
     ensures shorter { OnSome result (length reader.new ≤ length reader.old) }
 {
     match token {
@@ -65,8 +67,8 @@ pub fn glance<'a>(reader: &mut Reader<'a>, token: Token<'a>, depth: usize) -> Op
 // What a value is seen as.
 #[inline(always)]
 fn see<'a>(reader: &mut Reader<'a>, depth: usize) -> Option<Seen<'a>>
-    ensures value { MatchOption result (converted of_json (value depth reader.old) ≡ None)
-        (λ s. (d : Data) × (converted of_json (value depth reader.old) ≡ Some (d, reader.new))
+    ensures value { MatchOption result (first_value depth reader.old ≡ None)
+        (λ s. (d : Data) × (first_value depth reader.old ≡ Some (d, reader.new))
         × (told s ≡ look_of d) × (field_of true d ≡ field_told (look_of d))) }
     ensures shorter { OnSome result (length reader.new < length reader.old) }
 {
@@ -78,8 +80,9 @@ fn see<'a>(reader: &mut Reader<'a>, depth: usize) -> Option<Seen<'a>>
 
 // The field that an element is in `new_cyclic`, or its fault; None where the element is refused.
 fn element(reader: &mut Reader<'_>, depth: usize) -> Option<Result<Field, LineCause>>
-    ensures value { MatchOption result (converted of_json (value depth reader.old) ≡ None)
-        (λ r. (d : Data) × (converted of_json (value depth reader.old) ≡ Some (d, reader.new)) × (field_of true d ≡ r)) }
+    ensures value { MatchOption result (first_value depth reader.old ≡ None)
+        (λ r. (d : Data) × (first_value depth reader.old ≡ Some (d, reader.new))
+        × (field_of true d ≡ r)) }
     ensures shorter { OnSome result (length reader.new < length reader.old) }
 {
     let Some(seen) = see(reader, depth) else {
@@ -94,9 +97,10 @@ fn elements(
     reader: &mut Reader<'_>,
     depth: usize,
 ) -> Result<Vec<Result<Field, LineCause>>, Unread>
-    ensures ok { IfOk result (λ v. (ds : Items) × (converted of_items (items (value depth) (length reader.old) reader.old) ≡ Some (ds, reader.new)) × (elements_of ds ≡ v.items)) }
+    ensures ok { IfOk result (λ v. (ds : Items)
+        × (first_items depth reader.old ≡ Some (ds, reader.new)) × (elements_of ds ≡ v.items)) }
     ensures shorter { OnOk result (length reader.new < length reader.old) }
-    ensures err { IsErrOf result Unread.Refused → converted of_items (items (value depth) (length reader.old) reader.old) ≡ None }
+    ensures err { IsErrOf result Unread.Refused → first_items depth reader.old ≡ None }
 {
     let mut found = Vec::new(alloc);
     'items: while !reader.take_end_array() {
@@ -112,10 +116,11 @@ fn elements(
 
 // What is kept of the member `fields`.
 fn fields(alloc: Global, reader: &mut Reader<'_>, depth: usize) -> Result<KeptElements, Unread>
-    ensures ok { IfOk result (λ f. (d : Data) × (converted of_json (value depth reader.old) ≡ Some (d, reader.new))
+    ensures ok { IfOk result (λ f. (d : Data)
+        × (first_value depth reader.old ≡ Some (d, reader.new))
         × (elements_told f ≡ Some (listed d))) }
     ensures shorter { OnOk result (length reader.new < length reader.old) }
-    ensures err { IsErrOf result Unread.Refused → converted of_json (value depth reader.old) ≡ None }
+    ensures err { IsErrOf result Unread.Refused → first_value depth reader.old ≡ None }
 {
     let Some(token) = reader.next() else {
         return Err(Unread::Refused);
@@ -139,12 +144,13 @@ fn keep<'a>(
     reader: &mut Reader<'a>,
     depth: usize,
     name: Option<MemberName>,
-    kept: &mut KeptMembers<'a>,
+    kept: &mut MemberSlots<'a>,
 ) -> Result<(), Unread>
-    ensures ok { OnOk result ((d : Data) × (converted of_json (value depth reader.old) ≡ Some (d, reader.new))
-        × ((key : List ℕ) (ms : Members) → IsNamed key name → Tells kept.old ms → Tells kept.new (put key d ms))) }
+    ensures ok { OnOk result ((d : Data) × (first_value depth reader.old ≡ Some (d, reader.new))
+        × ((key : List ℕ) (ms : Members) → IsNamed key name
+        → Tells kept.old ms → Tells kept.new (put key d ms))) }
     ensures shorter { OnOk result (length reader.new < length reader.old) }
-    ensures err { IsErrOf result Unread.Refused → converted of_json (value depth reader.old) ≡ None }
+    ensures err { IsErrOf result Unread.Refused → first_value depth reader.old ≡ None }
 {
     match name {
         Some(MemberName::Number(name)) => match see(reader, depth) {
@@ -168,12 +174,13 @@ pub fn read_members<'a>(
     alloc: Global,
     reader: &mut Reader<'a>,
     depth: usize,
-    kept: &mut KeptMembers<'a>,
+    kept: &mut MemberSlots<'a>,
 ) -> Result<(), Unread>
-    ensures ok { OnOk result ((old : Members) → (ms : Members) × (converted (λ js. of_members js old)
-        (members (value depth) (length reader.old) reader.old) ≡ Some (ms, reader.new)) × (Tells kept.old old → Tells kept.new ms)) }
-    ensures err { IsErrOf result Unread.Refused → (old : Members) → converted (λ js. of_members js old)
-        (members (value depth) (length reader.old) reader.old) ≡ None }
+    ensures ok { OnOk result ((old : Members) → (ms : Members)
+        × (first_members old depth reader.old ≡ Some (ms, reader.new))
+        × (Tells kept.old old → Tells kept.new ms)) }
+    ensures err { IsErrOf result Unread.Refused
+        → (old : Members) → first_members old depth reader.old ≡ None }
 {
     'members: loop {
         match reader.next_key() {

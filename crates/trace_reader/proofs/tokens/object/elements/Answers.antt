@@ -2,9 +2,8 @@ use Rattle.std.proofs.Common.{◌≡◌, ◌-◌, ◌<◌, [], ◌∷◌, ◌++�
 use Rattle.json.specs.Json.{value, parse_map, after_end_array}
 use Rattle.json.proofs.Grammar.{after_end_array-shorter}
 use Rattle.serde_json.specs.Data.{no_items, item}
-use Rattle.serde_json.specs.Read.{of_json, converted}
 use Rattle.trace_reader.specs.Members.{field_of}
-use Rattle.trace_reader.specs.Looks.{elements_of}
+use Rattle.trace_reader.specs.Looks.{elements_of, first_value}
 use Rattle.trace_reader.proofs.Turns.{item_refused, item_read, items_over}
 use Rattle.trace_reader.proofs.Endings.{mapped_before, nothing_before, one_element, no_element}
 use Rattle.trace_reader.proofs.tokens.object.elements.Goals as goal
@@ -16,7 +15,7 @@ pub returns-in_default-clause-err : goal.returns-in_default-clause-err
 returns-in_default-clause-err c refused =
     let l = c.items in
     let going : (after_end_array l.reader ≡ None) × (c.take_end_array.new.self ≡ l.reader) = grind arith in
-    let none : converted of_json (value c.args.depth c.take_end_array.new.self) ≡ None = grind arith in
+    let none : first_value c.args.depth c.take_end_array.new.self ≡ None = grind arith in
     l.invariant.3 ∙ ap (parse_map l.invariant.2) (item_refused (value c.args.depth) l.invariant.0 l.reader going.0 (rw (← going.1) none))
 
 pub items-preserved : goal.items-preserved

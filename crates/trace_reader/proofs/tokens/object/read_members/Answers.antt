@@ -2,7 +2,7 @@ use Rattle.std.proofs.Common.{◌≡◌, ◌-◌, ◌<◌, length, Some, None, r
 use Rattle.json.specs.Json.{value, read_key}
 use Rattle.json.proofs.Grammar.{read_key-shorter}
 use Rattle.serde_json.specs.Data.{Members, put}
-use Rattle.serde_json.specs.Read.{of_json, converted}
+use Rattle.trace_reader.specs.Looks.{first_value}
 use Rattle.trace_reader.proofs.Turns.{member_refused, key_refused, member_read, members_over}
 use Rattle.trace_reader.proofs.tokens.object.read_members.Goals as goal
 
@@ -15,7 +15,7 @@ returns-in_err-keep-in-Ok-Some-clause-err c refused = λ (old : Members).
     let s = c.next_key.new.self in
     let k = c.in-Ok-Some.key.now in
     let named : read_key l.reader ≡ Some (Some k, s) = grind arith in
-    let none : converted of_json (value c.args.depth s) ≡ None = c.keep.ensures.err (grind arith) in
+    let none : first_value c.args.depth s ≡ None = c.keep.ensures.err (grind arith) in
     l.invariant.3 old ∙ member_refused (value c.args.depth) (l.invariant.2 old) l.invariant.0 k l.reader s named none
 
 pub members-preserved : goal.members-preserved

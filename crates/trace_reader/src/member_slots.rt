@@ -1,4 +1,4 @@
-//! What is kept of an object's members: a place for each name that an operation may ask for.
+//! What is kept of an object's members: a slot for each name that an operation may ask for.
 ghost use Rattle.std.specs.Prelude.{◌≡◌, Some, codes};
 ghost use Rattle.serde_json.specs.Data.{Data, Members, no_members, put, string};
 ghost use Rattle.trace_types.specs.Names as Names;
@@ -6,8 +6,8 @@ ghost use Rattle.trace_reader.specs.Looks.{told, look_of, listed, number_text, n
 ghost use Rattle.trace_reader.specs.Looks.{op_told, elements_told, kept_at, Tells};
 
 use crate::fault::LineCause;
+use crate::look::Seen;
 use crate::names::{NUMBERS, NumberName, place};
-use crate::seen::Seen;
 use trace_types::kinds::Field;
 use trace_types::names::OpName;
 
@@ -46,18 +46,18 @@ pub enum KeptElements {
 
 /// What is kept of an object's members. Of two of one name the later one counts, and of other names nothing is kept.
 #[derive(Debug, Drop)]
-pub struct KeptMembers<'a> {
+pub struct MemberSlots<'a> {
     numbers: [KeptNumber; NUMBERS],
     pub op: KeptText<'a>,
     pub fields: KeptElements,
 }
 
-impl<'a> KeptMembers<'a> {
+impl<'a> MemberSlots<'a> {
     /// No member is there.
-    pub fn none() -> KeptMembers<'a>
+    pub fn none() -> MemberSlots<'a>
         ensures { Tells result no_members }
     {
-        KeptMembers {
+        MemberSlots {
             numbers: [KeptNumber::Missing; NUMBERS],
             op: KeptText::Missing,
             fields: KeptElements::Missing,
@@ -89,14 +89,16 @@ impl<'a> KeptMembers<'a> {
 
     /// Keeps `op`, a text that names an operation.
     pub fn keep_op_name(&mut self, name: OpName)
-        ensures { (ms : Members) → Tells self.old ms → Tells self.new (put (codes "op") (string (Names.name_text name)) ms) }
+        ensures { (ms : Members) → Tells self.old ms
+            → Tells self.new (put (codes "op") (string (Names.name_text name)) ms) }
     {
         self.op = KeptText::Named(name);
     }
 
     /// Keeps `fields`.
     pub fn keep_fields(&mut self, elements: KeptElements)
-        ensures { (ms : Members) (d : Data) → Tells self.old ms → elements_told elements ≡ Some (listed d)
+        ensures { (ms : Members) (d : Data) → Tells self.old ms
+            → elements_told elements ≡ Some (listed d)
             → Tells self.new (put (codes "fields") d ms) }
     {
         self.fields = elements;

@@ -2,7 +2,7 @@ use Rattle.std.proofs.Common.{◌<◌, length, ap, ◌∙◌, arith}
 use Rattle.std.proofs.Math.ListN.{set}
 use Rattle.trace_reader.specs.Looks.{place, number_of_look}
 use Rattle.trace_reader.proofs.Tables.{Tells-number}
-use Rattle.trace_reader.proofs.kept.KeptMembers.keep_number.Goals as goal
+use Rattle.trace_reader.proofs.member_slots.MemberSlots.keep_number.Goals as goal
 
 pub returns : goal.returns
 returns c ms d tells seen =
