@@ -256,7 +256,7 @@ module _ (m : State) (o i : ℕ) (s : Slot) (fields slots : List Slot) (d : Slot
 
 -- one change of several
 module _ (m n : State) (changes : List Change) (i : ℕ) (x : Change) (within : i < length changes) (is : x ≡ get_or changes i x) (made : n ≡ changed_by m x) where
-  first_change : drop i changes ≡ x ∷ drop (i + 1) changes
+  pub first_change : drop i changes ≡ x ∷ drop (i + 1) changes
   first_change = drop-cons changes i x within ∙ ap (λ (y : Change). y ∷ drop (suc i) changes) (sym is) ∙ ap (λ k. x ∷ drop k changes) (sym (add-one i))
 
   pub can_first : CanChange m (drop i changes) → CanBeDone m x

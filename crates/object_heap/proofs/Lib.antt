@@ -5,6 +5,7 @@ pub mod GainLemmas
 pub mod PendingLemmas
 pub mod DropLemmas
 pub mod ReleaseLemmas
+pub mod ToldLemmas
 pub mod LinkLemmas
 pub mod ViewLemmas
 pub mod TableLemmas

@@ -4,9 +4,10 @@ use Rattle.std.proofs.lemmas.List.{append-nil}
 use Rattle.trace_types.specs.declared.slots.Item.{Item}
 use Rattle.trace_types.specs.declared.outcomes.Event.{Event}
 use Rattle.ownership_model.specs.Falling.{CascadesTo}
-use Rattle.ownership_model.proofs.LawsHold.{in_turn, cascade}
+use Rattle.ownership_model.proofs.LawsHold.{in_turn, cascade, footprints}
 use Rattle.ownership_model.specs.State.{State, IsSound}
 use Rattle.ownership_model.specs.Release.{drop_first, Released, after, release, work}
+use Rattle.ownership_model.specs.Footprint.{taken}
 use Rattle.object_heap.specs.declared.draft.Draft.{Draft}
 use Rattle.object_heap.specs.Counted.{drafted}
 use Rattle.object_heap.specs.Drops.{DropsFirst}
@@ -35,6 +36,13 @@ module _ (old new : Draft) (x : Item) (xs whole left : List Item) (before told :
       ∙ ap (λ (es : List Event). after es (release d.state d.pending)) dropped.step.events
       ∙ after-after before d.events (release d.state d.pending)
       ∙ ap (λ (r : Released). after before r) (sym (in_turn.first (drafted old) x xs) ∙ ap (λ (p : List Item). release (drafted old) p) (sym first))
+
+  -- the item is the first of all that the cascade drops
+  pub taken_next : taken (drafted old) whole ≡ x ∷ taken (drafted new) left
+  taken_next =
+      let d = drop_first (drafted old) x xs in
+      let rest : taken (drafted new) left ≡ taken d.state d.pending = ap (λ (p : List Item). taken (drafted new) p) dropped.step.pending ∙ ap (λ (m : State). taken m d.pending) dropped.step.state in
+      ap (λ (p : List Item). taken (drafted old) p) first ∙ footprints.first_taken (drafted old) x xs ∙ ap (λ (ys : List Item). x ∷ ys) (sym rest)
 
 -- nothing is left
 pub release_end : (m : State) (before told : List Event) (left : List Item) (r : Released) → after told (release m left) ≡ after before r → left ≡ [] → (m ≡ r.state) × (told ≡ before ++ r.events)

@@ -3,6 +3,7 @@ pub mod StateCode
 pub mod Counted
 pub mod Gains
 pub mod Drops
+pub mod Told
 pub mod Links
 pub mod HandlesView
 pub mod Exchange

@@ -1,5 +1,5 @@
 //! What letting go sets off: what is pending is dropped, one item after another.
-ghost use Rattle.std.specs.Prelude.{◌≡◌, ◌∷◌, ◌++◌, [], true, OnOk, ◌<◌, ◌^◌, ◌&&◌, ◌==◌, length};
+ghost use Rattle.std.specs.Prelude.{◌≡◌, ◌∷◌, ◌++◌, [], true, OnOk, ◌<◌, ◌^◌, ◌&&◌, ◌==◌, length, flat_map};
 ghost use Rattle.std.specs.Option.{option_copied};
 ghost use Rattle.std.specs.FinMap as map;
 ghost use Rattle.trace_types.specs.declared.slots.Item.TheVariants as item;
@@ -7,15 +7,19 @@ ghost use Rattle.trace_types.specs.declared.slots.Slot.TheVariants as slot;
 ghost use Rattle.ownership_model.specs.State.{State, is_alive, IsSound};
 ghost use Rattle.ownership_model.specs.Release.{release, after, drops, fall, is_husk, left_by, Becomes, Goes};
 ghost use Rattle.ownership_model.specs.Bounds.{IsBounded};
+ghost use Rattle.ownership_model.specs.Footprint.{item_keys, taken};
 ghost use Rattle.object_heap.specs.Counted.{drafted, IsCounted};
 ghost use Rattle.object_heap.specs.TableView.{counters_at};
 ghost use Rattle.object_heap.specs.Drops.{DropsFirst};
+ghost use Rattle.object_heap.specs.Told.{at_once};
 ghost use Rattle.object_heap.specs.Gains.{IsSetAt};
 
 use crate::counters::hold_item;
 use crate::draft::Draft;
 use crate::object::{Counters, counters_of, entry_of};
+use crate::told::tell_item;
 use crate::weight::added;
+use ownership_model::Key;
 use std::alloc::{AllocError, Global};
 use std::collections::VecDeque;
 use trace_types::outcomes::Event;
@@ -38,6 +42,7 @@ impl Draft {
         ensures rest { OnOk result (after events.new.items (release (drafted self.new) pending.new.items) ≡ after events.old.items (release (drafted self.old) items.now)) }
         ensures sound { OnOk result (IsSound (drafted self.new) pending.new.items) }
         ensures counted { OnOk result (IsCounted self.new.objects.counts (drafted self.new) pending.new.items) }
+        ensures taken { OnOk result (taken (drafted self.old) items.now ≡ at_once items.now ++ taken (drafted self.new) pending.new.items) }
     {
         if let Some((Item::Slot(Slot::Strong(object)), rest)) = items.split_first() {
             self.add_all(alloc, rest, pending)?;
@@ -99,6 +104,29 @@ impl Draft {
         ensures counted { OnOk result (IsCounted self.new.objects.counts (drafted self.new) []) }
     {
         while let Some(item) = pending.pop_front() {
+            self.drop_item(alloc, item, pending, events)?;
+        }
+        Ok(())
+    }
+
+    /// As `release`, and tells the object of each item that is dropped. Where memory runs out the keys are unspecified, too.
+    pub fn release_told(
+        &mut self,
+        alloc: Global,
+        pending: &mut VecDeque<Item>,
+        events: &mut Vec<Event>,
+        keys: &mut Vec<Key>,
+    ) -> Result<(), AllocError>
+        requires sound { IsSound (drafted self.old) pending.old.items }
+        requires counted { IsCounted self.old.objects.counts (drafted self.old) pending.old.items }
+        ensures state { OnOk result (drafted self.new ≡ (release (drafted self.old) pending.old.items).state) }
+        ensures events { OnOk result (events.new.items ≡ events.old.items ++ (release (drafted self.old) pending.old.items).events) }
+        ensures sound { OnOk result (IsSound (drafted self.new) []) }
+        ensures counted { OnOk result (IsCounted self.new.objects.counts (drafted self.new) []) }
+        ensures told { OnOk result (keys.new.items ≡ keys.old.items ++ flat_map item_keys (taken (drafted self.old) pending.old.items)) }
+    {
+        while let Some(item) = pending.pop_front() {
+            tell_item(item, keys)?;
             self.drop_item(alloc, item, pending, events)?;
         }
         Ok(())

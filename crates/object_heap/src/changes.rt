@@ -1,5 +1,5 @@
 //! The changes of a state, with the counts of its slots.
-ghost use Rattle.std.specs.Prelude.{◌≡◌, OnOk, []};
+ghost use Rattle.std.specs.Prelude.{◌≡◌, ◌++◌, OnOk, []};
 ghost use Rattle.std.specs.Option.{option_copied, option_map_or};
 ghost use Rattle.std.specs.FinMap as map;
 ghost use Rattle.trace_types.specs.declared.slots.Change.TheVariants as change;
@@ -8,6 +8,7 @@ ghost use Rattle.ownership_model.specs.Changes.{HasField, CanBeDone, CanChange, 
 ghost use Rattle.ownership_model.specs.Bounds.{IsBounded, HoldingFits, AreFew, ChangeFits, ChangesFit};
 ghost use Rattle.object_heap.specs.Counted.{drafted, IsCounted};
 ghost use Rattle.object_heap.specs.NamesCounted.{AreNamesCounted};
+ghost use Rattle.object_heap.specs.Told.{changes_keys};
 ghost use Rattle.object_heap.specs.Gains.{Changes, CountsMore, HasRoom, HasSlots};
 
 use crate::counters::{hold, hold_all, hold_holding, let_go, let_go_holding, let_go_object};
@@ -15,6 +16,7 @@ use crate::draft::Draft;
 use crate::object::{SetField, counters_of, entry_of};
 use crate::objects::Objects;
 use crate::weight::added;
+use ownership_model::Key;
 use std::alloc::{AllocError, Global};
 use trace_types::sequence::Sequence;
 use trace_types::slots::{Change, Entry, Holding, Slot};
@@ -31,6 +33,29 @@ impl Draft {
         ensures bounded { OnOk result (IsBounded (drafted self.new)) }
     {
         for change in changes {
+            self.change(alloc, change)?;
+        }
+        Ok(())
+    }
+
+    /// As `apply`, and tells what each change sets and moves. Where memory runs out the keys are unspecified, too.
+    pub fn apply_told(
+        &mut self,
+        alloc: Global,
+        changes: &[Change],
+        keys: &mut Vec<Key>,
+    ) -> Result<(), AllocError>
+        requires counted { IsCounted self.old.objects.counts (drafted self.old) [] }
+        requires bounded { IsBounded (drafted self.old) }
+        requires can { CanChange (drafted self.old) changes.now }
+        requires fits { ChangesFit changes.now }
+        ensures state { OnOk result (drafted self.new ≡ changed (drafted self.old) changes.now) }
+        ensures counted { OnOk result (IsCounted self.new.objects.counts (drafted self.new) []) }
+        ensures bounded { OnOk result (IsBounded (drafted self.new)) }
+        ensures told { OnOk result (keys.new.items ≡ keys.old.items ++ changes_keys (drafted self.old) changes.now) }
+    {
+        for change in changes {
+            self.tell_change(change, keys)?;
             self.change(alloc, change)?;
         }
         Ok(())

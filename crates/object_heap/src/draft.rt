@@ -1,15 +1,18 @@
 //! A state that is being changed, with the counts of its slots and of what is pending.
-ghost use Rattle.std.specs.Prelude.{◌≡◌, ◌↔◌, OnOk, IfOk, IsTrue};
+ghost use Rattle.std.specs.Prelude.{◌≡◌, ◌↔◌, ◌++◌, OnOk, IfOk, IsTrue};
 ghost use Rattle.std.specs.FinMap as map;
 ghost use Rattle.ownership_model.specs.State.{nothing_held, IsSound};
 ghost use Rattle.ownership_model.specs.Bounds.{ChangesFit};
 ghost use Rattle.ownership_model.specs.Changes.{changed, CanChange};
 ghost use Rattle.ownership_model.specs.Release.{release};
 ghost use Rattle.object_heap.specs.Counted.{drafted, IsKept};
+ghost use Rattle.object_heap.specs.Told.{release_keys};
 
 use crate::handles::Handles;
 use crate::objects::Objects;
 use crate::summed::Summed;
+use crate::told::tell_at_once;
+use ownership_model::Key;
 use std::alloc::{AllocError, Global};
 use std::collections::VecDeque;
 use trace_types::outcomes::Event;
@@ -67,6 +70,33 @@ impl Draft {
         let mut events = Vec::new(alloc);
         self.begin(alloc, pending, work, &mut events)?;
         self.release(alloc, work, &mut events)?;
+        Ok(events)
+    }
+
+    /// As `carry_out`, and tells what changes set and move, and what is then dropped. Where memory runs out the keys are unspecified, too.
+    pub fn carry_out_told(
+        &mut self,
+        alloc: Global,
+        work: &mut VecDeque<Item>,
+        changes: &[Change],
+        pending: &[Item],
+        keys: &mut Vec<Key>,
+    ) -> Result<Vec<Event>, AllocError>
+        requires kept { IsKept self.old }
+        requires can { CanChange (drafted self.old) changes.now }
+        requires fits { ChangesFit changes.now }
+        requires sound { IsSound (changed (drafted self.old) changes.now) pending.now }
+        ensures kept { OnOk result (IsKept self.new) }
+        ensures state { OnOk result (drafted self.new ≡ (release (changed (drafted self.old) changes.now) pending.now).state) }
+        ensures events { IfOk result (λ v. v.items ≡ (release (changed (drafted self.old) changes.now) pending.now).events) }
+        ensures told { OnOk result (keys.new.items ≡ keys.old.items ++ release_keys (drafted self.old) changes.now pending.now) }
+    {
+        self.apply_told(alloc, changes, keys)?;
+        work.clear();
+        let mut events = Vec::new(alloc);
+        tell_at_once(pending, keys)?;
+        self.begin(alloc, pending, work, &mut events)?;
+        self.release_told(alloc, work, &mut events, keys)?;
         Ok(events)
     }
 

@@ -1,5 +1,5 @@
 //! The heap of a traced program at one moment.
-ghost use Rattle.std.specs.Prelude.{◌≡◌, ◌↔◌, [], true, not, IfOk, OnOk, OnErr, IsTrue};
+ghost use Rattle.std.specs.Prelude.{◌≡◌, ◌↔◌, ◌++◌, [], true, not, IfOk, OnOk, OnErr, IsTrue};
 ghost use Rattle.std.specs.Option.{option_copied};
 ghost use Rattle.std.specs.FinMap as map;
 ghost use Rattle.ownership_model.specs.State.{nothing_held, strong, weak, IsSound};
@@ -12,11 +12,14 @@ ghost use Rattle.ownership_model.specs.Agrees.{HaveSameRoots};
 ghost use Rattle.ownership_model.specs.declared.link.Link.TheVariants.{StrongOrWeak};
 ghost use Rattle.ownership_model.specs.Reach.{has, is_reached, IsClosed};
 ghost use Rattle.ownership_model.specs.Patch.{patched};
+ghost use Rattle.ownership_model.specs.Alike.{Covers};
 ghost use Rattle.object_heap.specs.Exchange.{AreWithinLimits};
+ghost use Rattle.object_heap.specs.Told.{release_keys};
 ghost use Rattle.object_heap.specs.Links.{first_of, earlier_in};
 
 use crate::draft::Draft;
 use crate::object::Counters;
+use ownership_model::Key;
 use ownership_model::remaining::Remaining;
 use share_tree::ShareTree;
 use std::alloc::{AllocError, Global};
@@ -286,6 +289,39 @@ impl Heap {
         ensures err { OnErr result (self.new ≡ nothing_held) }
     {
         match self.draft.carry_out(alloc, work, changes, pending) {
+            Ok(events) => Ok(Sequence::from_vec(events)),
+            Err(error) => {
+                self.draft.let_go();
+                Err(error)
+            }
+        }
+    }
+
+    /// As `release_on`, and tells what is touched and moved: the places that the changes set, the objects named by slots that they move, and
+    /// those of all items that are dropped. Keys that are told already stay.
+    ///
+    /// It may tell more than that, and the same key more than once.
+    pub fn release_told(
+        &mut self,
+        alloc: Global,
+        work: &mut VecDeque<Item>,
+        changes: &[Change],
+        pending: &[Item],
+        keys: &mut Vec<Key>,
+    ) -> Result<Sequence<Event>, AllocError>
+        requires can { CanChange self.old changes.now }
+        requires fits { ChangesFit changes.now }
+        requires sound { IsSound (changed self.old changes.now) pending.now }
+        ensures state { OnOk result (self.new ≡ (release (changed self.old changes.now) pending.now).state) }
+        ensures events { IfOk result (λ events. events ≡ (release (changed self.old changes.now) pending.now).events) }
+        ensures cascade { IfOk result (λ events. CascadesTo (changed self.old changes.now) self.new events) }
+        ensures told { OnOk result (Covers keys.new.items (keys.old.items ++ release_keys self.old changes.now pending.now)) }
+        ensures err { OnErr result (self.new ≡ nothing_held) }
+    {
+        match self
+            .draft
+            .carry_out_told(alloc, work, changes, pending, keys)
+        {
             Ok(events) => Ok(Sequence::from_vec(events)),
             Err(error) => {
                 self.draft.let_go();

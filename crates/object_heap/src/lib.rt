@@ -17,6 +17,7 @@ mod ranks;
 pub mod reach;
 mod summed;
 mod table;
+mod told;
 mod weight;
 
 pub use heap::Heap;
