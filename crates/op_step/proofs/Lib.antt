@@ -2,3 +2,4 @@ mod MeterLemmas
 mod NameLemmas
 mod ScopeLemmas
 mod StepLemmas
+mod ToldLemmas

@@ -4,15 +4,18 @@ ghost use Rattle.std.specs.FinMap.{get};
 ghost use Rattle.ownership_model.specs.State.{nothing_held};
 ghost use Rattle.ownership_model.specs.Bounds.{PlanFits};
 ghost use Rattle.ownership_model.specs.Carry.{IsCarriable};
+ghost use Rattle.ownership_model.specs.Alike.{Covers};
 ghost use Rattle.ownership_model.specs.Step.{step, carried_out};
 ghost use Rattle.ownership_model.specs.Step as Step;
 ghost use Rattle.op_step.specs.Meter.{raised};
+ghost use Rattle.op_step.specs.Told.{step_keys, carried_keys};
 
 use crate::meter::Meter;
 use crate::room::Room;
 use crate::rows::plan_in;
+use crate::told::{tell_object, tell_read};
 use object_heap::Heap;
-use ownership_model::Plan;
+use ownership_model::{Key, Plan};
 use std::alloc::{AllocError, Global};
 use trace_types::ops::Op;
 use trace_types::outcomes::{Counts, Event, Outcome, Reason, Verdict};
@@ -94,6 +97,119 @@ pub fn step_in(
         Err(error) => {
             let_go(heap);
             Err(error)
+        }
+    }
+}
+
+/// As `step_in_place`, and tells what the operation touches, and what it moves or copies beside. Keys that are told already stay.
+///
+/// It may tell more than that, and the same key more than once. Where memory runs out the keys are unspecified.
+pub fn step_told(
+    alloc: Global,
+    heap: &mut Heap,
+    op: &Op,
+    meter: &mut Meter,
+    keys: &mut Vec<Key>,
+) -> Result<Outcome, AllocError>
+    requires { get heap.old.objects op.now.id ≡ None }
+    ensures state { OnOk result (heap.new ≡ (step heap.old op.now).state) }
+    ensures outcome { IfOk result (λ r. r ≡ (step heap.old op.now).outcome) }
+    ensures told { OnOk result (Covers keys.new.items (keys.old.items ++ step_keys heap.old op.now)) }
+    ensures err { OnErr result (heap.new ≡ nothing_held) }
+    ensures counted { OnOk result (meter.new ≡ raised meter.old 1) }
+    ensures uncounted { OnErr result (meter.new ≡ meter.old) }
+{
+    let mut room = Room::new(alloc);
+    step_told_in(&mut room, heap, op, meter, keys)
+}
+
+/// As `step_told`, with what it takes memory for on the way in a room.
+pub fn step_told_in(
+    room: &mut Room,
+    heap: &mut Heap,
+    op: &Op,
+    meter: &mut Meter,
+    keys: &mut Vec<Key>,
+) -> Result<Outcome, AllocError>
+    requires { get heap.old.objects op.now.id ≡ None }
+    ensures state { OnOk result (heap.new ≡ (step heap.old op.now).state) }
+    ensures outcome { IfOk result (λ r. r ≡ (step heap.old op.now).outcome) }
+    ensures told { OnOk result (Covers keys.new.items (keys.old.items ++ step_keys heap.old op.now)) }
+    ensures err { OnErr result (heap.new ≡ nothing_held) }
+    ensures counted { OnOk result (meter.new ≡ raised meter.old 1) }
+    ensures uncounted { OnErr result (meter.new ≡ meter.old) }
+{
+    match carried_told(room, heap, op, keys) {
+        Ok(outcome) => {
+            meter.raise();
+            Ok(outcome)
+        }
+        Err(error) => {
+            let_go(heap);
+            Err(error)
+        }
+    }
+}
+
+// As `carried`, and tells the keys.
+fn carried_told(
+    room: &mut Room,
+    heap: &mut Heap,
+    op: &Op,
+    keys: &mut Vec<Key>,
+) -> Result<Outcome, AllocError>
+    requires { get heap.old.objects op.now.id ≡ None }
+    ensures state { OnOk result (heap.new ≡ (step heap.old op.now).state) }
+    ensures outcome { IfOk result (λ r. r ≡ (step heap.old op.now).outcome) }
+    ensures told { OnOk result (Covers keys.new.items (keys.old.items ++ step_keys heap.old op.now)) }
+{
+    tell_read(heap, op, keys)?;
+    let planned = plan_in(room, heap, op)?;
+    heap.kept();
+    let outcome = carry_out_told(room, heap, op.id(), planned, keys)?;
+    Ok(outcome)
+}
+
+// As `carry_out`, and tells what the plan sets, moves and drops, and the object whose counts are told.
+fn carry_out_told(
+    room: &mut Room,
+    heap: &mut Heap,
+    id: u32,
+    plan: Plan,
+    keys: &mut Vec<Key>,
+) -> Result<Outcome, AllocError>
+    requires carriable { IsCarriable heap.old plan }
+    requires fits { PlanFits plan }
+    ensures state { OnOk result (heap.new ≡ (carried_out heap.old id plan).state) }
+    ensures outcome { IfOk result (λ r. r ≡ (carried_out heap.old id plan).outcome) }
+    ensures told { OnOk result (Covers keys.new.items (keys.old.items ++ carried_keys heap.old plan)) }
+{
+    match plan {
+        Plan::Skip(reason) => Ok(skipped(room.alloc(), id, reason)),
+        Plan::Act {
+            answer,
+            changes,
+            event,
+            pending,
+            object,
+        } => {
+            let alloc = room.alloc();
+            let work = room.work();
+            let released = heap.release_told(
+                alloc,
+                work,
+                changes.as_slice(),
+                pending.as_slice(),
+                keys,
+            )?;
+            tell_object(object, keys)?;
+            room.give_back(changes.into_vec(), pending.into_vec());
+            Ok(Outcome {
+                id,
+                verdict: Verdict::Did(answer),
+                events: with_named(alloc, event, released)?,
+                counts: counts_of(heap, object),
+            })
         }
     }
 }

@@ -13,11 +13,12 @@ pub mod replay;
 mod room;
 mod rows;
 mod scope;
+mod told;
 mod unique;
 mod wants;
 
-pub use carry::{step, step_in_place, stepped};
+pub use carry::{step, step_in_place, step_told, stepped};
 pub use chunk_run::{ChunkRun, Replayed, copy_ops, run, run_of};
 pub use meter::Meter;
-pub use replay::replay_from;
+pub use replay::{replay_from, replay_told};
 pub use rows::plan;

@@ -1,13 +1,16 @@
 //! Operations carried out in order.
-ghost use Rattle.std.specs.Prelude.{◌≡◌, ◌≤◌, ◌+◌, IfOk, OnOk, length};
+ghost use Rattle.std.specs.Prelude.{◌≡◌, ◌≤◌, ◌+◌, ◌++◌, IfOk, OnOk, length};
 ghost use Rattle.ownership_model.specs.State.{nothing_held};
 ghost use Rattle.ownership_model.specs.Step.{AreNew, outcomes_from, end_from};
+ghost use Rattle.ownership_model.specs.Alike.{Covers};
 ghost use Rattle.op_step.specs.Meter.{raised};
+ghost use Rattle.op_step.specs.Told.{replay_keys};
 
-use crate::carry::step_in;
+use crate::carry::{step_in, step_told_in};
 use crate::meter::Meter;
 use crate::room::Room;
 use object_heap::Heap;
+use ownership_model::Key;
 use std::alloc::{AllocError, Global};
 use trace_types::ops::Op;
 use trace_types::outcomes::Outcome;
@@ -51,6 +54,33 @@ pub fn replay_from(
     let mut room = Room::new(alloc);
     for op in ops {
         outcomes.push(step_in(&mut room, &mut heap, op, meter)?)?;
+    }
+    Ok((Sequence::from_vec(outcomes), heap))
+}
+
+/// As `replay_from`, and tells what the operations touch, and what they move or copy beside. Keys that are told already stay.
+///
+/// It may tell more than that, and the same key more than once. Where memory runs out the keys are unspecified.
+pub fn replay_told(
+    alloc: Global,
+    start: Heap,
+    ops: &[Op],
+    meter: &mut Meter,
+    keys: &mut Vec<Key>,
+) -> Result<(Sequence<Outcome>, Heap), AllocError>
+    requires { AreNew start ops.now }
+    ensures outcomes { IfOk result (λ r. r.0 ≡ outcomes_from start ops.now) }
+    ensures end { IfOk result (λ r. r.1 ≡ end_from start ops.now) }
+    ensures told { OnOk result (Covers keys.new.items (keys.old.items ++ replay_keys start ops.now)) }
+    ensures counted { OnOk result (meter.new ≡ raised meter.old (length ops.now)) }
+    ensures never_less { meter.old ≤ meter.new }
+    ensures never_more { meter.new ≤ meter.old + length ops.now }
+{
+    let mut outcomes = Vec::with_capacity(alloc, ops.len())?;
+    let mut heap = start;
+    let mut room = Room::new(alloc);
+    for op in ops {
+        outcomes.push(step_told_in(&mut room, &mut heap, op, meter, keys)?)?;
     }
     Ok((Sequence::from_vec(outcomes), heap))
 }
