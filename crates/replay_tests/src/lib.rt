@@ -6,6 +6,8 @@ mod cells;
 #[cfg(test)]
 mod heap;
 #[cfg(test)]
+mod keys;
+#[cfg(test)]
 mod leaks;
 #[cfg(test)]
 mod lines;
