@@ -6,6 +6,7 @@ mod cells;
 mod chunk_run;
 mod fields;
 mod handles;
+mod job;
 mod make;
 mod meter;
 mod names;
@@ -19,6 +20,7 @@ mod wants;
 
 pub use carry::{step, step_in_place, step_told, stepped};
 pub use chunk_run::{ChunkRun, Replayed, copy_ops, run, run_of};
+pub use job::Job;
 pub use meter::Meter;
 pub use replay::{replay_from, replay_told};
 pub use rows::plan;
