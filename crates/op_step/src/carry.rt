@@ -36,28 +36,12 @@ pub fn step(
     ensures counted { OnOk result (meter.new ≡ raised meter.old 1) }
     ensures uncounted { OnErr result (meter.new ≡ meter.old) }
 {
-    stepped(alloc, heap.share()?, op, meter)
-}
-
-/// As `step`, but takes the heap itself: what it alone holds is changed in place.
-pub fn stepped(
-    alloc: Global,
-    heap: Heap,
-    op: &Op,
-    meter: &mut Meter,
-) -> Result<(Heap, Outcome), AllocError>
-    requires { get heap.objects op.now.id ≡ None }
-    ensures state { IfOk result (λ r. r.0 ≡ (step heap op.now).state) }
-    ensures outcome { IfOk result (λ r. r.1 ≡ (step heap op.now).outcome) }
-    ensures counted { OnOk result (meter.new ≡ raised meter.old 1) }
-    ensures uncounted { OnErr result (meter.new ≡ meter.old) }
-{
-    let mut next = heap;
+    let mut next = heap.share()?;
     let outcome = step_in_place(alloc, &mut next, op, meter)?;
     Ok((next, outcome))
 }
 
-/// As `stepped`, in place. Where memory runs out nothing is held any more.
+/// As `step`, in place. Where memory runs out nothing is held any more.
 pub fn step_in_place(
     alloc: Global,
     heap: &mut Heap,

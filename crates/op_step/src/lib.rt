@@ -18,7 +18,7 @@ mod told;
 mod unique;
 mod wants;
 
-pub use carry::{step, step_in_place, step_told, stepped};
+pub use carry::{step, step_in_place, step_told};
 pub use chunk_run::{ChunkRun, Replayed, copy_ops, run, run_of};
 pub use job::Job;
 pub use meter::Meter;
