@@ -42,8 +42,8 @@ pub fn note(names: &mut IndexMap<ChunkName, u64>, most: usize, name: ChunkName, 
     }
 }
 
-/// The chunk again, if it begins with this heap and has these operations, and whether no heap was walked for that. A heap may be large: it
-/// is compared last, unless the chunk is known to begin with it, and only where its sum is that of the chunk's start, as it is of equal heaps.
+/// The chunk again, if it begins with this heap and has these operations, and whether that was known of the heap. A heap may be large: it
+/// is compared last, unless the chunk is known to begin with it, and only if its sum is that of the chunk's start, as it is of equal heaps.
 pub fn serving(
     chunk: &ChunkRun,
     heap: &Heap,

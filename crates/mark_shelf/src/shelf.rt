@@ -17,7 +17,7 @@ use std::num::NonZeroUsize;
 use trace_types::ops::Op;
 
 /// A chunk that is found, with its number, and whether it was known to begin with the heap, as it is joined to the chunk that ends with
-/// it: then no heap was walked.
+/// it. No comparison is wanted then; that none is made, the code alone shows.
 #[derive(Drop)]
 pub struct Found {
     pub number: u64,
@@ -104,8 +104,8 @@ impl MarkShelf {
         self.remember_behind(chunk, None);
     }
 
-    /// As `remember`, of a chunk that begins where the one with a number ends, if that is known: where the one is found behind the
-    /// other, no heap is walked then. Gives the number of the chunk, if it isn't lost.
+    /// As `remember`, of a chunk that begins where the one with a number ends, if that is known: where the one is found after the
+    /// other, it is known to begin there. Gives the number of the chunk, if it isn't lost.
     pub fn remember_behind(&mut self, chunk: ChunkRun, before: Option<u64>) -> Option<u64>
         requires { IfSome before (λ k. EndsWith self.old.chunks k chunk.start) }
         ensures remembers { RemembersBehind self.old chunk before self.new }
@@ -145,7 +145,7 @@ impl MarkShelf {
     }
 
     /// As `find`, with the number of the chunk, where the heap is that at which the chunk with a number ends, if that is known: a
-    /// chunk that was remembered or found behind that one begins with this heap, and none is walked. That it was found behind that one is noted.
+    /// chunk that was remembered or found after that one is known to begin with this heap. That it was found after that one is noted.
     pub fn find_behind(&mut self, heap: &Heap, ops: &[Op], before: Option<u64>) -> Option<Found>
         requires { IfSome before (λ k. EndsWith self.old.chunks k heap.now) }
         ensures shelf { Notes (sought self.old (name_of ops.now))
@@ -178,7 +178,7 @@ impl MarkShelf {
         // So a joint stays as long as its chunk.
         self.joints.promote(&number);
         let served = answer?;
-        // Where the two are found again, one behind the other, no heap is walked.
+        // So that this chunk is known to begin here, where the two are found again, one after the other.
         join(&mut self.joints, number, before, self.next);
         Some(Found {
             number,
