@@ -11,12 +11,11 @@ use op_step::ChunkRun;
 /// is forgotten.
 pub fn join(joints: &mut LruCache<u64, u64>, number: u64, before: Option<u64>, below: u64)
     ensures cap { joints.new.cap ≡ joints.old.cap }
-    ensures noted {
-        (joints.new.entries
-            ≡ with_joint joints.old.cap joints.old.entries (joint_behind below number before))
+    ensures noted { (joints.new.entries
+        ≡ with_joint joints.old.cap joints.old.entries (joint_behind below number before))
         ⊎ (IfSome (joint_behind below number before)
-            (λ j. Contains (keys_of joints.old.entries) j.0 → ⊥)
-            × (joints.new.entries ≡ joints.old.entries)) }
+        (λ j. Contains (keys_of joints.old.entries) j.0 → ⊥)
+        × (joints.new.entries ≡ joints.old.entries)) }
 {
     let Some(last) = before else {
         return;

@@ -8,11 +8,10 @@ use lru::LruCache;
 /// Brings a name to the front, or adds it there, and tells the name that has no room then. Where memory is refused, all stay.
 pub fn bring(marks: &mut LruCache<u32, ()>, id: u32) -> Option<u32>
     ensures cap { marks.new.cap ≡ marks.old.cap }
-    ensures names {
-        ((keys_of marks.new.entries ≡ take marks.old.cap (in_front id (keys_of marks.old.entries)))
-            × (result ≡ slice_get (in_front id (keys_of marks.old.entries)) marks.old.cap))
+    ensures names { ((keys_of marks.new.entries ≡ take marks.old.cap (in_front id (keys_of marks.old.entries)))
+        × (result ≡ slice_get (in_front id (keys_of marks.old.entries)) marks.old.cap))
         ⊎ ((Contains (keys_of marks.old.entries) id → ⊥)
-            × (marks.new ≡ marks.old) × (result ≡ None)) }
+        × (marks.new ≡ marks.old) × (result ≡ None)) }
 {
     // This tells that no name comes twice, and that there are no more than there may be.
     let _count = marks.len();
