@@ -9,5 +9,5 @@ mod names;
 mod shelf;
 
 pub use laws::finds_what_was_there;
-pub use names::ChunkName;
+pub use names::{ChunkName, same_ops};
 pub use shelf::{Found, MarkShelf};
