@@ -7,32 +7,34 @@ use Rattle.mark_shelf.specs.Shelf.{Shelf}
 use Rattle.run_engine.specs.declared.replay.piece.Piece.{Piece}
 use Rattle.run_engine.specs.Segments.{marks_from, IsReached}
 use Rattle.run_engine.specs.Steps.{HaveStepped}
+use Rattle.run_engine.specs.Guesses.{Reusable, with_guesses}
 use Rattle.run_engine.specs.GoesOn.{GoesOn}
 use Rattle.run_engine.proofs.OnwardLemmas.{IsOnward-none, IsOnward-next}
+use Rattle.run_engine.proofs.GuessLemmas.{AreSome-guesses}
 use Rattle.run_engine.proofs.SteppedLemmas.{HaveStepped-none}
 
 -- a replay that has not gone on yet
-pub GoesOn-none : (old ops : List Operation) (marks : List ℕ) (front : Piece) (shelf : Shelf) (count : ℕ)
-    → IsReached ops front.len front.segments front.end → GoesOn old ops marks front front shelf shelf count count
-GoesOn-none old ops marks front shelf count reached = record {
+pub GoesOn-none : (old ops : List Operation) (known : Reusable) (front : Piece) (shelf : Shelf) (count : ℕ)
+    → IsReached ops front.len front.segments front.end → GoesOn old ops known front front shelf shelf count count
+GoesOn-none old ops known front shelf count reached = record {
   reached = reached;
-  onward = IsOnward-none ops marks front.len (marks_from 0 front.segments) shelf (contains nat_cmp front.gone);
+  onward = IsOnward-none ops known front.len (marks_from 0 front.segments) shelf (contains nat_cmp front.gone);
   stepped = λ r start chunks h all. h;
 }
 
 -- one that goes on further
-pub GoesOn-next : (old ops : List Operation) (marks : List ℕ) (a b c : Piece) (s t u : Shelf) (l m n : ℕ)
-    → GoesOn old ops marks a b s t l m → GoesOn old ops marks b c t u m n → GoesOn old ops marks a c s u l n
-GoesOn-next old ops marks a b c s t u l m n h k = record {
+pub GoesOn-next : (old ops : List Operation) (known : Reusable) (a b c : Piece) (s t u : Shelf) (l m n : ℕ)
+    → GoesOn old ops known a b s t l m → GoesOn old ops known b c t u m n → GoesOn old ops known a c s u l n
+GoesOn-next old ops known a b c s t u l m n h k = record {
   reached = k.reached;
-  onward = IsOnward-next ops marks a.len b.len c.len (marks_from 0 a.segments) (marks_from 0 b.segments) (marks_from 0 c.segments) s t u
+  onward = IsOnward-next ops known a.len b.len c.len (marks_from 0 a.segments) (marks_from 0 b.segments) (marks_from 0 c.segments) s t u
       (contains nat_cmp a.gone) (contains nat_cmp b.gone) (contains nat_cmp c.gone) h.onward k.onward;
   stepped = λ r start chunks before all.
-      k.stepped r start chunks (h.stepped r start chunks before all) (λ e there. all e (h.onward.answered.touched.fewer e there));
+      k.stepped r start chunks (h.stepped r start chunks before all) (λ e there. all e (AreSome-guesses known.guesses t.chunks s.chunks h.onward.answered.touched.fewer e there));
 }
 
 -- as many operations were stepped as it passed that are not covered
-pub GoesOn-steps : (old ops : List Operation) (marks : List ℕ) (front next : Piece) (shelf after : Shelf) (before count : ℕ)
-    → GoesOn old ops marks front next shelf after before count → HaveStepped old ops marks shelf.chunks front.len next.len before count
-GoesOn-steps old ops marks front next shelf after before count h =
-    h.stepped front.len before shelf.chunks (HaveStepped-none old ops marks shelf.chunks front.len before) (λ e there. there)
+pub GoesOn-steps : (old ops : List Operation) (known : Reusable) (front next : Piece) (shelf after : Shelf) (before count : ℕ)
+    → GoesOn old ops known front next shelf after before count → HaveStepped old ops known.marks (with_guesses known.guesses shelf.chunks) front.len next.len before count
+GoesOn-steps old ops known front next shelf after before count h =
+    h.stepped front.len before (with_guesses known.guesses shelf.chunks) (HaveStepped-none old ops known.marks (with_guesses known.guesses shelf.chunks) front.len before) (λ e there. there)

@@ -8,6 +8,9 @@ use Rattle.ownership_model.specs.State.{State}
 use Rattle.trace_types.specs.Operation.{Operation}
 use Rattle.trace_types.specs.Trace.{has_distinct_numbers}
 use Rattle.mark_shelf.specs.Shelf.{Shelf}
+use Rattle.op_step.specs.Chunk.{Chunk}
+use Rattle.run_engine.specs.Guesses.{Reusable}
+use Rattle.run_engine.specs.OldRun.{reusable_in}
 use Rattle.run_engine.specs.RunView.{RunView}
 use Rattle.run_engine.specs.NewMarks.{LeadTo, AreLaid, AreMarksOf, AreMarksAfter}
 use Rattle.run_engine.specs.Memo.{HasSameMarks}
@@ -25,7 +28,7 @@ same-front [] a b h = h
 same-front (p ∷ kept) a b h = let rest : kept ++ a ≡ kept ++ b = cc in same-front kept a b rest
 
 -- what a replay has laid as far as a position
-pub laid-all : (trace : List Operation) (old kept marks : List ℕ) (r at : ℕ) (s t : Shelf) (f g : ℕ → Bool) → (h : IsOnward trace old r at kept marks s t f g) → AreLaid old kept r at (kept ++ h.more)
+pub laid-all : (trace : List Operation) (old : Reusable) (kept marks : List ℕ) (r at : ℕ) (s t : Shelf) (f g : ℕ → Bool) → (h : IsOnward trace old r at kept marks s t f g) → AreLaid old kept r at (kept ++ h.more)
 laid-all trace old kept marks r at s t f g h = h.way.lead kept r kept (AreLaid-none old kept r)
 
 -- the names of the cuts, and of the place where it stands, are those of the restart and the new checkpoints
@@ -34,7 +37,7 @@ names-laid trace kept more fresh r at h =
     ap (names_at trace) (sym (same-front kept (more ++ at ∷ []) (r ∷ fresh) (sym (append_assoc kept more (at ∷ [])) ∙ h))) ∙ names_at-append trace more (at ∷ [])
 
 -- after a stop, whose name was touched
-pub AreMarksLeft-stop : (trace ops : List Operation) (old kept marks later new : List ℕ) (r a b stop at : ℕ) (s t u : Shelf) (f g h : ℕ → Bool) → IsTrue (has_distinct_numbers ops)
+pub AreMarksLeft-stop : (trace ops : List Operation) (old : Reusable) (kept marks later new : List ℕ) (r a b stop at : ℕ) (s t u : Shelf) (f g h : ℕ → Bool) → IsTrue (has_distinct_numbers ops)
     → (on : IsOnward ops old r at kept marks s t f g) → AreAnswered t u (names_at ops (at ∷ [])) g h → new ≡ marks ++ later
     → (of : AreMarksOf trace ops kept old ((kept ++ on.more) ++ later) r a b stop) → of.fresh ≡ (laid-all ops old kept marks r at s t f g on).fresh
     → AreMarksLeft trace ops kept old new r a b s u f h
@@ -51,7 +54,7 @@ AreMarksLeft-stop trace ops old kept marks later new r a b stop at s t u f g h d
     }
 
 -- positions that rise behind one
-lead-bounds : (old : List ℕ) (r to : ℕ) (fresh : List ℕ) → LeadTo old r fresh to → r ≤ to
+lead-bounds : (old : Reusable) (r to : ℕ) (fresh : List ℕ) → LeadTo old r fresh to → r ≤ to
 lead-bounds old r to [] h = omega (arith, h)
 lead-bounds old r to (p ∷ ps) h = let some = h.0.some in let rest : p ≤ to = lead-bounds old p to ps h.1 in omega arith
 
@@ -71,7 +74,7 @@ behind from to p lt = let no : nat_le p to ≡ false = lt-leb p to lt in ap (λ 
     none true = refl
     none false = refl
 
-between-lead : (old : List ℕ) (from r to : ℕ) (fresh : List ℕ) → from ≤ r → LeadTo old r fresh to → between from to fresh ≡ fresh
+between-lead : (old : Reusable) (from r to : ℕ) (fresh : List ℕ) → from ≤ r → LeadTo old r fresh to → between from to fresh ≡ fresh
 between-lead old from r to [] le h = refl
 between-lead old from r to (p ∷ ps) le h =
     let some = h.0.some in
@@ -100,8 +103,9 @@ between-later from a b stop (p ∷ ps) le =
     ] refl
 
 -- from the restart to the stop stand the restart and the new ones
-pub between-marks : (old new : RunView) (from to : ℕ) → (h : AreMarksAfter old new from to) → between from to new.marks ≡ from ∷ h.marks.fresh
-between-marks old new from to h =
+pub between-marks : (guesses : List Chunk) (old new : RunView) (from to : ℕ) → (h : AreMarksAfter guesses old new from to) → between from to new.marks ≡ from ∷ h.marks.fresh
+between-marks guesses old new from to h =
+    let known : Reusable = record { marks = old.marks; guesses = guesses } in
     let a : ℕ = length old.trace - h.tail in
     let b : ℕ = length new.trace - h.tail in
     let kept : List ℕ = filter (λ p. nat_lt p from) old.marks in
@@ -109,21 +113,21 @@ between-marks old new from to h =
     let later : List ℕ = map (λ p. p - a + b) (filter (λ p. nat_lt h.stop p) old.marks) in
     let test : ℕ → Bool = is-between from to in
     let there = h.to_is in
-    let lead : LeadTo old.marks from fresh to = subst (LeadTo old.marks from fresh) (sym there) h.marks.lead in
-    let le : from ≤ to = lead-bounds old.marks from to fresh lead in
+    let lead : LeadTo known from fresh to = subst (LeadTo known from fresh) (sym there) h.marks.lead in
+    let le : from ≤ to = lead-bounds known from to fresh lead in
     ap (between from to) h.marks.new_is
     ∙ filter-append test kept (from ∷ (fresh ++ later))
     ∙ ap (λ ps. ps ++ filter test (from ∷ (fresh ++ later))) (between-kept from to old.marks)
     ∙ ap (λ c. cond c (from ∷ filter test (fresh ++ later)) (filter test (fresh ++ later))) (inside from to from (omega arith) le)
     ∙ ap (λ ps. from ∷ ps) (filter-append test fresh later
-    ∙ ap (λ ps. ps ++ filter test later) (between-lead old.marks from from to fresh (omega arith) lead)
+    ∙ ap (λ ps. ps ++ filter test later) (between-lead known from from to fresh (omega arith) lead)
     ∙ ap (λ ps. fresh ++ ps) (ap (λ n. between from n later) there ∙ between-later from a b h.stop old.marks h.marks.stop_is.behind)
     ∙ append-nil fresh)
 
 -- the checkpoints that the names leave
-pub AreMarksKept-due : (old run new : RunView) (shelf mid after : Shelf) (gone : ℕ → Bool) → AreMarksDue old run shelf mid gone → HasSameMarks mid after → new.trace ≡ run.trace
-    → ((names : List ℕ) → AreNames gone names → new.marks ≡ fold (given_up run.trace) run.marks names) → AreMarksKept old new shelf after
-AreMarksKept-due old run new shelf mid after gone due same trace marks = record {
+pub AreMarksKept-due : (guesses : List Chunk) (old run new : RunView) (shelf mid after : Shelf) (gone : ℕ → Bool) → AreMarksDue guesses old run shelf mid gone → HasSameMarks mid after → new.trace ≡ run.trace
+    → ((names : List ℕ) → AreNames gone names → new.marks ≡ fold (given_up run.trace) run.marks names) → AreMarksKept guesses old new shelf after
+AreMarksKept-due guesses old run new shelf mid after gone due same trace marks = record {
   all = due.all;
   from = due.from;
   to = due.to;
@@ -134,7 +138,7 @@ AreMarksKept-due old run new shelf mid after gone due same trace marks = record 
     most_chunks = same.most_chunks ∙ due.touched.most_chunks;
     most_names = same.most_names ∙ due.touched.most_names;
   };
-  replayed = subst (λ ops. AreMarksAfter old (record { trace = ops; marks = due.all }) due.from due.to) (sym trace) due.replayed;
+  replayed = subst (λ ops. AreMarksAfter guesses old (record { trace = ops; marks = due.all }) due.from due.to) (sym trace) due.replayed;
   touched = record {
     gone = due.names;
     touches = subst (λ ops. AreTouches (record after { marks = shelf.marks }) (names_at ops (between due.from due.to due.all)) due.names after) (sym trace)
@@ -145,10 +149,10 @@ AreMarksKept-due old run new shelf mid after gone due same trace marks = record 
   };
 }
 
-pub AreMarksDue-after : (old new : RunView) (kept : List ℕ) (from to a b : ℕ) (s t : Shelf) (f g : ℕ → Bool) → AreNames f []
-    → (left : AreMarksLeft old.trace new.trace kept old.marks new.marks from a b s t f g)
-    → (after : AreMarksAfter old (record { trace = new.trace; marks = left.all }) from to) → after.marks.fresh ≡ left.marks.fresh → AreMarksDue old new s t g
-AreMarksDue-after old new kept from to a b s t f g none left after fresh =
+pub AreMarksDue-after : (guesses : List Chunk) (old new : RunView) (kept : List ℕ) (from to a b : ℕ) (s t : Shelf) (f g : ℕ → Bool) → AreNames f []
+    → (left : AreMarksLeft old.trace new.trace kept (record { marks = old.marks; guesses = guesses }) new.marks from a b s t f g)
+    → (after : AreMarksAfter guesses old (record { trace = new.trace; marks = left.all }) from to) → after.marks.fresh ≡ left.marks.fresh → AreMarksDue guesses old new s t g
+AreMarksDue-after guesses old new kept from to a b s t f g none left after fresh =
     let names : List ℕ = left.answered.answers in
     let are : AreNames g names = left.answered.join [] none in
     record {
@@ -158,45 +162,45 @@ AreMarksDue-after old new kept from to a b s t f g none left after fresh =
       names = names;
       replayed = after;
       left = left.left names (λ id k. sym (are id) ∙ k);
-      touched = subst (λ ps. AreMarksTouched s t ps names) (ap (names_at new.trace) (sym (between-marks old (record { trace = new.trace; marks = left.all }) from to after ∙ ap (λ ps. from ∷ ps) fresh))) left.answered.touched;
+      touched = subst (λ ps. AreMarksTouched s t ps names) (ap (names_at new.trace) (sym (between-marks guesses old (record { trace = new.trace; marks = left.all }) from to after ∙ ap (λ ps. from ∷ ps) fresh))) left.answered.touched;
       gone_are = are;
     }
 
 -- the replay of an edited trace, from where it begins again
-pub AreMarksDue-restart : (segments front : List SegmentView) (end heap : State) (ops : List Operation) (new : List ℕ) (head tail i at : ℕ) (s t : Shelf) (f g : ℕ → Bool)
+pub AreMarksDue-restart : (guesses : List Chunk) (segments front : List SegmentView) (end heap : State) (ops : List Operation) (new : List ℕ) (head tail i at : ℕ) (s t : Shelf) (f g : ℕ → Bool)
     → IsRun segments end → IsRestart segments head i at heap → front ≡ take i segments → AreShared (trace_of segments) ops head tail → AreNames f []
-    → AreMarksLeft (trace_of segments) ops (marks_from 0 front) (all_marks segments) new at (length (trace_of segments) - tail) (length ops - tail) s t f g
-    → AreMarksDue (record { trace = trace_of segments; marks = all_marks segments }) (record { trace = ops; marks = new }) s t g
-AreMarksDue-restart segments front end heap ops new head tail i at s t f g run h is shared none left =
+    → AreMarksLeft (trace_of segments) ops (marks_from 0 front) (reusable_in guesses segments) new at (length (trace_of segments) - tail) (length ops - tail) s t f g
+    → AreMarksDue guesses (record { trace = trace_of segments; marks = all_marks segments }) (record { trace = ops; marks = new }) s t g
+AreMarksDue-restart guesses segments front end heap ops new head tail i at s t f g run h is shared none left =
     let a : ℕ = length (trace_of segments) - tail in
     let b : ℕ = length ops - tail in
     let kept : List ℕ = filter (λ p. nat_lt p at) (all_marks segments) in
-    let here : AreMarksLeft (trace_of segments) ops kept (all_marks segments) new at a b s t f g =
-    subst (λ ms. AreMarksLeft (trace_of segments) ops ms (all_marks segments) new at a b s t f g) (ap (marks_from 0) is ∙ sym (below-restart segments i at run.full h.place)) left in
-    AreMarksDue-after (record { trace = trace_of segments; marks = all_marks segments }) (record { trace = ops; marks = new }) kept at (here.stop - a + b) a b s t f g none here
+    let here : AreMarksLeft (trace_of segments) ops kept (reusable_in guesses segments) new at a b s t f g =
+    subst (λ ms. AreMarksLeft (trace_of segments) ops ms (reusable_in guesses segments) new at a b s t f g) (ap (marks_from 0) is ∙ sym (below-restart segments i at run.full h.place)) left in
+    AreMarksDue-after guesses (record { trace = trace_of segments; marks = all_marks segments }) (record { trace = ops; marks = new }) kept at (here.stop - a + b) a b s t f g none here
     (record { head = head; tail = tail; stop = here.stop; shared = shared; restart = h.greatest; marks = here.marks; to_is = refl }) refl
 
 -- after a stop at the segment i, which begins at `at`
-pub left-at-stop : (old : List SegmentView) (ops : List Operation) (kept marks new : List ℕ) (a b i at r x : ℕ) (sg : SegmentView) (m : State) (s t u : Shelf) (f g h : ℕ → Bool) → IsTrue (has_distinct_numbers ops)
+pub left-at-stop : (guesses : List Chunk) (old : List SegmentView) (ops : List Operation) (kept marks new : List ℕ) (a b i at r x : ℕ) (sg : SegmentView) (m : State) (s t u : Shelf) (f g h : ℕ → Bool) → IsTrue (has_distinct_numbers ops)
     → i < length old → sg ≡ get_or old i sg → sg.mark ≡ Some m → length (trace_of (take i old)) ≡ at → a ≤ at
     → AgreesAt (trace_of old) ops a b at → ((p : ℕ) → Contains (all_marks old) p → a ≤ p → AgreesAt (trace_of old) ops a b p → at ≤ p)
-    → x ≡ at - a + b → IsOnward ops (all_marks old) r x kept marks s t f g → AreAnswered t u (names_at ops (x ∷ [])) g h → new ≡ marks ++ from-stop old a b at
-    → AreMarksLeft (trace_of old) ops kept (all_marks old) new r a b s u f h
+    → x ≡ at - a + b → IsOnward ops (reusable_in guesses old) r x kept marks s t f g → AreAnswered t u (names_at ops (x ∷ [])) g h → new ≡ marks ++ from-stop old a b at
+    → AreMarksLeft (trace_of old) ops kept (reusable_in guesses old) new r a b s u f h
 unfolding AreMarksOf-stop
-left-at-stop old ops kept marks new a b i at r x sg m s t u f g h distinct lt is mark place behind agrees first there on last whole =
-    let here : IsOnward ops (all_marks old) r (at - a + b) kept marks s t f g = subst (λ y. IsOnward ops (all_marks old) r y kept marks s t f g) there on in
-    AreMarksLeft-stop (trace_of old) ops (all_marks old) kept marks (from-stop old a b at) new r a b at (at - a + b) s t u f g h distinct here
+left-at-stop guesses old ops kept marks new a b i at r x sg m s t u f g h distinct lt is mark place behind agrees first there on last whole =
+    let here : IsOnward ops (reusable_in guesses old) r (at - a + b) kept marks s t f g = subst (λ y. IsOnward ops (reusable_in guesses old) r y kept marks s t f g) there on in
+    AreMarksLeft-stop (trace_of old) ops (reusable_in guesses old) kept marks (from-stop old a b at) new r a b at (at - a + b) s t u f g h distinct here
     (subst (λ y. AreAnswered t u (names_at ops (y ∷ [])) g h) there last) whole
-    (AreMarksOf-stop old ops kept (kept ++ here.more) a b i at r sg lt is m mark place behind agrees first (laid-all ops (all_marks old) kept marks r (at - a + b) s t f g here)) refl
+    (AreMarksOf-stop guesses old ops kept (kept ++ here.more) a b i at r sg lt is m mark place behind agrees first (laid-all ops (reusable_in guesses old) kept marks r (at - a + b) s t f g here)) refl
 
 -- with no stop
-pub left-at-end : (old : List SegmentView) (ops : List Operation) (kept marks new : List ℕ) (a b r x : ℕ) (s t : Shelf) (f g : ℕ → Bool) → IsTrue (has_distinct_numbers ops)
+pub left-at-end : (guesses : List Chunk) (old : List SegmentView) (ops : List Operation) (kept marks new : List ℕ) (a b r x : ℕ) (s t : Shelf) (f g : ℕ → Bool) → IsTrue (has_distinct_numbers ops)
     → ShareEnd (trace_of old) ops a b → ((p : ℕ) → Contains (all_marks old) p → a ≤ p → AgreesAt (trace_of old) ops a b p → length (trace_of old) ≤ p)
-    → x ≡ length ops → IsOnward ops (all_marks old) r x kept marks s t f g → new ≡ marks ++ length ops ∷ []
-    → AreMarksLeft (trace_of old) ops kept (all_marks old) new r a b s t f g
+    → x ≡ length ops → IsOnward ops (reusable_in guesses old) r x kept marks s t f g → new ≡ marks ++ length ops ∷ []
+    → AreMarksLeft (trace_of old) ops kept (reusable_in guesses old) new r a b s t f g
 unfolding AreMarksOf-end
-left-at-end old ops kept marks new a b r x s t f g distinct shared first there on whole =
-    let here : IsOnward ops (all_marks old) r (length ops) kept marks s t f g = subst (λ y. IsOnward ops (all_marks old) r y kept marks s t f g) there on in
-    AreMarksLeft-stop (trace_of old) ops (all_marks old) kept marks (length ops ∷ []) new r a b (length (trace_of old)) (length ops) s t t f g g distinct here
+left-at-end guesses old ops kept marks new a b r x s t f g distinct shared first there on whole =
+    let here : IsOnward ops (reusable_in guesses old) r (length ops) kept marks s t f g = subst (λ y. IsOnward ops (reusable_in guesses old) r y kept marks s t f g) there on in
+    AreMarksLeft-stop (trace_of old) ops (reusable_in guesses old) kept marks (length ops ∷ []) new r a b (length (trace_of old)) (length ops) s t t f g g distinct here
     (subst (λ names. AreAnswered t t names g g) (sym (names_at-end ops)) (AreAnswered-none t g)) whole
-    (AreMarksOf-end old ops kept (kept ++ here.more) a b r shared first (laid-all ops (all_marks old) kept marks r (length ops) s t f g here)) refl
+    (AreMarksOf-end guesses old ops kept (kept ++ here.more) a b r shared first (laid-all ops (reusable_in guesses old) kept marks r (length ops) s t f g here)) refl

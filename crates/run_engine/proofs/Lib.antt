@@ -29,6 +29,9 @@ mod PositionLemmas
 mod SeekLemmas
 mod AnsweredLemmas
 mod OnwardLemmas
+mod GuessLemmas
 mod GoesOnLemmas
+mod JobLemmas
+mod ShiftLemmas
 mod LeftLemmas
 mod DivergenceLemmas

@@ -12,6 +12,9 @@ use Rattle.run_engine.specs.SegmentView.{SegmentView}
 use Rattle.run_engine.specs.Segments.{ops_of, trace_of, mark_here, marks_from, all_marks, AreFull, BeginsMarked, IsRun, IsReached}
 use Rattle.run_engine.specs.HeadAndTail.{ShareEnd}
 use Rattle.run_engine.specs.Bounds.{AgreesAt}
+use Rattle.op_step.specs.Chunk.{Chunk}
+use Rattle.run_engine.specs.Guesses.{Reusable}
+use Rattle.run_engine.specs.OldRun.{reusable_in}
 use Rattle.run_engine.specs.NewMarks.{IsGap, AreNeighbours, LeadTo, AreLaid, AreMarksOf}
 use Rattle.run_engine.proofs.SegmentLemmas.{marks_from-append, length-trace_of-next}
 use Rattle.run_engine.proofs.ListingLemmas.{around}
@@ -34,11 +37,11 @@ all-pass test [] h = refl
 all-pass test (p ∷ ps) h =
     ap (λ b. cond b (p ∷ filter test ps) (filter test ps)) (h p (zero, omega arith, refl)) ∙ ap (λ qs. p ∷ qs) (all-pass test ps (λ q k. h q (Contains-append_right (p ∷ []) ps q k)))
 
-pub LeadTo-append : (old : List ℕ) (r : ℕ) (fresh : List ℕ) (at len : ℕ) → LeadTo old r fresh at → IsGap old len → LeadTo old r (fresh ++ (at + len) ∷ []) (at + len)
+pub LeadTo-append : (old : Reusable) (r : ℕ) (fresh : List ℕ) (at len : ℕ) → LeadTo old r fresh at → IsGap old len → LeadTo old r (fresh ++ (at + len) ∷ []) (at + len)
 LeadTo-append old r [] at len h gap = let e : at + len - r ≡ len = omega (arith, h) in (subst (IsGap old) (sym e) gap, refl)
 LeadTo-append old r (p ∷ ps) at len h gap = (h.0, LeadTo-append old p ps at len h.1 gap)
 
-pub AreLaid-none : (old kept : List ℕ) (r : ℕ) → AreLaid old kept r r kept
+pub AreLaid-none : (old : Reusable) (kept : List ℕ) (r : ℕ) → AreLaid old kept r r kept
 AreLaid-none old kept r = record { fresh = []; laid = refl; lead = refl }
 
 -- segments that begin elsewhere
@@ -107,11 +110,11 @@ all_marks-stop old segments ops a b i at s full shared lt is m mark place behind
     ∙ ap (λ ps. marks_from 0 segments ++ (at - a + b) ∷ moved ps) (sym (above-stop old i at s m full lt is mark place))
 
 -- after a stop at the segment i, which begins at `at`
-unfoldable pub AreMarksOf-stop : (old : List SegmentView) (ops : List Operation) (kept all : List ℕ) (a b i at r : ℕ) (s : SegmentView)
+unfoldable pub AreMarksOf-stop : (guesses : List Chunk) (old : List SegmentView) (ops : List Operation) (kept all : List ℕ) (a b i at r : ℕ) (s : SegmentView)
     → i < length old → s ≡ get_or old i s → (m : State) → s.mark ≡ Some m → length (trace_of (take i old)) ≡ at → a ≤ at
     → AgreesAt (trace_of old) ops a b at → ((p : ℕ) → Contains (all_marks old) p → a ≤ p → AgreesAt (trace_of old) ops a b p → at ≤ p)
-    → AreLaid (all_marks old) kept r (at - a + b) all → AreMarksOf (trace_of old) ops kept (all_marks old) (all ++ from-stop old a b at) r a b at
-AreMarksOf-stop old ops kept all a b i at r s lt is m mark place behind agrees first laid =
+    → AreLaid (reusable_in guesses old) kept r (at - a + b) all → AreMarksOf (trace_of old) ops kept (reusable_in guesses old) (all ++ from-stop old a b at) r a b at
+AreMarksOf-stop guesses old ops kept all a b i at r s lt is m mark place behind agrees first laid =
     let later : List ℕ = map (λ p. p - a + b) (filter (λ p. nat_lt at p) (all_marks old)) in
     record {
       fresh = laid.fresh;
@@ -129,10 +132,10 @@ all_marks-rest segments a b trace marks =
     ∙ ap (λ t. marks_from 0 (segments ++ b) ++ length t ∷ []) whole
 
 -- with no stop
-unfoldable pub AreMarksOf-end : (old : List SegmentView) (ops : List Operation) (kept all : List ℕ) (a b r : ℕ)
+unfoldable pub AreMarksOf-end : (guesses : List Chunk) (old : List SegmentView) (ops : List Operation) (kept all : List ℕ) (a b r : ℕ)
     → ShareEnd (trace_of old) ops a b → ((p : ℕ) → Contains (all_marks old) p → a ≤ p → AgreesAt (trace_of old) ops a b p → length (trace_of old) ≤ p)
-    → AreLaid (all_marks old) kept r (length ops) all → AreMarksOf (trace_of old) ops kept (all_marks old) (all ++ length ops ∷ []) r a b (length (trace_of old))
-AreMarksOf-end old ops kept all a b r shared first laid =
+    → AreLaid (reusable_in guesses old) kept r (length ops) all → AreMarksOf (trace_of old) ops kept (reusable_in guesses old) (all ++ length ops ∷ []) r a b (length (trace_of old))
+AreMarksOf-end guesses old ops kept all a b r shared first laid =
     let n : ℕ = length (trace_of old) in
     let moved : List ℕ → List ℕ = map (λ p. p - a + b) in
     let across = ShareEnd-length (trace_of old) ops a b shared in
@@ -140,7 +143,7 @@ AreMarksOf-end old ops kept all a b r shared first laid =
     record {
       fresh = laid.fresh;
       stop_is = record { mark = end-mark old; behind = shared.old_within; agrees = inr refl; first = first };
-      lead = subst (LeadTo (all_marks old) r laid.fresh) last laid.lead;
+      lead = subst (LeadTo (reusable_in guesses old) r laid.fresh) last laid.lead;
       new_is = laid.laid ∙ ap (λ ps. kept ++ r ∷ ps) (sym (append-nil laid.fresh)) ∙ ap (λ ps. kept ++ r ∷ (laid.fresh ++ moved ps)) (sym (above-end old));
     }
 

@@ -10,6 +10,7 @@ use Rattle.mark_shelf.specs.Shelf.{Shelf, Touches, touched, dropped, in_front}
 use Rattle.run_engine.specs.Cleared.{is_named}
 use Rattle.run_engine.specs.Marks.{multiples_below}
 use Rattle.run_engine.specs.Memo.{IsSearched, AreSome}
+use Rattle.run_engine.specs.Guesses.{Reusable}
 use Rattle.run_engine.specs.NewMarks.{IsGap, AreLaid}
 use Rattle.run_engine.specs.GivenUp.{given_up, name_at, names_at}
 use Rattle.run_engine.specs.Onward.{among, AreNames, AreMore, LeaveSame, cuts, AreMarksTouched, AreAnswered, IsWay, IsOnward}
@@ -110,7 +111,7 @@ AreAnswered-next a b c names more f g h first second = record {
 
 -- the way of a replay
 
-pub AreLaid-on : (old kept : List ℕ) (r at len : ℕ) (all : List ℕ) → IsGap old len → AreLaid old kept r at all → AreLaid old kept r (at + len) (all ++ at ∷ [])
+pub AreLaid-on : (old : Reusable) (kept : List ℕ) (r at len : ℕ) (all : List ℕ) → IsGap old len → AreLaid old kept r at all → AreLaid old kept r (at + len) (all ++ at ∷ [])
 AreLaid-on old kept r at len all gap laid = record {
   fresh = laid.fresh ++ (at + len) ∷ [];
   laid = ap (λ ps. ps ++ (at + len) ∷ []) laid.laid ∙ append_assoc kept (r ∷ laid.fresh) ((at + len) ∷ []);
@@ -159,13 +160,13 @@ LeaveSame-bare trace names marks all p distinct gone h =
     ∙ ap (λ ps. fold (given_up trace) all names ++ ps) (given_up-all trace names (p ∷ []) distinct ∙ ap (λ b. cond (not b) (p ∷ []) []) gone)
     ∙ append-nil (fold (given_up trace) all names))
 
-pub IsWay-marked : (trace : List Operation) (old : List ℕ) (at len : ℕ) (marks new : List ℕ) (gone : ℕ → Bool) → IsTrue (has_distinct_numbers trace) → IsGap old len → new ≡ marks ++ at ∷ [] → IsWay trace old at (at + len) (at ∷ []) marks new gone
+pub IsWay-marked : (trace : List Operation) (old : Reusable) (at len : ℕ) (marks new : List ℕ) (gone : ℕ → Bool) → IsTrue (has_distinct_numbers trace) → IsGap old len → new ≡ marks ++ at ∷ [] → IsWay trace old at (at + len) (at ∷ []) marks new gone
 IsWay-marked trace old at len marks new gone distinct gap is = record {
   lead = λ kept r all laid. AreLaid-on old kept r at len all gap laid;
   left = λ names all more h. subst (λ ms. LeaveSame trace names ms (all ++ at ∷ [])) (sym is) (LeaveSame-append trace names marks all (at ∷ []) distinct h);
 }
 
-pub IsWay-bare : (trace : List Operation) (old : List ℕ) (at len : ℕ) (marks new : List ℕ) (gone : ℕ → Bool) (name : Option ℕ) → IsTrue (has_distinct_numbers trace) → IsGap old len
+pub IsWay-bare : (trace : List Operation) (old : Reusable) (at len : ℕ) (marks new : List ℕ) (gone : ℕ → Bool) (name : Option ℕ) → IsTrue (has_distinct_numbers trace) → IsGap old len
     → option_to_list name ≡ names_at trace (at ∷ []) → is_named gone name ≡ true → new ≡ marks → IsWay trace old at (at + len) (at ∷ []) marks new gone
 IsWay-bare trace old at len marks new gone name distinct gap there answered is = record {
   lead = λ kept r all laid. AreLaid-on old kept r at len all gap laid;
@@ -173,13 +174,13 @@ IsWay-bare trace old at len marks new gone name distinct gap there answered is =
       (LeaveSame-bare trace names marks all at distinct (named-at trace (among names) at name there (named-more gone (among names) name more answered)) h);
 }
 
-pub IsWay-none : (trace : List Operation) (old : List ℕ) (at : ℕ) (marks : List ℕ) (gone : ℕ → Bool) → IsWay trace old at at [] marks marks gone
+pub IsWay-none : (trace : List Operation) (old : Reusable) (at : ℕ) (marks : List ℕ) (gone : ℕ → Bool) → IsWay trace old at at [] marks marks gone
 IsWay-none trace old at marks gone = record {
   lead = λ kept r all laid. subst (AreLaid old kept r at) (sym (append-nil all)) laid;
   left = λ names all more h. subst (LeaveSame trace names marks) (sym (append-nil all)) h;
 }
 
-pub IsWay-next : (trace : List Operation) (old : List ℕ) (at mid to : ℕ) (more others marks first second : List ℕ) (f g : ℕ → Bool)
+pub IsWay-next : (trace : List Operation) (old : Reusable) (at mid to : ℕ) (more others marks first second : List ℕ) (f g : ℕ → Bool)
     → AreMore f g → IsWay trace old at mid more marks first f → IsWay trace old mid to others first second g → IsWay trace old at to (more ++ others) marks second g
 IsWay-next trace old at mid to more others marks first second f g rise h k = record {
   lead = λ kept r all laid. subst (AreLaid old kept r to) (append_assoc all more others) (k.lead kept r (all ++ more) (h.lead kept r all laid));
@@ -187,10 +188,10 @@ IsWay-next trace old at mid to more others marks first second f g rise h k = rec
       (k.left names (all ++ more) some (h.left names all (λ id t. some id (rise id t)) same));
 }
 
-pub IsOnward-none : (trace : List Operation) (old : List ℕ) (at : ℕ) (marks : List ℕ) (s : Shelf) (gone : ℕ → Bool) → IsOnward trace old at at marks marks s s gone gone
+pub IsOnward-none : (trace : List Operation) (old : Reusable) (at : ℕ) (marks : List ℕ) (s : Shelf) (gone : ℕ → Bool) → IsOnward trace old at at marks marks s s gone gone
 IsOnward-none trace old at marks s gone = record { more = []; way = IsWay-none trace old at marks gone; answered = AreAnswered-none s gone }
 
-pub IsOnward-next : (trace : List Operation) (old : List ℕ) (at mid to : ℕ) (marks first second : List ℕ) (a b c : Shelf) (f g h : ℕ → Bool)
+pub IsOnward-next : (trace : List Operation) (old : Reusable) (at mid to : ℕ) (marks first second : List ℕ) (a b c : Shelf) (f g h : ℕ → Bool)
     → IsOnward trace old at mid marks first a b f g → IsOnward trace old mid to first second b c g h → IsOnward trace old at to marks second a c f h
 IsOnward-next trace old at mid to marks first second a b c f g h one two = record {
   more = one.more ++ two.more;
@@ -199,7 +200,7 @@ IsOnward-next trace old at mid to marks first second a b c f g h one two = recor
 }
 
 -- the name at a position is touched, and then a piece with a checkpoint there is taken
-pub IsOnward-piece : (trace : List Operation) (old : List ℕ) (at len : ℕ) (marks new : List ℕ) (a b c : Shelf) (f g : ℕ → Bool)
+pub IsOnward-piece : (trace : List Operation) (old : Reusable) (at len : ℕ) (marks new : List ℕ) (a b c : Shelf) (f g : ℕ → Bool)
     → IsTrue (has_distinct_numbers trace) → IsGap old len → new ≡ marks ++ at ∷ [] → AreAnswered a b (names_at trace (at ∷ [])) f g → IsSearched b c → IsOnward trace old at (at + len) marks new a c f g
 IsOnward-piece trace old at len marks new a b c f g distinct gap is answered searched = record {
   more = at ∷ [];
@@ -228,7 +229,7 @@ AreAnswered-cut trace from at len a b c f g h le z pos small first second =
     subst (λ names. AreAnswered a c names f h) (sym (ap (names_at trace) (cuts-next from at len le z pos small) ∙ names_at-append trace (cuts from at) (at ∷ [])))
     (AreAnswered-next a b c (names_at trace (cuts from at)) (names_at trace (at ∷ [])) f g h first second)
 
-pub IsWay-cut : (trace : List Operation) (old : List ℕ) (from at len : ℕ) (marks first second : List ℕ) (gone : ℕ → Bool) → from ≤ at → (at - from) % 64 ≡ 0 → 0 < len → len ≤ 64
+pub IsWay-cut : (trace : List Operation) (old : Reusable) (from at len : ℕ) (marks first second : List ℕ) (gone : ℕ → Bool) → from ≤ at → (at - from) % 64 ≡ 0 → 0 < len → len ≤ 64
     → IsWay trace old from at (cuts from at) marks first gone → IsWay trace old at (at + len) (at ∷ []) first second gone → IsWay trace old from (at + len) (cuts from (at + len)) marks second gone
 IsWay-cut trace old from at len marks first second gone le z pos small one two =
     subst (λ more. IsWay trace old from (at + len) more marks second gone) (sym (cuts-next from at len le z pos small))
@@ -242,7 +243,7 @@ AreAnswered-one trace old new id at answer name f g touch is there join rise =
     (record { answers = option_to_list answer; touched = AreMarksTouched-one old new id answer touch; join = join; rise = rise })
 
 -- the names of the cuts are touched, and then the operations are stepped
-pub IsOnward-ahead : (trace : List Operation) (old : List ℕ) (at to : ℕ) (marks new : List ℕ) (a b c : Shelf) (f g : ℕ → Bool)
+pub IsOnward-ahead : (trace : List Operation) (old : Reusable) (at to : ℕ) (marks new : List ℕ) (a b c : Shelf) (f g : ℕ → Bool)
     → AreAnswered a b (names_at trace (cuts at to)) f g → IsSearched b c → IsWay trace old at to (cuts at to) marks new g → IsOnward trace old at to marks new a c f g
 IsOnward-ahead trace old at to marks new a b c f g answered searched way = record {
   more = cuts at to;

@@ -4,6 +4,7 @@ use Rattle.std.specs.Option.{option_map_or}
 use Rattle.trace_types.specs.Operation.{Operation}
 use Rattle.trace_types.specs.Trace.{place_of}
 use Rattle.mark_shelf.specs.Shelf.{Shelf, Touches}
+use Rattle.op_step.specs.Chunk.{Chunk}
 use Rattle.run_engine.specs.RunView.{RunView}
 use Rattle.run_engine.specs.Segments.{without}
 use Rattle.run_engine.specs.NewMarks.{AreMarksAfter}
@@ -41,11 +42,11 @@ between from to marks = filter (λ p. nat_le from p && nat_le p to) marks
 -- the checkpoints of the run of an edited trace, with a shelf before and after: of all that the replay leaves, those are given up whose names
 -- are answered as the shelf, which was searched for chunks and remembers others, is touched with the names of the restart and then of the
 -- new ones in order, the stop among them, where these are inner
-pub record AreMarksKept (old new : RunView) (shelf after : Shelf) : Type 0 where
+pub record AreMarksKept (guesses : List Chunk) (old new : RunView) (shelf after : Shelf) : Type 0 where
   pub all : List ℕ
   pub from : ℕ
   pub to : ℕ
   pub middle : Shelf
   pub same_marks : HasSameMarks shelf middle
-  pub replayed : AreMarksAfter old (record { trace = new.trace; marks = all }) from to
+  pub replayed : AreMarksAfter guesses old (record { trace = new.trace; marks = all }) from to
   pub touched : IsTouched (record { trace = new.trace; marks = all }) new middle after (names_at new.trace (between from to all))

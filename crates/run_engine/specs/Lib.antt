@@ -11,6 +11,7 @@ pub mod Blocks
 pub mod RunView
 pub mod HeadAndTail
 pub mod Bounds
+pub mod Guesses
 pub mod NewMarks
 pub mod Memo
 pub mod Steps
@@ -26,3 +27,6 @@ pub mod Revision
 pub mod RevisionProps
 pub mod OldRun
 pub mod Divergence
+pub mod Guessed
+pub mod Jobs
+pub mod Shifts

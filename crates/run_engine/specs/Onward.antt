@@ -3,6 +3,8 @@ use Rattle.std.specs.Prelude.{◌≡◌, ◌==◌, ◌+◌, ◌-◌, ℕ, Bool, 
 use Rattle.std.specs.List.{list_any}
 use Rattle.trace_types.specs.Operation.{Operation}
 use Rattle.mark_shelf.specs.Shelf.{Shelf}
+use Rattle.op_step.specs.Chunk.{Chunk}
+use Rattle.run_engine.specs.Guesses.{Reusable}
 use Rattle.run_engine.specs.RunView.{RunView}
 use Rattle.run_engine.specs.Marks.{multiples_below}
 use Rattle.run_engine.specs.NewMarks.{AreLaid, AreMarksOf, AreMarksAfter}
@@ -47,19 +49,19 @@ pub record AreAnswered (old new : Shelf) (names : List ℕ) (before after : ℕ 
 
 -- a replay goes on from one position to another with these cuts on the way: the checkpoints that it has then leave the same as all that
 -- are due, whichever names are given up, if those for which the test holds are among them
-pub record IsWay (trace : List Operation) (old : List ℕ) (at to : ℕ) (more marks new : List ℕ) (gone : ℕ → Bool) : Type 0 where
+pub record IsWay (trace : List Operation) (old : Reusable) (at to : ℕ) (more marks new : List ℕ) (gone : ℕ → Bool) : Type 0 where
   pub lead : (kept : List ℕ) (r : ℕ) (all : List ℕ) → AreLaid old kept r at all → AreLaid old kept r to (all ++ more)
   pub left : (names all : List ℕ) → AreMore gone (among names) → LeaveSame trace names marks all → LeaveSame trace names new (all ++ more)
 
 -- a replay goes on from one position to another with some cuts on the way, whose names are touched
-pub record IsOnward (trace : List Operation) (old : List ℕ) (at to : ℕ) (marks new : List ℕ) (shelf after : Shelf) (before gone : ℕ → Bool) : Type 0 where
+pub record IsOnward (trace : List Operation) (old : Reusable) (at to : ℕ) (marks new : List ℕ) (shelf after : Shelf) (before gone : ℕ → Bool) : Type 0 where
   pub more : List ℕ
   pub way : IsWay trace old at to more marks new gone
   pub answered : AreAnswered shelf after (names_at trace more) before gone
 
 -- a replay with these checkpoints, which leave the same as all that are due as far as a stop: the names of the restart and of those that
 -- are new were touched
-pub record AreMarksLeft (trace ops : List Operation) (kept old new : List ℕ) (r a b : ℕ) (shelf after : Shelf) (before gone : ℕ → Bool) : Type 0 where
+pub record AreMarksLeft (trace ops : List Operation) (kept : List ℕ) (old : Reusable) (new : List ℕ) (r a b : ℕ) (shelf after : Shelf) (before gone : ℕ → Bool) : Type 0 where
   pub all : List ℕ
   pub stop : ℕ
   pub marks : AreMarksOf trace ops kept old all r a b stop
@@ -67,12 +69,12 @@ pub record AreMarksLeft (trace ops : List Operation) (kept old new : List ℕ) (
   pub answered : AreAnswered shelf after (names_at ops (r ∷ marks.fresh)) before gone
 
 -- the same of the run of an edited trace, beside the old run
-pub record AreMarksDue (old new : RunView) (shelf after : Shelf) (gone : ℕ → Bool) : Type 0 where
+pub record AreMarksDue (guesses : List Chunk) (old new : RunView) (shelf after : Shelf) (gone : ℕ → Bool) : Type 0 where
   pub all : List ℕ
   pub from : ℕ
   pub to : ℕ
   pub names : List ℕ
-  pub replayed : AreMarksAfter old (record { trace = new.trace; marks = all }) from to
+  pub replayed : AreMarksAfter guesses old (record { trace = new.trace; marks = all }) from to
   pub left : LeaveSame new.trace names new.marks all
   pub touched : AreMarksTouched shelf after (names_at new.trace (between from to all)) names
   pub gone_are : AreNames gone names

@@ -2,6 +2,7 @@
 #![tactic(auto)]
 
 mod editing;
+mod jobs;
 mod replay;
 mod run;
 mod segments;

@@ -3,6 +3,7 @@ pub mod ahead;
 pub mod converge;
 pub mod divergence;
 pub mod fresh;
+pub mod guess;
 pub mod loading;
 pub mod origin;
 pub mod piece;

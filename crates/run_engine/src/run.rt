@@ -15,6 +15,8 @@ ghost use Rattle.run_engine.specs.Marks.{load_marks};
 ghost use Rattle.run_engine.specs.Bounds.{StepsAtMostFrom};
 ghost use Rattle.run_engine.specs.Onward.{AreNames};
 ghost use Rattle.run_engine.specs.GivenUp.{given_up, names_at, IsTouched, AreMarksKept};
+ghost use Rattle.run_engine.specs.Guesses.{with_guesses};
+ghost use Rattle.run_engine.specs.Jobs.{AreJobsOf};
 ghost use Rattle.run_engine.specs.RunView.{load_view};
 ghost use Rattle.run_engine.specs.Steps.{AreRising, AreSteppedFrom};
 
@@ -22,6 +24,8 @@ use crate::editing::edits::{copied, edited, try_size};
 use crate::editing::faults::RunFault;
 use crate::editing::listing::Listing;
 use crate::editing::original::Original;
+use crate::jobs::begins::edited_shifting;
+use crate::jobs::changed::changed;
 use crate::replay::fresh::remember_all;
 use crate::replay::loading::{given_up_in, loaded};
 use crate::replay::restart::resumed;
@@ -31,7 +35,7 @@ use crate::segments::names::clear_named;
 use crate::segments::seek::{op_at, outcome_at, segment_at};
 use mark_shelf::MarkShelf;
 use object_heap::Heap;
-use op_step::Meter;
+use op_step::{ChunkRun, Job, Meter};
 use std::alloc::{AllocError, Global};
 use std::collections::BTreeSet;
 use std::marker::Model;
@@ -114,7 +118,7 @@ impl Run {
     ///
     /// The size of the batch is tried first, which takes no memory. Then the edits are tried in order, each on the result
     /// of those before it. The replay begins again at the greatest checkpoint at or before the first operation that
-    /// differs, takes chunks of the shelf and old stretches where they begin with the same heap and have the same operations, and stops at the
+    /// differs, takes guesses, chunks of the shelf and old stretches where they begin with the same heap and have the same operations, and stops at the
     /// first old checkpoint behind the last operation that differs where the heaps agree on all that can be reached. From
     /// there on the old outcomes stay, and what can't be reached is exchanged in the checkpoints and the end. The meter rises
     /// by the operations stepped, and where memory runs out by at most those up to the stop.
@@ -126,19 +130,20 @@ impl Run {
         &self,
         alloc: Global,
         batch: &Batch,
+        guesses: Vec<ChunkRun>,
         shelf: &mut MarkShelf,
         meter: &mut Meter,
     ) -> Result<Run, RunFault>
         ensures trace { IfOk result (λ r. edited_by self.now.trace batch.now ≡ Ok r.trace) }
-        ensures marks { IfOk result (λ r. AreMarksKept self.now r shelf.old shelf.new) }
+        ensures marks { IfOk result (λ r. AreMarksKept guesses.items self.now r shelf.old shelf.new) }
         ensures fault { IfErr result (IsFaultOf (edited_by self.now.trace batch.now)) }
         ensures empty { length batch.now ≡ 0 → result ≡ Err EmptyBatch }
         ensures too_many { MAX_EDITS < length batch.now → result ≡ Err TooManyEdits }
         ensures bound { (ops : List Operation) → edited_by self.now.trace batch.now ≡ Ok ops →
             StepsAtMostFrom self.now.trace ops self.now.marks meter.old meter.new }
         ensures stepped { IfOk result (λ r.
-            AreSteppedFrom self.now.trace r.trace self.now.marks shelf.old.chunks
-            meter.old meter.new) }
+            AreSteppedFrom self.now.trace r.trace self.now.marks
+            (with_guesses guesses.items shelf.old.chunks) meter.old meter.new) }
         ensures refused { IsErr (edited_by self.now.trace batch.now) → meter.new ≡ meter.old }
         ensures refused_shelf { IsErr (edited_by self.now.trace batch.now) → shelf.new ≡ shelf.old }
         ensures never_less { meter.old ≤ meter.new }
@@ -147,7 +152,15 @@ impl Run {
         let original = Original::of_segments(&self.segments);
         let listed = Listing::of(alloc, original)?;
         let ops = edited(listed, batch.as_slice())?;
-        let replay = resumed(alloc, &self.segments, &self.end, &ops, shelf, meter)?;
+        let replay = resumed(
+            alloc,
+            &self.segments,
+            &self.end,
+            &ops,
+            &guesses,
+            shelf,
+            meter,
+        )?;
         let mut run = Run {
             segments: replay.segments,
             end: replay.end,
@@ -156,6 +169,26 @@ impl Run {
         let run = run.renewed(alloc)?;
         remember_all(shelf, replay.fresh);
         Ok(run)
+    }
+
+    /// The stretches between neighbouring checkpoints that the edits change, as jobs: each with its checkpoint and its operations after the
+    /// edits, in order. What begins at the end is a stretch, too.
+    ///
+    /// An operation that is inserted where stretches meet belongs to the last that begins there. A stretch gives no job if an object of its
+    /// checkpoint has the number of one of its new operations. The size of the batch is tried first, which takes no memory, and then
+    /// the edits, as with `edited`.
+    pub fn jobs(&self, alloc: Global, batch: &Batch) -> Result<Vec<Job>, RunFault>
+        ensures jobs { IfOk result (λ v. AreJobsOf self.now batch.now v.items) }
+        ensures fault { IfErr result (IsFaultOf (edited_by self.now.trace batch.now)) }
+        ensures empty { length batch.now ≡ 0 → result ≡ Err EmptyBatch }
+        ensures too_many { MAX_EDITS < length batch.now → result ≡ Err TooManyEdits }
+    {
+        try_size(batch.len())?;
+        let original = Original::of_segments(&self.segments);
+        let listed = Listing::of(alloc, original)?;
+        let (ops, shifts) = edited_shifting(alloc, listed, batch.as_slice())?;
+        let jobs = changed(alloc, &self.segments, &self.end, &ops, &shifts)?;
+        Ok(jobs)
     }
 
     /// Gives up the checkpoint at a position, if it is an inner one, and tells whether it was. Takes no memory.

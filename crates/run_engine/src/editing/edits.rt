@@ -76,8 +76,12 @@ pub(crate) fn edited<'a>(ops: Listing<'a>, batch: &'a [Edit]) -> Result<Listing<
     Ok(ops)
 }
 
-// Carries out the edit with an index in the batch.
-fn edit_one<'a>(ops: &mut Listing<'a>, edit: &'a Edit, index: u64) -> Result<(), RunFault>
+/// Carries out the edit with an index in the batch.
+pub(crate) fn edit_one<'a>(
+    ops: &mut Listing<'a>,
+    edit: &'a Edit,
+    index: u64,
+) -> Result<(), RunFault>
     requires base { IsTrace ops.old.base }
     requires trace { IsTrace ops.old.ops }
     ensures ok { OnOk result (edited_one index ops.old.ops edit.now ≡ Ok ops.new.ops) }
@@ -164,8 +168,8 @@ fn exchange<'a>(ops: &mut Listing<'a>, id: u32, place: usize, op: &'a Op) -> Res
     Ok(())
 }
 
-// Where an operation goes that comes right after operation `after`.
-fn place_after(ops: &Listing, after: u32) -> Option<usize>
+/// Where an operation goes that comes right after operation `after`.
+pub(crate) fn place_after(ops: &Listing, after: u32) -> Option<usize>
     requires base { IsTrace ops.now.base }
     requires trace { IsTrace ops.now.ops }
     ensures value { result ≡ place_after after ops.now.ops }

@@ -2,6 +2,7 @@
 ghost use Rattle.std.specs.Prelude.{◌≡◌, ℕ, List, [], ◌∷◌, ◌+◌, ◌<◌, ◌≤◌, IfOk, length, slice_range};
 ghost use Rattle.trace_types.specs.Operation.{Operation};
 ghost use Rattle.trace_types.specs.Trace.{IsTrace};
+ghost use Rattle.run_engine.specs.Guesses.{Reusable};
 ghost use Rattle.run_engine.specs.Memo.{IsSearched};
 ghost use Rattle.run_engine.specs.Onward.{cuts};
 ghost use Rattle.run_engine.specs.Steps.{AreTaken, HaveSteppedOn};
@@ -30,8 +31,8 @@ pub fn go_ahead(
     requires may { MayGoOn ops.now.ops front to }
     requires trace { IsTrace ops.now.ops }
     requires placed { IsPlaced shelf.old.chunks front }
-    ensures goes_on { (old : List Operation) (marks : List ℕ) → IfOk result (λ f.
-        GoesOn old ops.now.ops marks front f shelf.old shelf.new meter.old meter.new) }
+    ensures goes_on { (old : List Operation) (known : Reusable) → IfOk result (λ f.
+        GoesOn old ops.now.ops known front f shelf.old shelf.new meter.old meter.new) }
     ensures placed { IfOk result (IsPlaced shelf.new.chunks) }
     ensures there { IfOk result (λ f. f.len ≡ to) }
     ensures never_less { meter.old ≤ meter.new }

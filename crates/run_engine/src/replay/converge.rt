@@ -3,7 +3,8 @@ ghost use Rattle.std.specs.Prelude.{◌≡◌, ◌++◌, ◌+◌, ◌<◌, ◌�
 ghost use Rattle.std.specs.Ordering.{nat_cmp};
 ghost use Rattle.std.specs.BTreeSet.{contains};
 ghost use Rattle.run_engine.specs.Segments.{trace_of, marks_from, all_marks, IsRun, IsPiece};
-ghost use Rattle.run_engine.specs.OldRun.{old_trace, old_marks, new_trace};
+ghost use Rattle.run_engine.specs.Guesses.{with_guesses};
+ghost use Rattle.run_engine.specs.OldRun.{old_trace, old_marks, new_trace, reusable};
 ghost use Rattle.run_engine.specs.HeadAndTail.{ShareEnd};
 ghost use Rattle.run_engine.specs.Bounds.{StepsAtMost};
 ghost use Rattle.run_engine.specs.NewMarks.{IsGap};
@@ -16,6 +17,7 @@ ghost use Rattle.run_engine.specs.Divergence.{IsFork};
 
 use crate::replay::ahead::go_ahead;
 use crate::replay::divergence::Divergence;
+use crate::replay::guess::{guessed, may_guess};
 use crate::replay::origin::Behind;
 use crate::replay::piece::{Next, Piece, STRIDE, found, joined, stepped};
 use crate::replay::progress::{Fork, Progress};
@@ -36,14 +38,14 @@ pub struct Seam {
     pub edited: usize,
 }
 
-// How far a replay is to go on, and from where on no old stretch can serve.
+// How far a replay is to go on, and from where on no old stretch can serve: a guess may anywhere.
 #[derive(Clone, Copy)]
 struct Leg {
     to: usize,
     open: usize,
 }
 
-// What a replay goes on with: a chunk that the shelf has of the operations up to the next cut, an old stretch, or else those
+// What a replay goes on with: a guess, a chunk that the shelf has of the operations up to the next cut, an old stretch, or else those
 // operations, which are stepped; and the last place that is known then where the replay has the old run's heap.
 fn next_piece(
     alloc: Global,
@@ -62,11 +64,11 @@ fn next_piece(
         (slice_range (new_trace revision.now) progress.now.front.len to)
         p.0.segments p.0.end p.0.len) }
     ensures fork { IfOk result (λ p. IsFork revision.now p.1) }
-    ensures gap { IfOk result (λ p. IsGap (old_marks revision.now) p.0.len) }
+    ensures gap { IfOk result (λ p. IsGap (reusable revision.now) p.0.len) }
     ensures steps { IfOk result (λ p. meter.new ≤ meter.old + p.0.len) }
     ensures taken { IfOk result (λ p.
-        AreTaken (old_trace revision.now) (old_marks revision.now) shelf.old.chunks
-        progress.now.front.end (slice_range (new_trace revision.now) progress.now.front.len to)
+        AreTaken (old_trace revision.now) (old_marks revision.now)
+        (with_guesses revision.now.guesses.now shelf.old.chunks) progress.now.front.end (slice_range (new_trace revision.now) progress.now.front.len to)
         p.0.len meter.old meter.new) }
     ensures next { IfOk result (λ p. IsNext shelf.new.chunks progress.now.front.end p.0) }
     ensures searched { IsSearched shelf.old shelf.new }
@@ -75,6 +77,10 @@ fn next_piece(
 {
     let front = &progress.front;
     let fork = progress.fork;
+    let guess = guessed(alloc, revision, &front.end, front.len, to)?;
+    if let Some(piece) = guess {
+        return Ok((piece, fork));
+    }
     let len = (to - front.len).min(STRIDE);
     let next = revision.ops.copies(alloc, front.len, front.len + len)?;
     let known = found(alloc, &front.end, &next, front.behind.number(), shelf)?;
@@ -90,18 +96,35 @@ fn next_piece(
     Ok((piece, fork))
 }
 
-// The next cut from a position on where an old stretch may begin: one where an old checkpoint stood. Where none does before the leg is
-// open no longer, the first cut from there on, or the end of the leg.
+// From where on nothing can serve but a chunk that the shelf has.
+fn served(revision: &Revision, leg: Leg) -> usize
+    ensures { result ≤ leg.to }
+{
+    if revision.guesses.is_empty() {
+        return leg.open.min(leg.to);
+    }
+    leg.to
+}
+
+// Whether an old stretch or a guess may begin at a cut.
+fn may_serve(revision: &Revision, cut: usize, open: usize) -> bool
+    requires { cut < length (new_trace revision.now) }
+{
+    may_guess(revision, cut) || cut < open && may_begin(revision, cut)
+}
+
+// The next cut from a position on where an old stretch or a guess may begin. Where none does before nothing can serve, the first cut from
+// there on, or the end of the leg.
 fn next_start(revision: &Revision, at: usize, leg: Leg) -> usize
     requires order { at ≤ leg.to }
     requires within { leg.to ≤ length (new_trace revision.now) }
     ensures no_less { at ≤ result }
     ensures within { result ≤ leg.to }
 {
-    let open = leg.open.min(leg.to);
+    let open = served(revision, leg);
     let mut cut = at;
     while cut < open {
-        if may_begin(revision, cut) {
+        if may_serve(revision, cut, leg.open) {
             return cut;
         }
         cut += (leg.to - cut).min(STRIDE);
@@ -109,7 +132,7 @@ fn next_start(revision: &Revision, at: usize, leg: Leg) -> usize
     cut
 }
 
-// Goes on with the replay where old stretches may serve. Where one may begin, the name of the checkpoint is touched, and then a piece is
+// Goes on with the replay where old stretches and guesses may serve. Where one may begin, the name of the checkpoint is touched, and then a piece is
 // taken; the cuts up to there are known before they are reached.
 fn serve(
     alloc: Global,
@@ -134,7 +157,7 @@ fn serve(
     ensures rise { meter.new + progress.front.len ≤ meter.old + leg.to }
 {
     let mut progress = progress;
-    while progress.front.len < leg.open.min(leg.to) {
+    while progress.front.len < served(revision, leg) {
         let at = progress.front.len;
         let next = next_start(revision, at, leg);
         if at < next {
@@ -221,14 +244,15 @@ pub fn converge(
     ensures trace { IfOk result (λ r. trace_of r.segments ≡ (new_trace revision.now)) }
     ensures marks { IfOk result (λ r.
         AreMarksLeft (old_trace revision.now) (new_trace revision.now)
-        (marks_from 0 front.segments) (old_marks revision.now) (all_marks r.segments)
+        (marks_from 0 front.segments) (reusable revision.now) (all_marks r.segments)
         front.len seam.base seam.edited shelf.old shelf.new
         (contains nat_cmp front.gone) (contains nat_cmp r.gone)) }
     ensures bound { StepsAtMost (old_trace revision.now) (new_trace revision.now) seam.base seam.edited
         (old_marks revision.now) front.len meter.old meter.new }
     ensures stepped { IfOk result (λ _.
         AreStepped (old_trace revision.now) (new_trace revision.now) seam.base seam.edited
-        (old_marks revision.now) shelf.old.chunks front.len meter.old meter.new) }
+        (old_marks revision.now) (with_guesses revision.now.guesses.now shelf.old.chunks)
+        front.len meter.old meter.new) }
     ensures never_less { meter.old ≤ meter.new }
 {
     let old = revision.segments;

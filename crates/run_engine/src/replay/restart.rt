@@ -7,6 +7,7 @@ ghost use Rattle.run_engine.specs.Segments.{trace_of, all_marks, IsRun, IsRestar
 ghost use Rattle.run_engine.specs.Bounds.{StepsAtMostFrom};
 ghost use Rattle.run_engine.specs.Onward.{AreNames, AreMarksDue};
 ghost use Rattle.op_step.specs.Chunk.{Chunk};
+ghost use Rattle.run_engine.specs.Guesses.{with_guesses};
 ghost use Rattle.run_engine.specs.Steps.{AreSteppedFrom};
 ghost use Rattle.run_engine.specs.Placed.{IsPlaced};
 
@@ -20,7 +21,7 @@ use crate::replay::revision::Revision;
 use crate::segments::blocks::Segments;
 use mark_shelf::MarkShelf;
 use object_heap::Heap;
-use op_step::Meter;
+use op_step::{ChunkRun, Meter};
 use std::alloc::{AllocError, Global};
 use std::collections::BTreeSet;
 
@@ -86,12 +87,13 @@ fn front(alloc: Global, revision: &Revision, head: usize) -> Result<Piece, Alloc
     })
 }
 
-/// The replay of an edited trace beside that of the old one, the base.
+/// The replay of an edited trace beside that of the old one, the base, with guesses of its stretches.
 pub fn resumed(
     alloc: Global,
     segments: &Segments,
     end: &Heap,
     ops: &Listing,
+    guesses: &[ChunkRun],
     shelf: &mut MarkShelf,
     meter: &mut Meter,
 ) -> Result<Piece, AllocError>
@@ -101,19 +103,19 @@ pub fn resumed(
     ensures run { IfOk result (λ r. IsRun r.segments r.end) }
     ensures trace { IfOk result (λ r. trace_of r.segments ≡ ops.now.ops) }
     ensures marks { IfOk result (λ r.
-        AreMarksDue (record { trace = ops.now.base; marks = all_marks segments.now })
+        AreMarksDue guesses.now (record { trace = ops.now.base; marks = all_marks segments.now })
         (record { trace = ops.now.ops; marks = all_marks r.segments })
         shelf.old shelf.new (contains nat_cmp r.gone)) }
     ensures bound { StepsAtMostFrom ops.now.base ops.now.ops (all_marks segments.now)
         meter.old meter.new }
     ensures stepped { IfOk result (λ _.
-        AreSteppedFrom ops.now.base ops.now.ops (all_marks segments.now) shelf.old.chunks
-        meter.old meter.new) }
+        AreSteppedFrom ops.now.base ops.now.ops (all_marks segments.now)
+        (with_guesses guesses.now shelf.old.chunks) meter.old meter.new) }
     ensures never_less { meter.old ≤ meter.new }
 {
     let first = head(ops);
     let last = tail(ops, first);
-    let revision = Revision::of(segments, end, ops);
+    let revision = Revision::of(segments, end, ops, guesses);
     let front = front(alloc, &revision, first)?;
     let seam = Seam {
         base: ops.base_len() - last,

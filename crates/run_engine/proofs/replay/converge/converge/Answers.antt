@@ -1,4 +1,6 @@
 use Rattle.run_engine.specs.Segments.{all_marks}
+use Rattle.run_engine.specs.Guesses.{with_guesses}
+use Rattle.run_engine.specs.OldRun.{reusable}
 use Rattle.std.proofs.Common.{◌≡◌, ℕ, ◌+◌, ◌-◌, ◌<◌, ◌≤◌, List, [], ◌∷◌, ◌++◌, length, take, drop, true, false, refl, ap, sym, ◌∙◌, arith}
 use Rattle.std.specs.Prelude.{is_some}
 use Rattle.ownership_model.specs.State.{nothing_held}
@@ -134,7 +136,7 @@ returns-in-Some-found-clause-marks c =
     let trace : trace_of (front ++ drop c.loop-i.i old) ≡ c.args.revision.now.ops.now.ops =
     trace_of-append front (drop c.loop-i.i old) ∙ ap (λ t. trace_of front ++ t) (sym (rest-is c)) ∙ sym (trace_of-append front c.in-Some-found.rest) ∙ (spliced c).trace in
     rw (c.in_ok-spliced.ensures.segments, c.in_ok-spliced.ensures.gone)
-    (left-at-stop c.args.revision.now.segments.now c.args.revision.now.ops.now.ops (marks_from 0 c.args.front.segments) (marks_from 0 c.in_ok-progress.progress.front.segments) _ c.args.seam.base c.args.seam.edited c.loop-i.i c.loop-i.at c.args.front.len c.in_ok-progress.progress.front.len c.at-segment.result c.in-Some.mark _ _ _ _ _ _
+    (left-at-stop c.args.revision.now.guesses.now c.args.revision.now.segments.now c.args.revision.now.ops.now.ops (marks_from 0 c.args.front.segments) (marks_from 0 c.in_ok-progress.progress.front.segments) _ c.args.seam.base c.args.seam.edited c.loop-i.i c.loop-i.at c.args.front.len c.in_ok-progress.progress.front.len c.at-segment.result c.in-Some.mark _ _ _ _ _ _
     c.args.revision.now.holds.trace.distinct (omega (arith, c.loop-i-test.true, c.len-i-end.ensures)) c.at-segment.ensures (sym c.in-Some.ensures) c.loop-i.invariant.place.place c.if-at-seam.true (agreed c) (least-agreeing _ _ _ _ _ _ _ _ _ _ _ _ c.loop-i.invariant.place) there
     (GoesOn-next _ _ _ _ _ _ _ _ _ _ _ _ c.loop-i.invariant.beside c.in_ok-progress.ensures.beside).onward c.in_ok-touch_at.ensures.answered
     (alike ∙ all_marks-stop c.args.revision.now.segments.now c.in_ok-progress.progress.front.segments c.args.revision.now.ops.now.ops c.args.seam.base c.args.seam.edited c.loop-i.i c.loop-i.at c.at-segment.result c.args.revision.now.holds.kept.run.full c.requires.shared (omega (arith, c.loop-i-test.true, c.len-i-end.ensures)) c.at-segment.ensures c.in-Some.mark (sym c.in-Some.ensures)
@@ -142,7 +144,7 @@ returns-in-Some-found-clause-marks c =
 
 pub returns-in-Some-found-clause-stepped : goal.returns-in-Some-found-clause-stepped
 returns-in-Some-found-clause-stepped c =
-    AreStepped-stop (trace_of c.args.revision.now.segments.now) c.args.revision.now.ops.now.ops (all_marks c.args.revision.now.segments.now) c.args.shelf.now.chunks c.args.seam.base c.args.seam.edited c.args.front.len c.in_ok-progress.progress.front.len c.loop-i.at c.args.meter.now _ c.in_ok-progress.ensures.there
+    AreStepped-stop (trace_of c.args.revision.now.segments.now) c.args.revision.now.ops.now.ops (all_marks c.args.revision.now.segments.now) (with_guesses c.args.revision.now.guesses.now c.args.shelf.now.chunks) c.args.seam.base c.args.seam.edited c.args.front.len c.in_ok-progress.progress.front.len c.loop-i.at c.args.meter.now _ c.in_ok-progress.ensures.there
     (mark-there c.args.revision.now.segments.now c.loop-i.i c.loop-i.at c.at-segment.result c.in-Some.mark (omega (arith, c.loop-i-test.true, c.len-i-end.ensures)) c.at-segment.ensures (sym c.in-Some.ensures) c.loop-i.invariant.place.place)
     c.if-at-seam.true (agreed c) (GoesOn-steps _ _ _ _ _ _ _ _ _ (GoesOn-next _ _ _ _ _ _ _ _ _ _ _ _ c.loop-i.invariant.beside c.in_ok-progress.ensures.beside))
 
@@ -154,7 +156,7 @@ returns-clause-marks c =
     let there : c.in_ok-progress-2.progress.front.len ≡ length c.args.revision.now.ops.now.ops = c.in_ok-progress-2.ensures.there ∙ c.len.ensures in
     let e = place-end c.args.revision.now.segments.now c.loop-i.i c.loop-i.at (omega (arith, c.loop-i-test.false, c.len-i-end.ensures)) (omega (arith, c.loop-i.auto.i-end (omega (arith, c.last_from-first.ensures.last.within, c.len-i-end.ensures)), c.len-i-end.ensures)) c.loop-i.invariant.place.place in
     let trace : trace_of c.in_ok-progress-2.progress.front.segments ≡ c.args.revision.now.ops.now.ops = (IsSpliced-end c.args.revision.now.ops.now.ops c.in_ok-progress-2.progress.front.len c.in_ok-progress-2.progress.front.segments c.in_ok-progress-2.progress.front.end c.in_ok-progress-2.ensures.beside.reached there).trace in
-    left-at-end c.args.revision.now.segments.now c.args.revision.now.ops.now.ops (marks_from 0 c.args.front.segments) (marks_from 0 c.in_ok-progress-2.progress.front.segments) _ c.args.seam.base c.args.seam.edited c.args.front.len c.in_ok-progress-2.progress.front.len c.args.shelf.now c.advance-2.new.shelf _ _
+    left-at-end c.args.revision.now.guesses.now c.args.revision.now.segments.now c.args.revision.now.ops.now.ops (marks_from 0 c.args.front.segments) (marks_from 0 c.in_ok-progress-2.progress.front.segments) _ c.args.seam.base c.args.seam.edited c.args.front.len c.in_ok-progress-2.progress.front.len c.args.shelf.now c.advance-2.new.shelf _ _
     c.args.revision.now.holds.trace.distinct c.requires.shared
     (λ p mark behind agrees.
     let least : c.loop-i.at ≤ p = least-agreeing _ _ _ _ _ _ _ _ _ _ _ _ c.loop-i.invariant.place p mark behind agrees in
@@ -164,14 +166,14 @@ returns-clause-marks c =
 
 pub returns-clause-stepped : goal.returns-clause-stepped
 returns-clause-stepped c =
-    AreStepped-end (trace_of c.args.revision.now.segments.now) c.args.revision.now.ops.now.ops (all_marks c.args.revision.now.segments.now) c.args.shelf.now.chunks c.args.seam.base c.args.seam.edited c.args.front.len c.in_ok-progress-2.progress.front.len c.args.meter.now _ (c.in_ok-progress-2.ensures.there ∙ c.len.ensures)
+    AreStepped-end (trace_of c.args.revision.now.segments.now) c.args.revision.now.ops.now.ops (all_marks c.args.revision.now.segments.now) (with_guesses c.args.revision.now.guesses.now c.args.shelf.now.chunks) c.args.seam.base c.args.seam.edited c.args.front.len c.in_ok-progress-2.progress.front.len c.args.meter.now _ (c.in_ok-progress-2.ensures.there ∙ c.len.ensures)
     (GoesOn-steps _ _ _ _ _ _ _ _ _ (GoesOn-next _ _ _ _ _ _ _ _ _ _ _ _ c.loop-i.invariant.beside c.in_ok-progress-2.ensures.beside))
 
 pub loop-i-init : goal.loop-i-init
 loop-i-init c = record {
   place = IsBeside-first c.args.revision.now.segments.now c.args.revision.now.ops.now.ops c.args.seam.base c.args.seam.edited c.args.front.len c.args.meter.now c.last_from-first.result.0 c.last_from-first.result.1 c.args.front.segments c.args.front.end
       c.args.revision.now.holds.kept.run.full c.last_from-first.ensures.last.within c.last_from-first.ensures.last.place c.last_from-first.ensures.last.before c.requires.may.reached c.requires.may.order;
-  beside = GoesOn-none (trace_of c.args.revision.now.segments.now) c.args.revision.now.ops.now.ops (all_marks c.args.revision.now.segments.now) c.args.front c.args.shelf.now c.args.meter.now c.requires.may.reached;
+  beside = GoesOn-none (trace_of c.args.revision.now.segments.now) c.args.revision.now.ops.now.ops (reusable c.args.revision.now) c.args.front c.args.shelf.now c.args.meter.now c.requires.may.reached;
   fork = ap (end_from nothing_held) c.requires.begins;
   placed = c.requires.placed;
   known = IsDivergence-fork c.args.revision.now c.none-divergence.result (record { edited = c.args.front.len; base = c.args.front.len }) c.none-divergence.ensures.within c.none-divergence.ensures.edited c.none-divergence.ensures.base (ap (end_from nothing_held) c.requires.begins);

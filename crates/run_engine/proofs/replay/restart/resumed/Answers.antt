@@ -1,6 +1,7 @@
 use Rattle.std.proofs.Common.{◌≡◌, ◌-◌, length, take, sym, subst, arith}
 use Rattle.run_engine.specs.Segments.{all_marks}
 use Rattle.run_engine.specs.Bounds.{StepsAtMost}
+use Rattle.run_engine.specs.Guesses.{with_guesses}
 use Rattle.run_engine.specs.Steps.{AreStepped}
 use Rattle.run_engine.specs.HeadAndTail.{AreShared}
 use Rattle.run_engine.proofs.HeadAndTailLemmas.{ShareEnd-tail, from-greatest, bounded-none}
@@ -55,17 +56,17 @@ returns-clause-bound c =
 
 pub returns-clause-stepped : goal.returns-clause-stepped
 returns-clause-stepped c =
-    from-greatest (λ t r. AreStepped c.args.ops.now.base c.args.ops.now.ops (length c.args.ops.now.base - t) (length c.args.ops.now.ops - t) (all_marks c.args.segments.now) c.args.shelf.now.chunks r c.args.meter.now c.converge.new.meter)
+    from-greatest (λ t r. AreStepped c.args.ops.now.base c.args.ops.now.ops (length c.args.ops.now.base - t) (length c.args.ops.now.ops - t) (all_marks c.args.segments.now) (with_guesses c.args.guesses.now c.args.shelf.now.chunks) r c.args.meter.now c.converge.new.meter)
     c.args.ops.now.base c.args.ops.now.ops (all_marks c.args.segments.now) c.head-first.result c.tail-last.result c.in_ok-front.front.len
     (record { head_is = c.head-first.ensures; tail_is = c.tail-last.ensures })
     (rw c.of-revision.ensures.segments at c.in_ok-front.ensures.kept).greatest
-    (subst (λ t. AreStepped t c.args.ops.now.ops (length t - c.tail-last.result) (length c.args.ops.now.ops - c.tail-last.result) (all_marks c.args.segments.now) c.args.shelf.now.chunks c.in_ok-front.front.len c.args.meter.now c.converge.new.meter) (sym c.requires.base)
-    (rw (c.of-revision.ensures.segments, c.of-revision.ensures.ops, c.base_len.ensures, c.len.ensures, c.requires.base) at c.in_ok-replay.ensures.stepped))
+    (subst (λ t. AreStepped t c.args.ops.now.ops (length t - c.tail-last.result) (length c.args.ops.now.ops - c.tail-last.result) (all_marks c.args.segments.now) (with_guesses c.args.guesses.now c.args.shelf.now.chunks) c.in_ok-front.front.len c.args.meter.now c.converge.new.meter) (sym c.requires.base)
+    (rw (c.of-revision.ensures.segments, c.of-revision.ensures.ops, c.base_len.ensures, c.len.ensures, c.requires.base, c.of-revision.ensures.guesses) at c.in_ok-replay.ensures.stepped))
 
 pub returns-clause-marks : goal.returns-clause-marks
 returns-clause-marks c =
     rw c.requires.base
-    (AreMarksDue-restart c.args.segments.now c.in_ok-front.front.segments c.args.end.now c.in_ok-front.front.end c.args.ops.now.ops (all_marks c.in_ok-replay.replay.segments) c.head-first.result c.tail-last.result _ c.in_ok-front.front.len _ _ _ _
+    (AreMarksDue-restart c.args.guesses.now c.args.segments.now c.in_ok-front.front.segments c.args.end.now c.in_ok-front.front.end c.args.ops.now.ops (all_marks c.in_ok-replay.replay.segments) c.head-first.result c.tail-last.result _ c.in_ok-front.front.len _ _ _ _
     c.requires.kept.run (rw c.of-revision.ensures.segments at c.in_ok-front.ensures.kept) (rw c.of-revision.ensures.segments at c.in_ok-front.ensures.segments)
     (subst (λ t. AreShared t c.args.ops.now.ops c.head-first.result c.tail-last.result) c.requires.base (record { head_is = c.head-first.ensures; tail_is = c.tail-last.ensures })) c.in_ok-front.ensures.gone
-    (rw (c.of-revision.ensures.segments, c.of-revision.ensures.ops, c.base_len.ensures, c.len.ensures, c.requires.base) at c.in_ok-replay.ensures.marks))
+    (rw (c.of-revision.ensures.segments, c.of-revision.ensures.ops, c.base_len.ensures, c.len.ensures, c.requires.base, c.of-revision.ensures.guesses) at c.in_ok-replay.ensures.marks))
