@@ -59,11 +59,11 @@ pub record IsSettled (v : Version) (r : Request) (reply : Reply) (next : Version
 unfoldable pub ReplaysWithin : List Operation → List ℕ → List Edit → ℕ → ℕ → Type 0
 ReplaysWithin trace marks batch before after = (ops : List Operation) → edited_by trace batch ≡ Ok ops → StepsAtMostFrom trace ops marks before after
 
--- and by at least the operations that neither an old stretch nor a chunk that was on the shelf covers
+-- and by at least the operations that neither an old stretch nor one of the chunks covers: those that were on the shelf, and guesses
 unfoldable pub StepsAtLeast : List Operation → List ℕ → List (ℕ × Chunk) → List Edit → ℕ → ℕ → Type 0
 StepsAtLeast trace marks chunks batch before after = (ops : List Operation) → edited_by trace batch ≡ Ok ops → AreSteppedFrom trace ops marks chunks before after
 
 -- the next run is the one that stands, with the shelf as it was, or that of an edit of its trace, with the checkpoints that such an edit
 -- leaves, and the shelf after it
-abbrev pub IsNextRun : List Operation → List ℕ → RunView → Shelf → Shelf → Type 0
-IsNextRun trace marks next shelf after = let now : RunView = record { trace = trace; marks = marks } in ((next ≡ now) × (after ≡ shelf)) ⊎ AreMarksKept now next shelf after
+abbrev pub IsNextRun : List Chunk → List Operation → List ℕ → RunView → Shelf → Shelf → Type 0
+IsNextRun guesses trace marks next shelf after = let now : RunView = record { trace = trace; marks = marks } in ((next ≡ now) × (after ≡ shelf)) ⊎ AreMarksKept guesses now next shelf after

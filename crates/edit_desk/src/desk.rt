@@ -9,6 +9,7 @@ ghost use Rattle.edit_desk.specs.Versions.{IsDue, IsSettled, IsNextRun, ReplaysW
 ghost use Rattle.run_engine.specs.RunView.{RunView};
 ghost use Rattle.run_engine.specs.Marks.{load_marks};
 ghost use Rattle.run_engine.specs.GivenUp.{names_at, IsTouched};
+ghost use Rattle.run_engine.specs.Guesses.{with_guesses};
 ghost use Rattle.mark_shelf.specs.Shelf.{empty_shelf};
 ghost use Rattle.op_step.specs.Meter.{raised};
 
@@ -18,7 +19,7 @@ use crate::prepared::Prepared;
 use crate::published::{Published, revised};
 use crate::replies::Reply;
 use mark_shelf::MarkShelf;
-use op_step::Meter;
+use op_step::{ChunkRun, Meter};
 use run_engine::Run;
 use std::alloc::{AllocError, Global};
 use std::marker::Model;
@@ -129,23 +130,25 @@ impl Desk {
         &self.meter
     }
 
-    /// Replies to a session's request, and makes its edits where it accepts them. Out of memory the trace, its version
+    /// Replies to a session's request, and makes its edits where it accepts them. Guesses may serve these, as with `Run::edited`: the reply and
+    /// what stands then are the same whatever they are. Out of memory the trace, its version
     /// and the history stay as they were; the meter may have risen, and the shelf may have been touched.
     pub fn answer(
         &mut self,
         alloc: Global,
         session: u32,
         request: Request,
+        guesses: Vec<ChunkRun>,
     ) -> Result<Reply, AllocError>
         ensures reply { IfOk result (λ r. r ≡ reply_to self.old.standing request) }
         // A full history is told without memory.
         ensures history_full { MAX_ENTRIES ≤ length self.old.standing.history → result ≡ Ok HistoryFull }
         ensures after { OnOk result (self.new.standing ≡ after self.old.standing session request) }
         ensures unchanged { OnErr result (self.new.standing ≡ self.old.standing) }
-        ensures run { OnOk result (let next : RunView = record { trace = self.new.standing.trace; marks = self.new.marks } in IsNextRun self.old.standing.trace self.old.marks next self.old.shelf self.new.shelf) }
+        ensures run { OnOk result (let next : RunView = record { trace = self.new.standing.trace; marks = self.new.marks } in IsNextRun guesses.items self.old.standing.trace self.old.marks next self.old.shelf self.new.shelf) }
         ensures same_run { OnErr result (self.new.marks ≡ self.old.marks) }
         ensures bound { length self.old.standing.history < MAX_ENTRIES → request.base ≡ self.old.standing.version → ReplaysWithin self.old.standing.trace self.old.marks request.batch self.old.meter self.new.meter }
-        ensures stepped { OnOk result (length self.old.standing.history < MAX_ENTRIES → request.base ≡ self.old.standing.version → StepsAtLeast self.old.standing.trace self.old.marks self.old.shelf.chunks request.batch self.old.meter self.new.meter) }
+        ensures stepped { OnOk result (length self.old.standing.history < MAX_ENTRIES → request.base ≡ self.old.standing.version → StepsAtLeast self.old.standing.trace self.old.marks (with_guesses guesses.items self.old.shelf.chunks) request.batch self.old.meter self.new.meter) }
         ensures full { MAX_ENTRIES ≤ length self.old.standing.history → self.new.meter ≡ self.old.meter }
         ensures full_shelf { MAX_ENTRIES ≤ length self.old.standing.history → self.new.shelf ≡ self.old.shelf }
         ensures stale { request.base ≢ self.old.standing.version → self.new.meter ≡ self.old.meter }
@@ -157,30 +160,31 @@ impl Desk {
         if self.history.len() >= MAX_ENTRIES {
             return Ok(Reply::HistoryFull);
         }
-        let prepared = self.prepare(alloc, session, request)?;
+        let prepared = self.prepare(alloc, session, request, guesses)?;
         Ok(self.commit(prepared))
     }
 
     /// Replies to a request, and makes all that the reply wants, but neither trace, version nor history change by it.
-    /// Ask first that `len` is below `MAX_ENTRIES`; out of memory the meter may have risen. The shelf is touched for an accepted
+    /// Guesses may serve the edits, as with `Run::edited`. Ask first that `len` is below `MAX_ENTRIES`; out of memory the meter may have risen. The shelf is touched for an accepted
     /// request already here; where it isn't committed, checkpoints stay that the shelf has no names of.
     pub fn prepare(
         &mut self,
         alloc: Global,
         session: u32,
         request: Request,
+        guesses: Vec<ChunkRun>,
     ) -> Result<Prepared, AllocError>
         requires { length self.old.standing.history < MAX_ENTRIES }
         ensures due { IfOk result (λ p. IsDue self.old.standing p) }
         ensures request { IfOk result (λ p. (p.entry.session ≡ session) × (p.entry.request ≡ request)) }
         ensures history { IfOk result (λ p. (after self.old.standing p.entry.session p.entry.request).history ≡ self.old.standing.history ++ p.entry ∷ []) }
         ensures legal { IfOk result (λ p. IsLegal (after self.old.standing p.entry.session p.entry.request)) }
-        ensures run { IfOk result (λ p. IsNextRun self.old.standing.trace self.old.marks p.next.run self.old.shelf self.new.shelf) }
+        ensures run { IfOk result (λ p. IsNextRun guesses.items self.old.standing.trace self.old.marks p.next.run self.old.shelf self.new.shelf) }
         ensures room { OnOk result (0 < self.new.room) }
         ensures unchanged { self.new.standing ≡ self.old.standing }
         ensures same_run { self.new.marks ≡ self.old.marks }
         ensures bound { request.base ≡ self.old.standing.version → ReplaysWithin self.old.standing.trace self.old.marks request.batch self.old.meter self.new.meter }
-        ensures stepped { OnOk result (request.base ≡ self.old.standing.version → StepsAtLeast self.old.standing.trace self.old.marks self.old.shelf.chunks request.batch self.old.meter self.new.meter) }
+        ensures stepped { OnOk result (request.base ≡ self.old.standing.version → StepsAtLeast self.old.standing.trace self.old.marks (with_guesses guesses.items self.old.shelf.chunks) request.batch self.old.meter self.new.meter) }
         ensures stale { request.base ≢ self.old.standing.version → self.new.meter ≡ self.old.meter }
         ensures refused { IsErr (edited_by self.old.standing.trace request.batch) → self.new.meter ≡ self.old.meter }
         ensures stale_shelf { request.base ≢ self.old.standing.version → self.new.shelf ≡ self.old.shelf }
@@ -191,6 +195,7 @@ impl Desk {
             alloc,
             &self.published,
             &request,
+            guesses,
             &mut self.shelf,
             &mut self.meter,
         )?;
@@ -229,14 +234,15 @@ fn settle(
     alloc: Global,
     published: &Published,
     request: &Request,
+    guesses: Vec<ChunkRun>,
     shelf: &mut MarkShelf,
     meter: &mut Meter,
 ) -> Result<(Reply, Published), AllocError>
     requires { published.now.version < MAX_ENTRIES }
     ensures settled { IfOk result (λ r. IsSettled published.now request.now r.0 r.1) }
-    ensures run { IfOk result (λ r. IsNextRun published.now.run.trace published.now.run.marks r.1.run shelf.old shelf.new) }
+    ensures run { IfOk result (λ r. IsNextRun guesses.items published.now.run.trace published.now.run.marks r.1.run shelf.old shelf.new) }
     ensures bound { request.now.base ≡ published.now.version → ReplaysWithin published.now.run.trace published.now.run.marks request.now.batch meter.old meter.new }
-    ensures stepped { OnOk result (request.now.base ≡ published.now.version → StepsAtLeast published.now.run.trace published.now.run.marks shelf.old.chunks request.now.batch meter.old meter.new) }
+    ensures stepped { OnOk result (request.now.base ≡ published.now.version → StepsAtLeast published.now.run.trace published.now.run.marks (with_guesses guesses.items shelf.old.chunks) request.now.batch meter.old meter.new) }
     ensures stale { request.now.base ≢ published.now.version → meter.new ≡ meter.old }
     ensures refused { IsErr (edited_by published.now.run.trace request.now.batch) → meter.new ≡ meter.old }
     ensures stale_shelf { request.now.base ≢ published.now.version → shelf.new ≡ shelf.old }
@@ -247,7 +253,7 @@ fn settle(
     if request.base != version {
         return Ok((Reply::Stale(version), published.share()?));
     }
-    match revised(alloc, published, &request.batch, shelf, meter) {
+    match revised(alloc, published, &request.batch, guesses, shelf, meter) {
         Ok(run) => {
             let next = Published::new(alloc, version + 1, run)?;
             Ok((Reply::Accepted(version + 1), next))

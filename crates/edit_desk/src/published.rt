@@ -3,6 +3,7 @@ ghost use Rattle.std.specs.Prelude.{◌≡◌, ◌<◌, ◌≤◌, [], length, I
 ghost use Rattle.run_engine.specs.Edited.{edited_by, IsFaultOf};
 ghost use Rattle.mark_shelf.specs.Shelf.{Shelf, empty_shelf};
 ghost use Rattle.run_engine.specs.GivenUp.{AreMarksKept};
+ghost use Rattle.run_engine.specs.Guesses.{with_guesses};
 ghost use Rattle.run_engine.specs.Steps.{AreSteppedFrom};
 ghost use Rattle.edit_desk.specs.Versions.{ReplaysWithin};
 ghost use Rattle.run_engine.specs.declared.editing.faults.RunFault.TheVariants.{EmptyBatch, TooManyEdits};
@@ -10,7 +11,7 @@ ghost use Rattle.trace_reader.specs.Writing.{lines_text};
 
 use crate::kept::KEPT_MARKS;
 use mark_shelf::MarkShelf;
-use op_step::Meter;
+use op_step::{ChunkRun, Meter};
 use run_engine::{Run, RunFault, try_size};
 use std::alloc::{AllocError, Global};
 use std::marker::Model;
@@ -70,26 +71,27 @@ impl Published {
     }
 }
 
-/// The run of the version's trace after edits. The meter rises and the shelf is touched as with `Run::edited`.
+/// The run of the version's trace after edits, which guesses may serve. The meter rises and the shelf is touched as with `Run::edited`.
 pub(crate) fn revised(
     alloc: Global,
     published: &Published,
     batch: &Batch,
+    guesses: Vec<ChunkRun>,
     shelf: &mut MarkShelf,
     meter: &mut Meter,
 ) -> Result<Run, RunFault>
     ensures trace { IfOk result (λ r. edited_by published.now.run.trace batch.now ≡ Ok r.trace) }
-    ensures marks { IfOk result (λ r. AreMarksKept published.now.run r shelf.old shelf.new) }
+    ensures marks { IfOk result (λ r. AreMarksKept guesses.items published.now.run r shelf.old shelf.new) }
     ensures fault { IfErr result (IsFaultOf (edited_by published.now.run.trace batch.now)) }
     ensures empty { length batch.now ≡ 0 → result ≡ Err EmptyBatch }
     ensures too_many { MAX_EDITS < length batch.now → result ≡ Err TooManyEdits }
     ensures bound { ReplaysWithin published.now.run.trace published.now.run.marks batch.now meter.old meter.new }
-    ensures stepped { IfOk result (λ r. AreSteppedFrom published.now.run.trace r.trace published.now.run.marks shelf.old.chunks meter.old meter.new) }
+    ensures stepped { IfOk result (λ r. AreSteppedFrom published.now.run.trace r.trace published.now.run.marks (with_guesses guesses.items shelf.old.chunks) meter.old meter.new) }
     ensures refused { IsErr (edited_by published.now.run.trace batch.now) → meter.new ≡ meter.old }
     ensures refused_shelf { IsErr (edited_by published.now.run.trace batch.now) → shelf.new ≡ shelf.old }
     ensures never_less { meter.old ≤ meter.new }
 {
-    published.run.edited(alloc, batch, shelf, meter)
+    published.run.edited(alloc, batch, guesses, shelf, meter)
 }
 
 /// The run of the version's trace after edits, which nobody else sees, over a shelf of its own, which has room for as many
@@ -101,7 +103,7 @@ pub fn what_if(
     meter: &mut Meter,
 ) -> Result<Run, RunFault>
     ensures trace { IfOk result (λ r. edited_by published.now.run.trace batch.now ≡ Ok r.trace) }
-    ensures marks { IfOk result (λ r. (after : Shelf) × AreMarksKept published.now.run r (empty_shelf KEPT_MARKS 1 1) after) }
+    ensures marks { IfOk result (λ r. (after : Shelf) × AreMarksKept [] published.now.run r (empty_shelf KEPT_MARKS 1 1) after) }
     ensures fault { IfErr result (IsFaultOf (edited_by published.now.run.trace batch.now)) }
     ensures empty { length batch.now ≡ 0 → result ≡ Err EmptyBatch }
     ensures too_many { MAX_EDITS < length batch.now → result ≡ Err TooManyEdits }
@@ -112,7 +114,7 @@ pub fn what_if(
 {
     try_size(batch.len())?;
     let mut shelf = MarkShelf::new(alloc, KEPT_MARKS, 1, 1)?;
-    revised(alloc, published, batch, &mut shelf, meter)
+    revised(alloc, published, batch, Vec::new(alloc), &mut shelf, meter)
 }
 
 /// The canonical lines of a run's trace.
