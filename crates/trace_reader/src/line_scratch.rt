@@ -49,15 +49,15 @@ impl LineScratch {
         self.note_walk(text.len() / SHARE);
     }
 
-    /// Notes that a walk read a line up to this rest, which is read token by token. Of the rest it went over a member in vain: up to what
-    /// ends a value, or where its elements have commas, maybe over all of it.
+    /// Notes that a walk read a line up to this rest, which is read token by token. Of the rest it went over a member in vain: up to a comma,
+    /// or where its elements have commas, maybe over all of it.
     pub fn note_end(&mut self, line: &[u8], rest: &[u8]) {
         self.note_walk(line.len().saturating_sub(rest.len()));
         self.note_tokens(rest);
         let vain = if rest.starts_with(b"\"fields\"") {
             rest.len()
         } else {
-            memchr::memchr3(b',', b'}', b']', rest).unwrap_or(rest.len())
+            memchr::memchr(b',', rest).unwrap_or(rest.len())
         };
         self.note_vain(vain);
     }

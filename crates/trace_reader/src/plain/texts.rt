@@ -15,11 +15,21 @@ pub fn unescaped(text: &[u8]) -> Option<(&[u8], &[u8])>
     // Most names and texts end in their first block.
     match closed_behind(text, 0) {
         Some(found) => Some(found),
-        None => closed_behind(text, unescaped_blocks(text)),
+        None => long_unescaped(text),
     }
 }
 
+// Apart, since it is rare.
+#[inline(never)]
+fn long_unescaped(text: &[u8]) -> Option<(&[u8], &[u8])>
+    ensures quoted { IfSome result (λ found. text.now ≡ found.0.now ++ 34 ∷ found.1.now) }
+    ensures plain { IfSome result (λ found. list_all is_unescaped_byte found.0.now ≡ true) }
+{
+    closed_behind(text, unescaped_blocks(text))
+}
+
 // The same, where the closing quote stands in the block behind so many bytes that stand for themselves.
+#[inline(always)]
 fn closed_behind(text: &[u8], whole: usize) -> Option<(&[u8], &[u8])>
     requires within { whole ≤ length text.now }
     requires plain { list_all is_unescaped_byte (take whole text.now) ≡ true }
@@ -50,17 +60,12 @@ fn unescaped_blocks(text: &[u8]) -> usize
     end
 }
 
-// Where the first quote stands, if no backslash is before it.
-// It looks for both bytes, since LLVM inlines `memchr` where lines are cut only if nothing else calls it.
+// Where the first quote stands.
 #[inline(always)]
 fn quote(text: &[u8]) -> Option<usize>
     ensures { IfSome result (λ at. (at < length text.now) × (get_or text.now at 0 ≡ 34)) }
 {
-    let at = memchr::memchr2(b'"', b'\\', text)?;
-    if text[at] != b'"' {
-        return None;
-    }
-    Some(at)
+    memchr::memchr(b'"', text)
 }
 
 // Whether a text is of ASCII, and stands for itself between quotes. It goes on behind a byte that isn't so, since vectors can't stop.
