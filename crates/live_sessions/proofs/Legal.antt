@@ -14,7 +14,7 @@ use Rattle.edit_desk.specs.Answers.{Standing, opened, settled, reply_to, after_r
 use Rattle.edit_desk.specs.Versions.{Version, PreparedView, IsDue}
 use Rattle.live_sessions.specs.Fronts.{is_full, standing_from, standing_of, IsFront, accepted_of, one_if_accepted}
 use Rattle.live_sessions.specs.Desks.{CountedView, IsAfter, Follows}
-use Rattle.live_sessions.specs.Views.{PassView, Submitted, Replied, Grown, entry}
+use Rattle.live_sessions.specs.Views.{PassView, Submitted, SawFull, Replied, Grown, entry}
 
 -- the end of what leads is what stands after it
 pub leads_end : (s : Standing) (es : List Entry) (end : Standing) → LeadsTo s es end → end ≡ standing_from s es
@@ -120,6 +120,10 @@ grown before now session r (Accepted version) nf is = is
 grown before now session r (Stale version) nf is = is
 grown before now session r (Refused fault) nf is = is
 grown before now session r HistoryFull nf is = absurd cc
+
+-- the reply of a full history, which was seen
+pub replied_full : (t : List Operation) (old new : PassView) (h : List Entry) (r : Request) (reply : Reply) → reply ≡ HistoryFull → SawFull t old new → Replied t old new r reply × Grown h h old.session r reply
+replied_full t old new h r reply is saw = subst (λ (x : Reply). Replied t old new r x × Grown h h old.session r x) (sym is) (saw, refl)
 
 -- a desk's standing, by what contracts see of it
 pub standing_seen : (s : Standing) (v : CountedView) (room : ℕ) → IsLegal s → (let own : CountedView = record { opening = s.opening; history = s.history; room = room } in own ≡ v) → s ≡ standing_of v.opening v.history

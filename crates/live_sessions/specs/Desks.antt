@@ -17,6 +17,10 @@ pub record CountedView : Type 0 where
 abbrev pub IsAfter : List Operation → Version → List Entry → Type 0
 IsAfter t v h = (v.version ≡ accepted_of h) × (v.run.trace ≡ trace_after t h)
 
+-- a version that stood after some legal history
+abbrev pub IsSomeVersion : List Operation → Version → Type 0
+IsSomeVersion t v = (h : List Entry) × IsAfter t v h × IsFront t h
+
 -- for each session its number of entries; the history has no entries of others
 pub record IsCounted (counts : List ℕ) (h : List Entry) : Type 0 where
   pub places : length counts ≡ PLACES

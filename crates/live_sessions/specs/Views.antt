@@ -26,6 +26,11 @@ pub record Stands (t : List Operation) (v : PassView) (last : Version) : Type 0 
   pub run : IsAfter t last v.front
   pub own : v.answered ≤ count_of v.session v.front
 
+-- the pass's front begins the history, and has all entries of its session
+pub record HasMet (v : PassView) (h : List Entry) : Type 0 where
+  pub begins : IsPrefix v.front h
+  pub own : v.answered ≡ count_of v.session h
+
 -- what a read does to the pass: it has seen as much of the history as before, or more, and is else as it was
 pub record Reads (t : List Operation) (old new : PassView) : Type 0 where
   pub front : IsPrefix old.front new.front

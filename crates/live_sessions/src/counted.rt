@@ -7,6 +7,7 @@ ghost use Rattle.live_sessions.specs.Fronts.{is_full, count_of, standing_of, IsF
 
 use crate::limits::PLACES;
 use edit_desk::{Desk, Prepared, Published, Reply, Request};
+use op_step::ChunkRun;
 use std::alloc::{AllocError, Global};
 use std::marker::Model;
 use trace_types::limits::MAX_ENTRIES;
@@ -69,12 +70,14 @@ impl CountedDesk {
         self.desk.published()
     }
 
-    /// Replies to a request, and makes all that the reply wants. The history stays as it is, also out of memory.
+    /// Replies to a request, and makes all that the reply wants; guesses that are right are taken. The history stays as it is,
+    /// also out of memory.
     pub fn prepare(
         &mut self,
         alloc: Global,
         session: u32,
         request: Request,
+        guesses: Vec<ChunkRun>,
     ) -> Result<Prepared, AllocError>
         requires room { length self.old.history < MAX_ENTRIES }
         ensures same { (self.new.history ≡ self.old.history) × (self.new.opening ≡ self.old.opening) }
@@ -85,7 +88,7 @@ impl CountedDesk {
         ensures room { OnOk result (0 < self.new.room) }
     {
         let _opening = self.desk.opening();
-        self.desk.prepare(alloc, session, request)
+        self.desk.prepare(alloc, session, request, guesses)
     }
 
     /// Makes what was prepared stand, and counts its entry. Takes no memory.

@@ -15,6 +15,7 @@ pub mod race;
 mod receipt;
 mod shown;
 mod submitter;
+mod workers;
 
 pub use book::{Book, Front, Naming};
 pub use counted::CountedDesk;
@@ -27,3 +28,4 @@ pub use places::Places;
 pub use publisher::Publisher;
 pub use receipt::Receipt;
 pub use shown::Shown;
+pub use workers::Workers;

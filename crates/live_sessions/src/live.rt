@@ -15,10 +15,13 @@ use crate::places::Places;
 use crate::publisher::Publisher;
 use crate::receipt::Receipt;
 use crate::shown::Shown;
+use crate::workers::Workers;
 use edit_desk::{Desk, Reply, Request};
 use left_right::WriteHandle;
+use op_step::ChunkRun;
 use std::alloc::{AllocError, Global};
 use std::sync::{Mutex, Wait};
+use std::thread::Threads;
 use trace_types::limits::MAX_WORKERS;
 use trace_types::trace::Trace;
 
@@ -33,9 +36,11 @@ pub struct Started {
 /// receipt of another one is taken; `W` publishes.
 #[derive(Drop)]
 pub struct Live<J: Naming, W: Publisher<Value = Shown<J>>> {
+    alloc: Global,
     book: Book<J>,
     desk: Mutex<LockedDesk<J, W>>,
     places: Mutex<Places<J>>,
+    workers: Workers,
 }
 
 impl Started {
@@ -83,7 +88,7 @@ pub fn writer_of<J: Naming, R: Wait + Drop>(
 
 /// Lets sessions in to what was started. `J` is picked at the call: it names the book and the opening of what was started.
 ///
-/// The number of workers has no effect yet.
+/// `submit` tells what the workers do, of which there are 1 to 16.
 pub fn open<J: Naming, R: Wait + Drop>(
     rt: R,
     alloc: Global,
@@ -100,7 +105,7 @@ pub fn open<J: Naming, R: Wait + Drop>(
     let (book, front) = begun.named::<J>();
     let writer = writer_of(rt, alloc, &desk, &front)?;
     let places = Places::new(alloc, &writer, &desk, &front)?;
-    Ok(Live::over(alloc, book, desk, front, places, writer))
+    Ok(Live::over(alloc, book, desk, front, places, writer, workers))
 }
 
 impl<J: Naming, W: Publisher<Value = Shown<J>>> Live<J, W> {
@@ -112,14 +117,18 @@ impl<J: Naming, W: Publisher<Value = Shown<J>>> Live<J, W> {
         front: Front<J>,
         places: Places<J>,
         publisher: W,
+        workers: u32,
     ) -> Live<J, W>
+        requires workers { (1 ≤ workers) × (workers ≤ MAX_WORKERS) }
         requires opening { desk.opening ≡ J.opening }
         requires front { front ≡ desk.history }
     {
         Live {
+            alloc,
             book,
             desk: Mutex::new(LockedDesk::new(alloc, desk, front, publisher)),
             places: Mutex::new(places),
+            workers: Workers::new(workers),
         }
     }
 
@@ -131,11 +140,14 @@ impl<J: Naming, W: Publisher<Value = Shown<J>>> Live<J, W> {
 
     /// Submits a request of the pass's session, and answers with the reply to it.
     ///
+    /// Two workers or more first replay the stretches that the request changes, from the run that a read shows and outside the lock. Under it
+    /// the reply takes of these guesses what is right. What the reply is does not depend on them.
+    ///
     /// After `Ok` the entry stands, save where the reply is `HistoryFull`; and a read of any pass shows it or a later version,
     /// save where memory was wanting to publish it: the next submit publishes it first. After `Err` neither the pass nor the
     /// history has changed: `NoMeeting` comes where what the pass has seen, or the number of its session's entries, is not the
     /// history's, and `Memory` where memory was wanting.
-    pub fn submit<S: Wait>(
+    pub fn submit<S: Threads + Wait + Sync>(
         &self,
         rt: &S,
         pass: &mut Pass<J>,
@@ -144,7 +156,28 @@ impl<J: Naming, W: Publisher<Value = Shown<J>>> Live<J, W> {
         ensures reply { IfOk result (λ r. Replied J.opening pass.old pass.new request r) }
         ensures err { OnErr result (pass.new ≡ pass.old) }
     {
-        self.desk.lock(rt).submit(&self.book, pass, request)
+        let guesses = self.guesses(rt, pass, &request);
+        self.desk
+            .lock(rt)
+            .submit(&self.book, pass, request, guesses)
+    }
+
+    // What the workers guess of a request, without the lock. The pass stays as it is.
+    fn guesses<S: Threads + Sync>(
+        &self,
+        rt: &S,
+        pass: &mut Pass<J>,
+        request: &Request,
+    ) -> Vec<ChunkRun>
+        ensures { pass.new ≡ pass.old }
+    {
+        if !self.workers.do_guess() {
+            return Vec::new(self.alloc);
+        }
+        match pass.standing() {
+            Some(standing) => self.workers.guesses(rt, self.alloc, &standing, request),
+            None => Vec::new(self.alloc),
+        }
     }
 
     /// A receipt for the pass, whose place is free again; or the pass as it was, where what it has seen is not the history's.
@@ -174,9 +207,11 @@ impl<J: Naming, W: Publisher<Value = Shown<J>>> Live<J, W> {
         ensures opening { IfOk result (λ d. d.opening ≡ J.opening) }
     {
         let Live {
+            alloc: _,
             book: _book,
             desk,
             places: _places,
+            workers: _workers,
         } = self;
         let locked = desk.into_inner();
         locked.close(receipts)

@@ -1,9 +1,12 @@
 //! What lies under the lock: the desk, the whole history as it was seen, and what publishes the version that stands.
-ghost use Rattle.std.specs.Prelude.{◌≡◌, length, IfOk, OnErr, IfSome, All};
+ghost use Rattle.std.specs.Prelude.{◌≡◌, ◌<◌, ◌≤◌, ◌++◌, ◌∷◌, [], length, IfOk, OnOk, OnErr, IfSome, All};
 ghost use Rattle.std.specs.Bool.{OnTrue};
+ghost use Rattle.edit_desk.specs.declared.replies.Reply.TheVariants.{HistoryFull};
 ghost use mathlib.Core.List.{IsPrefix};
-ghost use Rattle.live_sessions.specs.Views.{Replied, Grown};
-ghost use Rattle.live_sessions.specs.Desks.{IsShown};
+ghost use Rattle.live_sessions.specs.Views.{Replied, Grown, HasMet, SawFull};
+ghost use Rattle.live_sessions.specs.Turns.{IsTurn};
+ghost use Rattle.live_sessions.specs.Desks.{Follows, IsShown};
+ghost use Rattle.live_sessions.specs.ShownView.{shown_view};
 
 use crate::book::{Book, Front, Naming};
 use crate::counted::CountedDesk;
@@ -12,8 +15,9 @@ use crate::pass::Pass;
 use crate::publisher::Publisher;
 use crate::receipt::Receipt;
 use crate::shown::Shown;
-use edit_desk::{Reply, Request};
-use std::alloc::Global;
+use edit_desk::{Prepared, Published, Reply, Request};
+use op_step::ChunkRun;
+use std::alloc::{AllocError, Global};
 use std::marker::Model;
 use trace_types::limits::MAX_ENTRIES;
 
@@ -40,62 +44,113 @@ impl<J: Naming, W: Publisher<Value = Shown<J>>> Model for LockedDesk<J, W> {
     ghost invariant = { λ h. (h.desk.opening ≡ J.opening) × (h.front ≡ h.desk.history) × (h.current ≡ true → IsShown J.opening (W.shown h.writer) h.desk.history) };
 }
 
+// How a submit goes on after the meeting.
+enum Turn {
+    Room,
+    Full,
+}
+
+// What follows when an entry has joined the log: the front with it, and its version, once to take in and once to publish.
+#[derive(Drop)]
+struct Joined<J: Naming> {
+    front: Front<J>,
+    last: Published,
+    shown: Shown<J>,
+}
+
 impl<J: Naming, W: Publisher<Value = Shown<J>>> LockedDesk<J, W> {
-    /// Answers a request of a pass's session, stores it and publishes what stands then. After a fault the pass and the history
+    /// Answers a request of a pass's session, stores it and publishes what stands then. Guesses that are right are taken. After a fault the pass and the history
     /// are as before.
     pub fn submit(
         &mut self,
         book: &Book<J>,
         pass: &mut Pass<J>,
         request: Request,
+        guesses: Vec<ChunkRun>,
     ) -> Result<Reply, SubmitFault>
         ensures reply { IfOk result (λ r. Replied J.opening pass.old pass.new request r × Grown self.old self.new pass.old.session request r) }
         ensures err { OnErr result ((self.new ≡ self.old) × (pass.new ≡ pass.old)) }
     {
+        match self.turn(pass) {
+            Ok(Turn::Room) => self.store(book, pass, request, guesses),
+            Ok(Turn::Full) => self.show_all(pass),
+            Err(fault) => Err(fault),
+        }
+    }
+
+    // The meeting: whether the history has room for an entry of the pass's session.
+    fn turn(&mut self, pass: &Pass<J>) -> Result<Turn, SubmitFault>
+        ensures same { self.new ≡ self.old }
+        ensures turn { IfOk result (λ t. HasMet pass.now self.old × IsTurn self.old t) }
+    {
         if !self.catches_up() {
             return Err(SubmitFault::Memory);
         }
-        self.store(book, pass, request)
+        if !self.has_met(pass) {
+            return Err(SubmitFault::NoMeeting);
+        }
+        if self.desk.len() < MAX_ENTRIES {
+            return Ok(Turn::Room);
+        }
+        Ok(Turn::Full)
     }
 
-    // Answers where what stands is published: first the meeting and all that may want memory, then the step of the log, and
-    // after it nothing that may fail.
+    // Whether the pass's front begins the history and has all entries of its session.
+    fn has_met(&self, pass: &Pass<J>) -> bool
+        ensures { OnTrue result (HasMet pass.now self.now) }
+    {
+        if !pass.front().begins(&self.front) {
+            return false;
+        }
+        if pass.answered() != self.desk.count(pass.session()) {
+            return false;
+        }
+        true
+    }
+
+    // Answers where the history is full, of which the pass sees all.
+    fn show_all(&self, pass: &mut Pass<J>) -> Result<Reply, SubmitFault>
+        requires met { HasMet pass.old self.now }
+        requires full { MAX_ENTRIES ≤ length self.now }
+        ensures reply { IfOk result (λ r. (r ≡ HistoryFull) × SawFull J.opening pass.old pass.new) }
+        ensures err { OnErr result (pass.new ≡ pass.old) }
+    {
+        let last = self.desk.published().share()?;
+        let _session = pass.session();
+        let _len = self.desk.len();
+        let answered = pass.answered();
+        pass.adopt(self.front.again(), last, answered);
+        Ok(Reply::HistoryFull)
+    }
+
+    // Answers where the history has room: first all that may want memory, then the step of the log, and after it nothing that
+    // may fail.
     fn store(
         &mut self,
         book: &Book<J>,
         pass: &mut Pass<J>,
         request: Request,
+        guesses: Vec<ChunkRun>,
     ) -> Result<Reply, SubmitFault>
+        requires met { HasMet pass.old self.old }
+        requires room { length self.old < MAX_ENTRIES }
         ensures reply { IfOk result (λ r. Replied J.opening pass.old pass.new request r × Grown self.old self.new pass.old.session request r) }
         ensures err { OnErr result ((self.new ≡ self.old) × (pass.new ≡ pass.old)) }
     {
         let session = pass.session();
-        let len = self.desk.len();
-        let count = self.desk.count(session);
-        if !pass.front().begins(&self.front) {
-            return Err(SubmitFault::NoMeeting);
+        let count = pass.answered();
+        let prepared = self.desk.prepare(self.alloc, session, request, guesses)?;
+        match add_to_log(&self.front, book, &prepared) {
+            Ok(Joined { front, last, shown }) => {
+                self.writer.show(shown);
+                self.current = is_current(&self.writer, &front);
+                let reply = self.desk.commit(prepared);
+                pass.adopt(front.again(), last, count + 1);
+                self.front = front;
+                Ok(reply)
+            }
+            Err(fault) => Err(fault),
         }
-        if pass.answered() != count {
-            return Err(SubmitFault::NoMeeting);
-        }
-        if len >= MAX_ENTRIES {
-            let last = self.desk.published().share()?;
-            pass.adopt(self.front.again(), last, count);
-            return Ok(Reply::HistoryFull);
-        }
-        let prepared = self.desk.prepare(self.alloc, session, request)?;
-        let last = prepared.published().share()?;
-        let shown = prepared.published().share()?;
-        let mut front = self.front.again();
-        if !front.add(book, prepared.entry()) {
-            return Err(SubmitFault::NoMeeting);
-        }
-        self.writer.show(Shown::new(shown, front.again()));
-        self.current = is_current(&self.writer, &front);
-        let reply = self.desk.commit(prepared);
-        pass.adopt(front.again(), last, count + 1);
-        self.front = front;
-        Ok(reply)
     }
 
     // Publishes what stands, where memory was wanting to do so before, and says whether it is published.
@@ -133,14 +188,10 @@ impl<J: Naming, W: Publisher<Value = Shown<J>>> LockedDesk<J, W> {
     pub fn receipt(&self, pass: &Pass<J>) -> Option<Receipt<J>>
         ensures { IfSome result (λ r. (r ≡ pass.now) × IsPrefix pass.now.front self.now) }
     {
-        if !pass.front().begins(&self.front) {
+        if !self.has_met(pass) {
             return None;
         }
-        let session = pass.session();
-        if pass.answered() != self.desk.count(session) {
-            return None;
-        }
-        Some(Receipt::new(session, pass.answered(), pass.front().again()))
+        Some(Receipt::new(pass.session(), pass.answered(), pass.front().again()))
     }
 
     /// The desk, where each receipt's front begins its history.
@@ -162,6 +213,28 @@ impl<J: Naming, W: Publisher<Value = Shown<J>>> LockedDesk<J, W> {
         } = self;
         Ok(desk)
     }
+}
+
+// Adds the entry of what was prepared to the log, which begins with this front and has no more.
+fn add_to_log<J: Naming>(
+    front: &Front<J>,
+    book: &Book<J>,
+    prepared: &Prepared,
+) -> Result<Joined<J>, SubmitFault>
+    requires follows { Follows J.opening front.now prepared.now.entry prepared.now.next }
+    requires room { length front.now < MAX_ENTRIES }
+    ensures front { IfOk result (λ it. it.front ≡ front.now ++ prepared.now.entry ∷ []) }
+    ensures last { IfOk result (λ it. it.last ≡ prepared.now.next) }
+    ensures shown { IfOk result (λ it. it.shown ≡ shown_view prepared.now.next it.front) }
+{
+    let last = prepared.published().share()?;
+    let run = prepared.published().share()?;
+    let mut front = front.again();
+    if !front.add(book, prepared.entry()) {
+        return Err(SubmitFault::NoMeeting);
+    }
+    let shown = Shown::new(run, front.again());
+    Ok(Joined { front, last, shown })
 }
 
 // Whether readers take the version after this front.

@@ -1,11 +1,11 @@
 //! A session's token: its reader, and what it saw last.
-ghost use Rattle.std.specs.Prelude.{⊤, ◌≡◌, ◌<◌, ◌≤◌};
+ghost use Rattle.std.specs.Prelude.{⊤, ◌≡◌, ◌<◌, ◌≤◌, IfSome};
 ghost use mathlib.Core.List.{IsPrefix};
 ghost use Rattle.std.specs.Borrow.{sem, follows_so};
 ghost use mathlib.Core.Option.{none};
 ghost use Rattle.live_sessions.specs.contracts.pass.Pass.{the_row};
 ghost use Rattle.live_sessions.specs.Views.{PassView, Reads};
-ghost use Rattle.live_sessions.specs.Desks.{IsAfter};
+ghost use Rattle.live_sessions.specs.Desks.{IsAfter, IsSomeVersion};
 ghost use Rattle.live_sessions.specs.Fronts.{count_of, IsFront};
 
 use crate::book::{Front, Naming};
@@ -103,6 +103,18 @@ impl<J: Naming> Pass<J> {
         let front = shown.front().again();
         self.front = front;
         self.last = seen;
+    }
+
+    /// The version that a read would show, if there is one and it can be shared. The pass sees no more than before.
+    pub(crate) fn standing(&mut self) -> Option<Published>
+        ensures same { self.new ≡ self.old }
+        ensures run { IfSome result (λ p. IsSomeVersion J.opening p) }
+    {
+        let shown = self.reader.enter()?;
+        match shown.share() {
+            Ok(version) => Some(version),
+            Err(_) => None,
+        }
     }
 
     /// What stands, or what was seen last.

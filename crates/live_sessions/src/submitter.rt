@@ -11,6 +11,7 @@ use crate::shown::Shown;
 use edit_desk::{Reply, Request};
 use std::marker::Model;
 use std::sync::Wait;
+use std::thread::Threads;
 use trace_types::sequence::Sequence;
 
 /// A session's pass, with the requests that it is to submit, in order. Contracts see a record of the two.
@@ -55,7 +56,7 @@ fn end_of(reply: Reply) -> End
 }
 
 // Submits one request.
-fn ask<J: Naming, W: Publisher<Value = Shown<J>>, S: Wait>(
+fn ask<J: Naming, W: Publisher<Value = Shown<J>>, S: Threads + Wait + Sync>(
     rt: &S,
     live: &Live<J, W>,
     pass: &mut Pass<J>,
@@ -70,7 +71,7 @@ fn ask<J: Naming, W: Publisher<Value = Shown<J>>, S: Wait>(
 }
 
 // Submits the requests in order, as far as the history has room for them, or answers nothing where one was not answered.
-fn ask_all<J: Naming, W: Publisher<Value = Shown<J>>, S: Wait>(
+fn ask_all<J: Naming, W: Publisher<Value = Shown<J>>, S: Threads + Wait + Sync>(
     rt: &S,
     live: &Live<J, W>,
     pass: Pass<J>,
@@ -91,7 +92,7 @@ fn ask_all<J: Naming, W: Publisher<Value = Shown<J>>, S: Wait>(
 
 /// Submits the requests in order, as far as the history has room for them, and leaves; or answers nothing where a request was
 /// not answered, or the pass could not leave.
-pub fn submit_all<J: Naming, W: Publisher<Value = Shown<J>>, S: Wait>(
+pub fn submit_all<J: Naming, W: Publisher<Value = Shown<J>>, S: Threads + Wait + Sync>(
     rt: &S,
     live: &Live<J, W>,
     submitter: Submitter<J>,
