@@ -1,17 +1,33 @@
 -- What may be due for a race.
-use Rattle.std.proofs.Common.{◌≡◌, ◌≢◌, ℕ, List, false, Result, Ok, Err, IfOk, OnOk, refl, sym, subst}
+use Rattle.std.proofs.Common.{◌≡◌, ◌≢◌, ℕ, List, [], length, false, Result, Ok, Err, IfOk, OnOk, refl, sym, subst}
+use Rattle.std.specs.Prelude.{slice_index_or}
 use Rattle.trace_types.specs.Operation.{Operation}
 use Rattle.trace_reader.specs.declared.fault.LineCause.TheVariants as LineCause
 use Rattle.trace_reader.specs.declared.fault.LineFault.{LineFault}
+use Rattle.trace_reader.specs.declared.request.RequestLine.{RequestLine}
 use Rattle.trace_reader.specs.declared.script.Script.{Script}
 use Rattle.trace_reader.specs.Scripts.{read_script}
 use Rattle.edit_desk.specs.declared.entries.Entry.{Entry}
+use Rattle.edit_desk.specs.declared.entries.Request.{Request}
+use Rattle.live_sessions.specs.Races.{asked_by, AreAsked}
 use Rattle.command_serve.specs.declared.due.Due.{Due}
 use Rattle.command_serve.specs.Serve.{fault_due}
-use Rattle.command_race.specs.Race.{IsRaced, race_text, IsRaceAnswer, IsRaceDue}
+use Rattle.command_race.specs.Race.{requests_of, IsRaced, race_text, IsRaceText, IsRaceAnswer, IsRaceDue}
 
 abbrev pub race_due : List Operation → List Entry → Due
 race_due trace h = record { text = race_text trace h; is_fault = false }
+
+-- the requests of each session's lines
+pub raced_lines : (trace : List Operation) (lines : List RequestLine) (requests : List (List Request)) (text : List ℕ) → ((s : ℕ) → slice_index_or requests s [] ≡ requests_of s lines)
+    → IsRaceText trace requests text → (h : List Entry) × IsRaced trace lines h × (text ≡ race_text trace h)
+raced_lines trace lines requests text each is = (
+  is.0,
+  record {
+    legal = is.1;
+    asked = λ s. subst (λ (x : List Request). AreAsked x (asked_by s is.0) (length is.0)) (each s) (is.2 s);
+  },
+  is.3,
+)
 
 -- a race over what was read
 pub may_race : (input : List ℕ) (script : Script) (h : List Entry) → read_script false input ≡ Ok script → IsRaced script.trace script.requests h → IsRaceDue input (race_due script.trace h)

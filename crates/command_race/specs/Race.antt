@@ -1,5 +1,5 @@
 -- What `race` writes for an input (profile of this project).
-use Rattle.std.specs.Prelude.{◌≡◌, ◌==◌, ℕ, List, [], ◌∷◌, ◌++◌, length, Bool, true, false, codes, decimal, flat_map, Result, Ok, Err}
+use Rattle.std.specs.Prelude.{◌≡◌, ◌==◌, ℕ, List, [], ◌∷◌, ◌++◌, length, Bool, true, false, codes, decimal, flat_map, slice_index_or, Result, Ok, Err}
 use Rattle.trace_types.specs.Operation.{Operation}
 use Rattle.trace_reader.specs.declared.fault.LineFault.{LineFault}
 use Rattle.trace_reader.specs.declared.request.RequestLine.{RequestLine}
@@ -53,6 +53,12 @@ history_text h = flat_map entry_text h
 -- the lines of a history, and the report of the replay of the trace after it
 abbrev pub race_text : List Operation → List Entry → List ℕ
 race_text trace h = history_text h ++ report_of_replay (trace_after trace h)
+
+-- the text of a race in which the session at each place made its requests there
+abbrev pub IsRaceText : List Operation → List (List Request) → List ℕ → Type 0
+IsRaceText trace requests text = (h : List Entry) × IsFront trace h
+    × ((s : ℕ) → AreAsked (slice_index_or requests s []) (asked_by s h) (length h))
+    × (text ≡ race_text trace h)
 
 -- the text of a race over what was read, or the line of the first fault
 abbrev pub IsRaceAnswer : Result Script LineFault → Due → Type 0

@@ -92,6 +92,6 @@ fn push_answer(
         session,
         batch,
     } = line;
-    let reply = desk.answer(alloc, session, Request { base, batch })?;
+    let reply = desk.answer(alloc, session, Request { base, batch }, Vec::new(alloc))?;
     push_reply(text, reply)
 }

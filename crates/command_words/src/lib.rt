@@ -23,7 +23,7 @@ pub enum Command {
     /// reads a trace and one request to edit it, and writes the edited trace and its report
     Whatif,
     /// reads a trace and requests to edit it, submits those of each session on a thread of its own, and writes the replies and
-    /// the report of the last version; so many workers are to guess ahead, which has no effect yet
+    /// the report of the last version; two workers or more replay ahead what a request changes
     Race(u32),
 }
 
@@ -126,7 +126,7 @@ fn workers_option<'a>(alloc: Global) -> Arg<'a>
         .value_name("N")
         .value_parser(ValueParser::unsigned(1, MAX_WORKERS as u64))
         .default_value("1")
-        .help("How many workers guess ahead; it has no effect yet")
+        .help("How many threads replay ahead what a request changes, 1 to 16; with 1 none does")
 }
 
 // What clap is told of the program.

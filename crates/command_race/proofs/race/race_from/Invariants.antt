@@ -1,5 +1,5 @@
 use Rattle.live_sessions.specs.Events.{opening_of}
-use Rattle.command_race.proofs.race.raced.Given as goal
+use Rattle.command_race.proofs.race.race_from.Given as goal
 
 -- the book that was just opened
 abbrev pub ghosts-race_on : goal.ghosts-race_on
