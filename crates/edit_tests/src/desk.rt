@@ -47,7 +47,7 @@ fn asked(
     times: u32,
 ) -> Result<Reply, Fail> {
     let batch = removal(alloc, 1, times)?;
-    Ok(desk.answer(alloc, session, Request { base, batch })?)
+    Ok(desk.answer(alloc, session, Request { base, batch }, Vec::new(alloc))?)
 }
 
 // The desk after one request that was accepted, the last of five.
@@ -122,7 +122,7 @@ fn committed(rt: &impl Abort, alloc: Global, desk: &mut Desk) -> Result<Reply, F
     requires { desk.old.standing.history ≡ [] }
 {
     let batch = removal(alloc, 1, 1)?;
-    let prepared = desk.prepare(alloc, 2, Request { base: 0, batch })?;
+    let prepared = desk.prepare(alloc, 2, Request { base: 0, batch }, Vec::new(alloc))?;
     assert_prepared(rt, desk, &prepared);
     Ok(desk.commit(prepared))
 }

@@ -49,7 +49,7 @@ fn lengthened(rt: &impl Abort, alloc: Global, desk: &mut Desk, turn: u32) -> Res
     requires { turn < 2_000 }
 {
     let batch = inserted(alloc, 19_999 - turn % 977, 100_000 + turn)?;
-    let reply = desk.answer(alloc, 0, Request { base: turn, batch })?;
+    let reply = desk.answer(alloc, 0, Request { base: turn, batch }, Vec::new(alloc))?;
     assert_eq!(rt; reply, Reply::Accepted(turn + 1));
     marks(alloc, desk)
 }
@@ -121,7 +121,7 @@ pub fn over(
     shelf: &mut MarkShelf,
 ) -> Result<(Run, u64), Fail> {
     let mut meter = Meter::new();
-    let edited = run.edited(alloc, edits, shelf, &mut meter)?;
+    let edited = run.edited(alloc, edits, Vec::new(alloc), shelf, &mut meter)?;
     Ok((edited, meter.count()))
 }
 
@@ -324,7 +324,7 @@ fn rise(alloc: Global, desk: &mut Desk, edit: Edit) -> Result<u64, Fail> {
     let before = desk.meter().count();
     let base = desk.version();
     let batch = batch(alloc, edit)?;
-    let Reply::Accepted(_) = desk.answer(alloc, 0, Request { base, batch })? else {
+    let Reply::Accepted(_) = desk.answer(alloc, 0, Request { base, batch }, Vec::new(alloc))? else {
         return Err(Fail::from("refused"));
     };
     Ok(desk.meter().count() - before)

@@ -6,6 +6,8 @@ mod desk;
 #[cfg(test)]
 mod far_edits;
 #[cfg(test)]
+mod guesses;
+#[cfg(test)]
 mod joints;
 #[cfg(test)]
 mod kept;

@@ -158,7 +158,7 @@ fn edit_once(
     tally: &mut Tally,
 ) -> Result<bool, Fail> {
     let mut meter = Meter::new();
-    let Ok(edited) = run.edited(alloc, edits, shelf, &mut meter) else {
+    let Ok(edited) = run.edited(alloc, edits, Vec::new(alloc), shelf, &mut meter) else {
         return Ok(false);
     };
     let counted = count(alloc, run, &edited, meter.count(), tally);

@@ -55,7 +55,7 @@ fn labelled() -> Result<Edit, Fail> {
 }
 
 // That, and a null pointer far behind.
-fn labelled_and_more(alloc: Global) -> Result<Batch, Fail> {
+pub fn labelled_and_more(alloc: Global) -> Result<Batch, Fail> {
     let null = insertion(1000, 3000, Kind::Null { to: 30 })?;
     two(alloc, labelled()?, null)
 }

@@ -57,7 +57,7 @@ pub fn edited_alone(
     meter: &mut Meter,
 ) -> Result<Run, RunFault> {
     let mut shelf = MarkShelf::new(alloc, KEPT_MARKS, KEPT_CHUNKS, KEPT_NAMES)?;
-    run.edited(alloc, batch, &mut shelf, meter)
+    run.edited(alloc, batch, Vec::new(alloc), &mut shelf, meter)
 }
 
 // Such a run, and how many operations were stepped for it.

@@ -84,9 +84,9 @@ pub fn add_cycle(alloc: Global, trace: &mut Trace) -> Result<(), Fail> {
     add(trace, 6, set(1, 2))
 }
 
-// The cycle is broken, and then both handles are dropped.
-fn break_cycle(trace: &mut Trace) -> Result<(), Fail> {
-    add(trace, 7, Kind::Null { to: 4 })?;
+// The cycle is broken by a null pointer that operation 7 makes, and then both handles are dropped.
+fn break_cycle(trace: &mut Trace, null: u32) -> Result<(), Fail> {
+    add(trace, 7, Kind::Null { to: null })?;
     add(trace, 8, set(0, 4))?;
     add(trace, 9, Kind::Drop { h: 4 })?;
     add(trace, 10, Kind::Drop { h: 0 })?;
@@ -95,9 +95,19 @@ fn break_cycle(trace: &mut Trace) -> Result<(), Fail> {
 
 // A cycle that is broken before both handles are dropped, and a thousand operations behind that.
 pub fn broken_cycle(alloc: Global) -> Result<Trace, Fail> {
+    cycle_and_pairs(alloc, 4)
+}
+
+// The same, but that operation 7 makes its null pointer elsewhere: the cycle isn't broken, and leaks.
+pub fn whole_cycle(alloc: Global) -> Result<Trace, Fail> {
+    cycle_and_pairs(alloc, 50)
+}
+
+// Such a trace, in which operation 7 makes a null pointer with this number.
+fn cycle_and_pairs(alloc: Global, null: u32) -> Result<Trace, Fail> {
     let mut trace = Trace::new(alloc);
     add_cycle(alloc, &mut trace)?;
-    break_cycle(&mut trace)?;
+    break_cycle(&mut trace, null)?;
     add_pairs(alloc, &mut trace, 12, 1011)?;
     Ok(trace)
 }
