@@ -109,7 +109,7 @@ Reads a trace, a line --, and requests to edit it, submits those of each session
 Usage: arc_scope race [OPTIONS]
 
 Options:
-      --workers <N>  How many workers guess ahead; it has no effect yet [default: 1]
+      --workers <N>  How many threads replay ahead what a request changes, 1 to 16; with 1 none does [default: 1]
   -h, --help         Print help
 ";
 

@@ -47,7 +47,7 @@ impl<P: Publisher, R: Wait + Drop> Publisher for Waiting<'_, P, R> {
 }
 
 // Submits, which waits inside for the other session's reads.
-fn removes<J: Naming, W: Publisher<Value = Shown<J>>, S: Wait + Abort>(
+fn removes<J: Naming, W: Publisher<Value = Shown<J>>, S: Threads + Wait + Abort + Sync>(
     rt: &S,
     alloc: Global,
     live: &Live<J, W>,
@@ -113,7 +113,7 @@ fn with_waiting<J: Naming + Send + Sync, S: Threads + Wait + Abort + Sync + Send
         rt,
         turn: &turn,
     };
-    let live = Live::over(alloc, book, desk, front, places, waiting);
+    let live = Live::over(alloc, book, desk, front, places, waiting, 2);
     let receipts = side_by_side(rt, alloc, &live, &turn)?;
     live.close(receipts).ok()
 }

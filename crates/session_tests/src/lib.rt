@@ -6,6 +6,8 @@ mod cases;
 #[cfg(test)]
 mod gate;
 #[cfg(test)]
+mod guesses;
+#[cfg(test)]
 mod order;
 #[cfg(test)]
 mod places;
@@ -21,3 +23,5 @@ mod requests;
 mod sixteen;
 #[cfg(test)]
 mod steps;
+#[cfg(test)]
+mod workers;

@@ -37,7 +37,7 @@ fn shows_both(published: &Published) -> bool {
 }
 
 // Session 0 inserts a clone, and reads when session 1 is done.
-fn clones<J: Naming, W: Publisher<Value = Shown<J>>, S: Wait + Abort>(
+fn clones<J: Naming, W: Publisher<Value = Shown<J>>, S: Threads + Wait + Abort + Sync>(
     rt: &S,
     alloc: Global,
     live: &Live<J, W>,
@@ -53,7 +53,7 @@ fn clones<J: Naming, W: Publisher<Value = Shown<J>>, S: Wait + Abort>(
 }
 
 // Session 1 inserts a downgrade, which is stale at first.
-fn downgrades<J: Naming, W: Publisher<Value = Shown<J>>, S: Wait + Abort>(
+fn downgrades<J: Naming, W: Publisher<Value = Shown<J>>, S: Threads + Wait + Abort + Sync>(
     rt: &S,
     alloc: Global,
     live: &Live<J, W>,
@@ -88,7 +88,7 @@ pub fn two_sessions<
 }
 
 // Submits the removal of operation 2 for version 0, and where that is stale for the version that stands.
-fn removes<J: Naming, W: Publisher<Value = Shown<J>>, S: Wait + Abort>(
+fn removes<J: Naming, W: Publisher<Value = Shown<J>>, S: Threads + Wait + Abort + Sync>(
     rt: &S,
     alloc: Global,
     live: &Live<J, W>,

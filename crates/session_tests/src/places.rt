@@ -8,6 +8,7 @@ use std::alloc::Global;
 use std::process::Abort;
 use std::sync::Wait;
 use std::test::Fail;
+use std::thread::Threads;
 use trace_types::limits::MAX_ENTRIES;
 
 fn lone<J: Naming>(alloc: Global, receipt: Receipt<J>) -> Option<Vec<Receipt<J>>> {
@@ -51,7 +52,7 @@ pub fn sixteen_places<J: Naming, W: Publisher<Value = Shown<J>>, S: Wait + Abort
 }
 
 // Two requests of session 3, and after it left and came back a third one.
-pub fn comes_back<J: Naming, W: Publisher<Value = Shown<J>>, S: Wait + Abort>(
+pub fn comes_back<J: Naming, W: Publisher<Value = Shown<J>>, S: Threads + Wait + Abort + Sync>(
     rt: &S,
     alloc: Global,
     live: &Live<J, W>,
@@ -84,7 +85,7 @@ pub fn comes_back<J: Naming, W: Publisher<Value = Shown<J>>, S: Wait + Abort>(
 }
 
 // As many stale requests as a history has room for, and one more.
-pub fn full_history<J: Naming, W: Publisher<Value = Shown<J>>, S: Wait + Abort>(
+pub fn full_history<J: Naming, W: Publisher<Value = Shown<J>>, S: Threads + Wait + Abort + Sync>(
     rt: &S,
     alloc: Global,
     live: &Live<J, W>,

@@ -36,7 +36,7 @@ fn desk<S: Threads + Wait + Abort + Sync + Send>(rt: &S, alloc: Global) -> Optio
 
 // Submits the removal. Where that finds no memory, the other pass reads no new version and no entry, and the same call goes
 // well afterwards.
-fn removes<J: Naming, W: Publisher<Value = Shown<J>>, S: Wait + Abort>(
+fn removes<J: Naming, W: Publisher<Value = Shown<J>>, S: Threads + Wait + Abort + Sync>(
     rt: &S,
     alloc: Global,
     live: &Live<J, W>,
@@ -53,7 +53,7 @@ fn removes<J: Naming, W: Publisher<Value = Shown<J>>, S: Wait + Abort>(
     }
 }
 
-pub fn submits<J: Naming, W: Publisher<Value = Shown<J>>, S: Wait + Abort>(
+pub fn submits<J: Naming, W: Publisher<Value = Shown<J>>, S: Threads + Wait + Abort + Sync>(
     rt: &S,
     alloc: Global,
     live: &Live<J, W>,

@@ -9,6 +9,7 @@ use std::alloc::Global;
 use std::marker::Brand;
 use std::sync::Wait;
 use std::test::Fail;
+use std::thread::Threads;
 use trace_reader::{RequestLine, Script, read_script};
 use trace_types::sequence::Sequence;
 
@@ -26,7 +27,7 @@ total 2 ops 0 skipped 1 objects 1 alive 0 leaks 0 husks
 ";
 
 // What another session reads after one has submitted the requests, and what the closed desk shows.
-fn reports<J: Naming, S: Wait>(
+fn reports<J: Naming, S: Threads + Wait + Sync>(
     rt: &S,
     alloc: Global,
     started: Started,
@@ -53,7 +54,7 @@ fn reports<J: Naming, S: Wait>(
     Some((read, shown))
 }
 
-fn reports_on<S: Wait>(rt: &S, alloc: Global) -> Option<(Vec<u8>, Vec<u8>)> {
+fn reports_on<S: Threads + Wait + Sync>(rt: &S, alloc: Global) -> Option<(Vec<u8>, Vec<u8>)> {
     let Script { trace, requests } = read_script(alloc, INPUT.as_bytes(), false).ok()?;
     let started = Started::new(alloc, trace).ok()?;
     reports::<Brand, S>(rt, alloc, started, requests)

@@ -31,7 +31,7 @@ fn is_fitting(base: u32, reply: Reply) -> bool {
 }
 
 // Twenty insertions of a session, with numbers of its own, each for the version that it read last.
-fn insert_twenty<J: Naming, W: Publisher<Value = Shown<J>>, S: Wait + Abort>(
+fn insert_twenty<J: Naming, W: Publisher<Value = Shown<J>>, S: Threads + Wait + Abort + Sync>(
     rt: &S,
     alloc: Global,
     live: &Live<J, W>,

@@ -3,6 +3,7 @@ use edit_desk::{Reply, Request};
 use live_sessions::{Live, Naming, Pass, Publisher, Receipt, Shown};
 use std::process::Abort;
 use std::sync::Wait;
+use std::thread::Threads;
 
 // Joins at this session's place.
 pub fn joins<J: Naming, W: Publisher<Value = Shown<J>>, S: Wait + Abort>(
@@ -16,7 +17,7 @@ pub fn joins<J: Naming, W: Publisher<Value = Shown<J>>, S: Wait + Abort>(
 }
 
 // Submits a request, to which this is the reply.
-pub fn submits<J: Naming, W: Publisher<Value = Shown<J>>, S: Wait + Abort>(
+pub fn submits<J: Naming, W: Publisher<Value = Shown<J>>, S: Threads + Wait + Abort + Sync>(
     rt: &S,
     live: &Live<J, W>,
     pass: &mut Pass<J>,
