@@ -1,0 +1,11 @@
+pub mod Places
+pub mod Since
+pub mod Ways
+pub mod Cycles
+pub mod LeakedSince
+pub mod Losses
+pub mod Retained
+pub mod Looked
+pub mod Turns
+pub mod Shown
+pub mod Laws
