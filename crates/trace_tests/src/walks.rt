@@ -149,6 +149,19 @@ fn tokens_begin_at_the_member_that_is_not_plain(rt: HostRuntime) -> Result<(), F
     Ok(())
 }
 
+// Wherever it stands in a text: before, at and behind the edges of the blocks that a text is looked at in.
+#[test]
+fn an_escape_ends_the_walk(rt: HostRuntime) -> Result<(), Fail> {
+    for before in [0usize, 1, 126, 127, 128, 129, 254, 255, 256, 1_000] {
+        let front = letters(&rt, before)?;
+        let line = format!(in rt.alloc(); "{{{OP},\"z\":\"{front}\\\"x\"}}")?;
+        assert_eq!(rt; token_bytes(&rt, line.as_str())?, before.saturating_add(10));
+        let plain = format!(in rt.alloc(); "{{{OP},\"z\":\"{front}/x\"}}")?;
+        assert_eq!(rt; token_bytes(&rt, plain.as_str())?, 0);
+    }
+    Ok(())
+}
+
 #[test]
 fn a_line_that_is_not_plain_leaves_the_next_ones_as_they_are(rt: HostRuntime) -> Result<(), Fail> {
     for every in [1u32, 2, 3, 5, 10] {
