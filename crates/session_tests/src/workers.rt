@@ -13,6 +13,7 @@ use trace_types::trace::Trace;
 const TURNS: u32 = 100_000_000;
 
 // Each of two jobs waits until the other has begun.
+#[derive(Drop)]
 struct Meeting {
     first: AtomicU64,
     second: AtomicU64,
