@@ -1,4 +1,0 @@
-pub mod Pieces
-pub mod Turns
-pub mod Accounts
-pub mod Pictures
