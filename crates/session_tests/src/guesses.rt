@@ -100,11 +100,7 @@ fn guesses_reach_the_desk(rt: HostRuntime) -> Result<(), Fail> {
         replayed_by(&rt, alloc, 1).ok_or("accepted")?,
         OPENING + 116
     );
-    for workers in [2u32, 16] {
-        assert_eq!(rt;
-            replayed_by(&rt, alloc, workers).ok_or("accepted")?,
-            OPENING
-        );
-    }
+    assert_eq!(rt; replayed_by(&rt, alloc, 2).ok_or("accepted")?, OPENING);
+    assert_eq!(rt; replayed_by(&rt, alloc, 16).ok_or("accepted")?, OPENING);
     Ok(())
 }
