@@ -1,6 +1,5 @@
 //! What operations touch, as it is told beside what they do.
 use object_heap::Heap;
-use op_step::replay::{replay, replay_told};
 use op_step::{Meter, step_told};
 use ownership_model::Key;
 use std::alloc::Global;
@@ -141,30 +140,4 @@ fn fields_are_part_of_their_object(rt: HostRuntime) -> Result<(), Fail> {
         &[Key::Handle(0), Key::Handle(3), Key::Object(2)],
     ];
     assert_touched(&rt, rt.alloc(), FIELDS, &wanted)
-}
-
-#[test]
-fn telling_changes_nothing(rt: HostRuntime) -> Result<(), Fail> {
-    let alloc = rt.alloc();
-    for lines in [DROPS, CELLS, SCOPES, FIELDS] {
-        let trace = trace_of(alloc, lines)?;
-        let (outcomes, end) = replay(alloc, &trace, &mut Meter::new())?;
-        let mut keys = vec![in alloc; Key::Cell(9)]?;
-        let mut meter = Meter::new();
-        let (same, same_end) = replay_told(
-            alloc,
-            Heap::empty(),
-            trace.as_slice(),
-            &mut meter,
-            &mut keys,
-        )?;
-        assert_eq!(rt; same.len(), outcomes.len());
-        for (outcome, wanted) in same.as_slice().iter().zip(outcomes.as_slice()) {
-            assert!(rt; outcome.same(wanted));
-        }
-        assert!(rt; same_end.same(&end));
-        assert_eq!(rt; meter.count(), trace.len() as u64);
-        assert!(rt; keys.contains(&Key::Cell(9)));
-    }
-    Ok(())
 }
