@@ -23,5 +23,3 @@ mod requests;
 mod sixteen;
 #[cfg(test)]
 mod steps;
-#[cfg(test)]
-mod workers;
