@@ -1,9 +1,9 @@
-"""What each command has to write for an input, and the status it has to end with, by the plain model."""
+"""The report of a trace, and what the commands that edit one have to write, by the plain model."""
 
 import json
 
 from heap import Heap, step
-from reading import FaultAt, read
+from reading import read
 
 MOST_EDITS = 64
 MOST_REQUESTS = 1_000_000
@@ -155,14 +155,3 @@ def script(data):
         version += 1
         lines.append(f"accepted {version}")
     return 0, text_of([*lines, *Replay(ops).lines()])
-
-
-COMMANDS = {"replay": replay, "whatif": whatif, "script": script}
-
-
-def answer(words, data):
-    """The status and the output of a command for an input."""
-    try:
-        return COMMANDS[words[0]](data)
-    except FaultAt as fault:
-        return 1, text_of([f"fault line {fault.line} {fault.cause}"])

@@ -2,7 +2,7 @@
 
 import re
 
-from answers import answer
+from commands import answer
 from reading import lines_of, object_of
 
 REPLY = re.compile(rb"session (\d+) (.*)\n")

@@ -80,8 +80,8 @@ fn remains_at(alloc: Global, new: &Heap, old: &Heap, objects: &[u32]) -> Result<
         (λ x. IsRemains (λ o. not (has o objects.now)) new.now old.now x) }
     ensures sound { IsSound new.now [] × IsSound old.now [] }
 {
-    new.kept();
-    old.kept();
+    new.show_sound();
+    old.show_sound();
     let removed = standing(alloc, old, objects)?;
     let added = standing(alloc, new, objects)?;
     Remains::new(alloc, removed, added)

@@ -60,7 +60,7 @@ fn made(alloc: Global, kept: &Heap, exchange: &Exchange, known: &Heap) -> Result
     requires { patched kept.now exchange.now ≡ known.now }
     ensures { IfOk result (λ h. h ≡ known.now) }
 {
-    known.kept();
+    known.show_sound();
     let checkpoint = Checkpoint::under(kept, exchange);
     checkpoint.heap(alloc)
 }

@@ -76,5 +76,5 @@ fn serve<R: Threads + Wait + Sync, S: Source, K: Sink>(
     ensures unwritten { OnErr result (sink.new ≡ sink.old) }
 {
     let command = read_words(alloc, words)?;
-    Ok(serve_command(rt, alloc, command, source, sink))
+    Ok(serve_command(rt, alloc, &command, source, sink))
 }

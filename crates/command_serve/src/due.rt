@@ -1,13 +1,14 @@
 //! What a command has to write for an input.
-ghost use Rattle.std.specs.Prelude.{◌≡◌, ◌≢◌, false, true, IfOk, OnOk};
+ghost use Rattle.std.specs.Prelude.{◌≡◌, ◌≢◌, false, true, string_bytes, IfOk, OnOk};
 ghost use Rattle.command_serve.specs.Serve.{exit_of, fault_due, too_long};
 
 use crate::exits::Exit;
+use retention_report::Answer;
 use std::alloc::{AllocError, Global};
 use trace_reader::{LineCause, LineFault, fault_line};
 use trace_types::sequence::Sequence;
 
-/// The whole text for an input, and whether it tells a fault of the input.
+/// The whole text for an input, and whether it tells a fault: of the input, or of what was asked of it.
 #[derive(Drop)]
 pub struct Due {
     pub text: Sequence<u8>,
@@ -32,6 +33,16 @@ impl Due {
         Due {
             text: Sequence::from_vec(text),
             is_fault: true,
+        }
+    }
+
+    /// The text that answers the input, or the line that tells an object that isn't there.
+    pub fn of_answer(answer: Answer) -> Due
+        ensures { result ≡ record { text = string_bytes answer.text; is_fault = answer.is_missing } }
+    {
+        Due {
+            text: Sequence::from_vec(answer.text.into_bytes()),
+            is_fault: answer.is_missing,
         }
     }
 

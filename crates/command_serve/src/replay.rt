@@ -26,17 +26,18 @@ use trace_types::trace::Trace;
 pub fn serve_replay<S: Source, K: Sink>(alloc: Global, source: &mut S, sink: &mut K) -> Exit
     ensures { Serves IsReplayDue S.Source source.old source.new K.Sink sink.old sink.new result }
 {
-    serve::<Replay, S, K>(alloc, source, sink)
+    serve(&Replay, alloc, source, sink)
 }
 
+#[derive(Drop)]
 struct Replay;
 
 impl Answers for Replay {
     ghost use Rattle.command_serve.specs.Replay.{IsReplayDue};
 
-    ghost IsDue = { IsReplayDue };
+    ghost IsDue = { λ _. IsReplayDue };
 
-    fn answer(alloc: Global, input: &[u8]) -> Result<Due, AllocError> {
+    fn answer(&self, alloc: Global, input: &[u8]) -> Result<Due, AllocError> {
         replay_due(alloc, input)
     }
 }

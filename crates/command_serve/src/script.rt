@@ -3,6 +3,7 @@ ghost use Rattle.std.specs.Prelude.{◌≡◌, ◌++◌, ◌∷◌, [], string_b
 ghost use Rattle.command_serve.specs.Serve.{Serves};
 ghost use Rattle.edit_desk.specs.Answers.{reply_to, after};
 ghost use Rattle.edit_desk.specs.ReplyText.{reply_text};
+ghost use Rattle.command_serve.specs.Replay.{report_of_replay};
 ghost use Rattle.command_serve.specs.Script.{IsScriptDue, script_text, replies_text, replies_from, standing_from, request_of};
 
 use crate::due::{Due, fault_due};
@@ -19,17 +20,18 @@ use trace_types::devices::{Sink, Source};
 pub fn serve_script<S: Source, K: Sink>(alloc: Global, source: &mut S, sink: &mut K) -> Exit
     ensures { Serves IsScriptDue S.Source source.old source.new K.Sink sink.old sink.new result }
 {
-    serve::<Replies, S, K>(alloc, source, sink)
+    serve(&Replies, alloc, source, sink)
 }
 
+#[derive(Drop)]
 struct Replies;
 
 impl Answers for Replies {
     ghost use Rattle.command_serve.specs.Script.{IsScriptDue};
 
-    ghost IsDue = { IsScriptDue };
+    ghost IsDue = { λ _. IsScriptDue };
 
-    fn answer(alloc: Global, input: &[u8]) -> Result<Due, AllocError> {
+    fn answer(&self, alloc: Global, input: &[u8]) -> Result<Due, AllocError> {
         script_due(alloc, input)
     }
 }
@@ -44,17 +46,42 @@ fn script_due(alloc: Global, input: &[u8]) -> Result<Due, AllocError>
     }
 }
 
+// The desk is made last, and lent: what may run out of memory behind it owns no desk.
 fn text_of(alloc: Global, script: Script) -> Result<Vec<u8>, AllocError>
     ensures { IfOk result (λ text. text.items ≡ script_text script) }
 {
     let Script { trace, requests } = script;
-    let mut desk = Desk::open(alloc, trace)?;
+    match Desk::open(alloc, trace) {
+        Ok(mut desk) => text_on(alloc, &mut desk, requests.into_vec()),
+        Err(_) => Err(AllocError),
+    }
+}
+
+// The replies to requests, and the report of the version that stands then.
+fn text_on(
+    alloc: Global,
+    desk: &mut Desk,
+    requests: Vec<RequestLine>,
+) -> Result<Vec<u8>, AllocError>
+    ensures { IfOk result (λ text. text.items
+        ≡ replies_text (replies_from desk.old.standing requests.items)
+        ++ report_of_replay (standing_from desk.old.standing requests.items).trace) }
+{
     let mut text = String::new(alloc);
-    push_replies(alloc, &mut desk, requests.into_vec(), &mut text)?;
-    let report = report_on_run(alloc, desk.published().run())?;
+    push_replies(alloc, desk, requests, &mut text)?;
     let mut bytes = text.into_bytes();
-    bytes.extend_from_slice(report.as_slice())?;
+    push_report(alloc, desk, &mut bytes)?;
     Ok(bytes)
+}
+
+// Adds the report of the version that stands.
+fn push_report(alloc: Global, desk: &Desk, text: &mut Vec<u8>) -> Result<(), AllocError>
+    ensures { OnOk result
+        (text.new.items ≡ text.old.items ++ report_of_replay desk.now.standing.trace) }
+{
+    let report = report_on_run(alloc, desk.published().run())?;
+    text.extend_from_slice(report.as_slice())?;
+    Ok(())
 }
 
 // Answers requests in order, and adds a line for each.

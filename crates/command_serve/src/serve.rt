@@ -13,11 +13,11 @@ use trace_types::devices::{Sink, Source, write_all};
 /// What a command writes for an input.
 pub trait Answers {
     /// This is due for an input that is not too long.
-    ghost IsDue: { List ℕ → Due → Type 0 };
+    ghost IsDue: { Self → List ℕ → Due → Type 0 };
 
     /// Makes what is due for an input.
-    fn answer(alloc: Global, input: &[u8]) -> Result<Due, AllocError>
-        ensures { IfOk result (IsDue input.now) };
+    fn answer(&self, alloc: Global, input: &[u8]) -> Result<Due, AllocError>
+        ensures { IfOk result (IsDue self.now input.now) };
 }
 
 /// Reads all input, and writes what the command has due for it.
@@ -25,11 +25,16 @@ pub trait Answers {
 /// The whole text is made before any of it is written, so that nothing is written where the source fails or memory is
 /// wanting.
 #[tactic(auto, using(crate::proofs::Served::unread, crate::proofs::Served::unmade))]
-pub fn serve<C: Answers, S: Source, K: Sink>(alloc: Global, source: &mut S, sink: &mut K) -> Exit
-    ensures { Serves C.IsDue S.Source source.old source.new K.Sink sink.old sink.new result }
+pub fn serve<C: Answers, S: Source, K: Sink>(
+    command: &C,
+    alloc: Global,
+    source: &mut S,
+    sink: &mut K,
+) -> Exit
+    ensures { Serves (C.IsDue command.now) S.Source source.old source.new K.Sink sink.old sink.new result }
 {
     match read_all(alloc, source) {
-        Ok(input) => write_due(sink, C::answer(alloc, input.as_slice())),
+        Ok(input) => write_due(sink, command.answer(alloc, input.as_slice())),
         Err(InputFault::TooLong) => write_due(sink, too_long(alloc)),
         Err(InputFault::Device) => Exit::Device,
         Err(InputFault::Memory) => Exit::Memory,

@@ -29,17 +29,18 @@ use trace_types::trace::Trace;
 pub fn serve_whatif<S: Source, K: Sink>(alloc: Global, source: &mut S, sink: &mut K) -> Exit
     ensures { Serves IsWhatifDue S.Source source.old source.new K.Sink sink.old sink.new result }
 {
-    serve::<Whatif, S, K>(alloc, source, sink)
+    serve(&Whatif, alloc, source, sink)
 }
 
+#[derive(Drop)]
 struct Whatif;
 
 impl Answers for Whatif {
     ghost use Rattle.command_serve.specs.Whatif.{IsWhatifDue};
 
-    ghost IsDue = { IsWhatifDue };
+    ghost IsDue = { λ _. IsWhatifDue };
 
-    fn answer(alloc: Global, input: &[u8]) -> Result<Due, AllocError> {
+    fn answer(&self, alloc: Global, input: &[u8]) -> Result<Due, AllocError> {
         whatif_due(alloc, input)
     }
 }

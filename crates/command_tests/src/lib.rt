@@ -4,8 +4,14 @@
 #[cfg(test)]
 mod edits;
 #[cfg(test)]
+mod explain;
+#[cfg(test)]
 mod memory;
 #[cfg(test)]
+mod picture;
+#[cfg(test)]
 mod replay;
+#[cfg(test)]
+mod traces;
 #[cfg(test)]
 mod words;

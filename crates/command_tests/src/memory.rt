@@ -1,11 +1,13 @@
 //! Each call, made once more where memory was refused to it: the answer is `Memory`, what stood stands, and the second call
 //! gives the ordinary answer. `tools/refused_memory` refuses each allocation in turn.
-use command_serve::{Exit, serve_replay};
+use crate::traces::FORGOTTEN_WEAK;
+use command_serve::{Exit, serve_explain, serve_picture, serve_replay};
 use leak_report::report::report;
 use leak_report::{Report, WriteFault, find_leaks, write_report};
 use object_heap::Heap;
 use op_step::{ChunkRun, Meter, run};
 use ownership_model::Leaks;
+use retention_report::{Answer, explain, picture};
 use std::alloc::{AllocError, Global};
 use std::process::Abort;
 use std::test::Fail;
@@ -83,6 +85,48 @@ const BY_TOKENS_REPORT: &str = "1 new made #1 1/0
 object 1 destroyed 3 freed 3
 object 2 destroyed 3 freed 3
 total 3 ops 0 skipped 2 objects 0 alive 0 leaks 0 husks
+";
+
+// What is said of the husk of `FORGOTTEN_WEAK`, with its life, and of what is of note there.
+const HUSK_EXPLAINED: &str = "object 2 destroyed 12
+  2 new 1/0 +handle 1
+  3 downgrade 1/1 +weak handle 2
+  4 set 1/1 -weak handle 2 +weak field 1.1
+  7 downgrade 1/2 +weak handle 5
+  8 set 1/2 -weak handle 5 +weak field 6.1
+  12 drop 0/2 -handle 1 destroyed
+  kept by weak field 1.1 since 4
+  kept by weak field 6.1 since 8
+  husk
+";
+
+const NOTED_EXPLAINED: &str = "object 2 destroyed 12
+  kept by weak field 1.1 since 4
+  kept by weak field 6.1 since 8
+  husk
+object 6 alive
+  held by field 6.0 since 10
+  leaked since 11 in a cycle among 1 objects
+    through field 6.0 since 10
+  retains 1 objects
+total 1 leaks 1 cycles 1 husks
+";
+
+const HUSK_PICTURED: &str = "digraph heap {
+  graph [rankdir=LR ranksep=0.7 fontname=\"Helvetica\" fontsize=12 label=\"total 1 leaks 1 cycles 1 husks\\nfilled: leaked. bold: in its cycle. dashed: weak, or a husk.\\n1/0: strong and weak count. .1 since 2: field 1, since operation 2.\"]
+  node [shape=box style=\"rounded,filled\" fillcolor=\"white\" fontname=\"Helvetica\"]
+  edge [fontname=\"Helvetica\" fontsize=10]
+  h3 [label=\"handle 3\" shape=plaintext]
+  o1 [label=\"#1\\n1/0\"]
+  o2 [label=\"#2\\n0/2\" style=\"rounded,dashed\" penwidth=3]
+  o5 [label=\"#5\\n1/0\"]
+  o6 [label=\"#6\\n1/0\" fillcolor=\"#f6b26b\"]
+  h3 -> o5 [label=\"since 5\"]
+  o1 -> o2 [label=\".1 since 4\" style=dashed color=\"#0072b2\"]
+  o5 -> o1 [label=\".0 since 5\"]
+  o6 -> o6 [label=\".0 since 10\" penwidth=2.5 color=\"#c0392b\"]
+  o6 -> o2 [label=\".1 since 8\" style=dashed color=\"#0072b2\"]
+}
 ";
 
 fn trace_of(rt: &(impl Abort + AllocGlobal), input: &[u8]) -> Result<Trace, Fail> {
@@ -201,4 +245,85 @@ fn make_mut(rt: HostRuntime) -> Result<(), Fail> {
 #[test]
 fn by_tokens(rt: HostRuntime) -> Result<(), Fail> {
     stands_refusal(&rt, BY_TOKENS, BY_TOKENS_REPORT, 0)
+}
+
+fn explanation(
+    alloc: Global,
+    trace: &Trace,
+    objects: &[u32],
+    with_lives: bool,
+) -> Result<Answer, AllocError> {
+    match explain(alloc, trace.as_slice(), objects, with_lives) {
+        Ok(answer) => Ok(answer),
+        Err(_) => explain(alloc, trace.as_slice(), objects, with_lives),
+    }
+}
+
+fn drawing(alloc: Global, trace: &Trace, objects: &[u32]) -> Result<Answer, AllocError> {
+    match picture(alloc, trace.as_slice(), objects, false) {
+        Ok(answer) => Ok(answer),
+        Err(_) => picture(alloc, trace.as_slice(), objects, false),
+    }
+}
+
+fn is_told(rt: &impl Abort, answer: &Answer, text: &str) {
+    assert!(rt; !answer.is_missing);
+    assert!(rt; answer.text.as_str() == text);
+}
+
+fn is_explained(
+    rt: &(impl Abort + AllocGlobal),
+    objects: &[u32],
+    with_lives: bool,
+    text: &str,
+) -> Result<(), Fail> {
+    let alloc = rt.alloc();
+    let mut output = room(alloc)?;
+    let mut source = StdSource::new(FORGOTTEN_WEAK);
+    let mut sink = StdSink::new(&mut output);
+    let mut exit = serve_explain(alloc, &mut source, &mut sink, objects, with_lives);
+    if exit == Exit::Memory {
+        let mut again = StdSource::new(FORGOTTEN_WEAK);
+        exit = serve_explain(alloc, &mut again, &mut sink, objects, with_lives);
+    }
+    drop(sink);
+    assert!(rt; exit == Exit::Fine);
+    assert!(rt; output.as_slice() == text.as_bytes());
+    Ok(())
+}
+
+#[test]
+fn explained(rt: HostRuntime) -> Result<(), Fail> {
+    let trace = trace_of(&rt, FORGOTTEN_WEAK)?;
+    let husk = explanation(rt.alloc(), &trace, &[2], true)?;
+    is_told(&rt, &husk, HUSK_EXPLAINED);
+    is_explained(&rt, &[2], true, HUSK_EXPLAINED)
+}
+
+#[test]
+fn noted(rt: HostRuntime) -> Result<(), Fail> {
+    let trace = trace_of(&rt, FORGOTTEN_WEAK)?;
+    let noted = explanation(rt.alloc(), &trace, &[], false)?;
+    is_told(&rt, &noted, NOTED_EXPLAINED);
+    is_explained(&rt, &[], false, NOTED_EXPLAINED)
+}
+
+#[test]
+fn pictured(rt: HostRuntime) -> Result<(), Fail> {
+    let alloc = rt.alloc();
+    let trace = trace_of(&rt, FORGOTTEN_WEAK)?;
+    let husk = drawing(alloc, &trace, &[2])?;
+    is_told(&rt, &husk, HUSK_PICTURED);
+    let mut output = room(alloc)?;
+    let mut source = StdSource::new(FORGOTTEN_WEAK);
+    let mut sink = StdSink::new(&mut output);
+    let mut exit = serve_picture(alloc, &mut source, &mut sink, &[2], false);
+    if exit == Exit::Memory {
+        let mut again = StdSource::new(FORGOTTEN_WEAK);
+        exit = serve_picture(alloc, &mut again, &mut sink, &[2], false);
+    }
+    drop(sink);
+    assert!(rt; exit == Exit::Fine);
+    assert!(rt; output.as_slice() == HUSK_PICTURED.as_bytes());
+    Ok(())
 }

@@ -2,7 +2,8 @@
 use command_words::{Command, WordsFault, read_words};
 use std::alloc::{AllocError, Global};
 use std::test::Fail;
-use trace_types::limits::MAX_WORKERS;
+use trace_types::limits::{MAX_ID, MAX_WORKERS};
+use trace_types::sequence::Sequence;
 
 fn words(alloc: Global, texts: &[&str]) -> Result<Vec<String>, AllocError> {
     let mut words = Vec::new(alloc);
@@ -36,6 +37,38 @@ fn each_command_is_read(rt: HostRuntime) -> Result<(), Fail> {
     Ok(())
 }
 
+fn numbers(alloc: Global, numbers: &[u32]) -> Result<Sequence<u32>, AllocError> {
+    Ok(Sequence::from_vec(Vec::from_slice(alloc, numbers)?))
+}
+
+#[test]
+fn objects_are_read_wherever_the_option_stands(rt: HostRuntime) -> Result<(), Fail> {
+    let alloc = rt.alloc();
+    let explain = read(alloc, &["arc_scope", "explain"])?;
+    assert_eq!(rt;
+        explain,
+        Some(Command::Explain(numbers(alloc, &[])?, false))
+    );
+    let explain = read(alloc, &["arc_scope", "explain", "3", "--life", "1", "3"])?;
+    assert_eq!(rt;
+        explain,
+        Some(Command::Explain(numbers(alloc, &[3, 1, 3])?, true))
+    );
+    let explain = read(alloc, &["arc_scope", "explain", "999999999"])?;
+    assert_eq!(rt;
+        explain,
+        Some(Command::Explain(numbers(alloc, &[MAX_ID])?, false))
+    );
+    let picture = read(alloc, &["arc_scope", "picture", "--all"])?;
+    assert_eq!(rt; picture, Some(Command::Picture(numbers(alloc, &[])?, true)));
+    let picture = read(alloc, &["arc_scope", "picture", "2", "1"])?;
+    assert_eq!(rt;
+        picture,
+        Some(Command::Picture(numbers(alloc, &[2, 1])?, false))
+    );
+    Ok(())
+}
+
 #[test]
 fn other_words_are_refused(rt: HostRuntime) -> Result<(), Fail> {
     let alloc = rt.alloc();
@@ -57,6 +90,11 @@ fn other_words_are_refused(rt: HostRuntime) -> Result<(), Fail> {
     );
     assert_eq!(rt; read(alloc, &["arc_scope", "race", "--workers"])?, None);
     assert_eq!(rt; read(alloc, &["arc_scope", "run"])?, None);
+    assert_eq!(rt; read(alloc, &["arc_scope", "explain", "0"])?, None);
+    assert_eq!(rt; read(alloc, &["arc_scope", "explain", "1000000000"])?, None);
+    assert_eq!(rt; read(alloc, &["arc_scope", "explain", "1", "x"])?, None);
+    assert_eq!(rt; read(alloc, &["arc_scope", "explain", "--all"])?, None);
+    assert_eq!(rt; read(alloc, &["arc_scope", "picture", "--life"])?, None);
     Ok(())
 }
 
@@ -66,11 +104,13 @@ Replays a trace of Arc, Weak and atomic shared_ptr operations and reports what e
 Usage: arc_scope <COMMAND>
 
 Commands:
-  replay  Reads a trace, one operation a line in JSON, and writes its report
-  script  Reads a trace, a line --, and requests to edit it, and writes the replies and the last version's report
-  whatif  Reads a trace, a line --, and one request to edit it, and writes the edited trace and its report
-  race    Reads a trace, a line --, and requests to edit it, submits those of each session on a thread of its own, and writes the replies and the last version's report
-  help    Print this message or the help of the given subcommand(s)
+  replay   Reads a trace, one operation a line in JSON, and writes its report
+  script   Reads a trace, a line --, and requests to edit it, and writes the replies and the last version's report
+  whatif   Reads a trace, a line --, and one request to edit it, and writes the edited trace and its report
+  race     Reads a trace, a line --, and requests to edit it, submits those of each session on a thread of its own, and writes the replies and the last version's report
+  explain  Reads a trace, and writes why objects are still there at its end: what holds them, since which operation, and the way to them
+  picture  Reads a trace, and writes its end as a graph in DOT: what leaked, the husks, and what leads to them
+  help     Print this message or the help of the given subcommand(s)
 
 Options:
   -h, --help  Print help
@@ -113,9 +153,35 @@ Options:
   -h, --help         Print help
 ";
 
+const EXPLAIN_HELP: &str = "\
+Reads a trace, and writes why objects are still there at its end: what holds them, since which operation, and the way to them
+
+Usage: arc_scope explain [OPTIONS] [N]...
+
+Arguments:
+  [N]...  The numbers of objects, which are those of the operations that made them
+
+Options:
+      --life  Tells each operation that changed what names an object, or whether it is there
+  -h, --help  Print help
+";
+
+const PICTURE_HELP: &str = "\
+Reads a trace, and writes its end as a graph in DOT: what leaked, the husks, and what leads to them
+
+Usage: arc_scope picture [OPTIONS] [N]...
+
+Arguments:
+  [N]...  The numbers of objects, which are those of the operations that made them
+
+Options:
+      --all   Shows every object that is there
+  -h, --help  Print help
+";
+
 const NO_COMMAND: &str = "\
 error: 'arc_scope' requires a subcommand but one was not provided
-  [subcommands: replay, script, whatif, race, help]
+  [subcommands: replay, script, whatif, race, explain, picture, help]
 
 Usage: arc_scope <COMMAND>
 
@@ -160,6 +226,8 @@ fn help_is_shown(rt: HostRuntime) -> Result<(), Fail> {
     assert!(rt; is_shown(alloc, &["arc_scope", "help", "script"], SCRIPT_HELP)?);
     assert!(rt; is_shown(alloc, &["arc_scope", "whatif", "-h"], WHATIF_HELP)?);
     assert!(rt; is_shown(alloc, &["arc_scope", "race", "--help"], RACE_HELP)?);
+    assert!(rt; is_shown(alloc, &["arc_scope", "explain", "--help"], EXPLAIN_HELP)?);
+    assert!(rt; is_shown(alloc, &["arc_scope", "help", "picture"], PICTURE_HELP)?);
     Ok(())
 }
 

@@ -1,2 +1,4 @@
 mod Refused
 mod Numbers
+mod Objects
+mod Plain

@@ -1,20 +1,23 @@
 //! The command that the words of the command line name.
 #![tactic(auto)]
 
-ghost use Rattle.std.specs.Prelude.{◌≡◌, ℕ, map, false, string_bytes, IfOk, IfErr, IfSome, IfNone};
-ghost use Rattle.clap.specs.Words.{app_of, found_of, one_of, rows_of, rule_of, subcommand_of, subcommand_rows_of};
-ghost use Rattle.command_words.specs.Named.{Names, NamesNone, HasWorkers, IsWorkers, IsRefused, IsFaultOf, scope_app, workers_id, workers_rule};
+ghost use Rattle.std.specs.Prelude.{◌≡◌, map, string_bytes, IfOk, IfErr};
+ghost use Rattle.clap.specs.Words.{app_of, subcommand_of};
+ghost use Rattle.command_words.specs.Named.{Names, HasWorkers, IsRefused, IsFaultOf, scope_app};
 ghost use Rattle.clap.specs.Values.{kind_of};
 
-use clap::builder::ValueParser;
+mod app;
+mod matches;
+
+use app::scope_command;
 use clap::error::ErrorKind;
-use clap::{Arg, ArgMatches};
-use std::alloc::{AllocError, Global};
+use matches::named;
+use std::alloc::Global;
 use thiserror::Error;
-use trace_types::limits::MAX_WORKERS;
+use trace_types::sequence::Sequence;
 
 /// What the program is to do.
-#[derive(Clone, Copy, Debug, PartialEq, Eq)]
+#[derive(Debug, PartialEq, Drop)]
 pub enum Command {
     /// reads a trace and writes its report
     Replay,
@@ -25,6 +28,12 @@ pub enum Command {
     /// reads a trace and requests to edit it, submits those of each session on a thread of its own, and writes the replies and
     /// the report of the last version; two workers or more replay ahead what a request changes
     Race(u32),
+    /// reads a trace and writes why objects are still there at its end: those with these numbers, or where there are none each cycle's
+    /// least one and each husk; and whether the operations of their lives are told too
+    Explain(Sequence<u32>, bool),
+    /// reads a trace and writes its end as a graph in DOT: the objects with these numbers and what leads to them, or where there are none
+    /// what leaked; and whether every object is shown
+    Picture(Sequence<u32>, bool),
 }
 
 /// Why the words name no command.
@@ -44,13 +53,14 @@ pub fn read_words(alloc: Global, words: &[String]) -> Result<Command, WordsFault
     ensures refused { IfErr result (IsRefused (map string_bytes words.now)) }
 {
     match scope_command(alloc) {
-        Ok(mut command) => command_among(&mut command, words),
+        Ok(mut command) => command_among(alloc, &mut command, words),
         Err(_) => Err(WordsFault::Memory),
     }
 }
 
 // The command that clap finds in the words.
 fn command_among<'a>(
+    alloc: Global,
     command: &mut clap::Command<'a>,
     words: &'a [String],
 ) -> Result<Command, WordsFault>
@@ -63,9 +73,10 @@ fn command_among<'a>(
         Ok(matches) => matches,
         Err(error) => return Err(refusal(error)),
     };
-    match named(&matches) {
-        Some(named) => Ok(named),
-        None => Err(unnamed(command)),
+    match named(alloc, &matches) {
+        Ok(Some(named)) => Ok(named),
+        Ok(None) => Err(unnamed(command)),
+        Err(_) => Err(WordsFault::Memory),
     }
 }
 
@@ -84,75 +95,4 @@ fn unnamed(command: &mut clap::Command<'_>) -> WordsFault {
         Ok(error) => WordsFault::Usage(error),
         Err(_) => WordsFault::Memory,
     }
-}
-
-fn named(matches: &ArgMatches<'_>) -> Option<Command>
-    ensures some { IfSome result (Names (subcommand_rows_of matches.now)) }
-    ensures workers { IfSome result HasWorkers }
-    ensures none { IfNone result (NamesNone (subcommand_rows_of matches.now)) }
-{
-    let (name, own) = matches.subcommand()?;
-    match name {
-        "replay" => Some(Command::Replay),
-        "script" => Some(Command::Script),
-        "whatif" => Some(Command::Whatif),
-        "race" => Some(Command::Race(workers(own)?)),
-        _ => None,
-    }
-}
-
-// The number of workers that the matches of `race` have.
-fn workers(matches: &ArgMatches<'_>) -> Option<u32>
-    ensures some { IfSome result (IsWorkers (one_of workers_id (rows_of (found_of matches.now)))) }
-    ensures none { IfNone result ((n : ℕ) → IsWorkers (one_of workers_id (rows_of (found_of matches.now))) n → ⊥) }
-{
-    let workers = matches.get_one::<u32>("workers")?;
-    if workers < 1 {
-        return None;
-    }
-    if MAX_WORKERS < workers {
-        return None;
-    }
-    Some(workers)
-}
-
-// What clap is told of the option of `race`.
-fn workers_option<'a>(alloc: Global) -> Arg<'a>
-    ensures rule { rule_of result ≡ workers_rule }
-    ensures local { result.global ≡ false }
-{
-    Arg::new(alloc, "workers")
-        .long("workers")
-        .value_name("N")
-        .value_parser(ValueParser::unsigned(1, MAX_WORKERS as u64))
-        .default_value("1")
-        .help("How many threads replay ahead what a request changes, 1 to 16; with 1 none does")
-}
-
-// What clap is told of the program.
-fn scope_command<'a>(alloc: Global) -> Result<clap::Command<'a>, AllocError>
-    ensures { IfOk result (λ c. app_of c ≡ scope_app) }
-{
-    let replay = clap::Command::new(alloc, "replay").about(
-        "Reads a trace, one operation a line in JSON, and writes its report",
-    );
-    let script = clap::Command::new(alloc, "script").about(
-        "Reads a trace, a line --, and requests to edit it, and writes the replies and the last version's report",
-    );
-    let whatif = clap::Command::new(alloc, "whatif").about(
-        "Reads a trace, a line --, and one request to edit it, and writes the edited trace and its report",
-    );
-    let titled = clap::Command::new(alloc, "race").about(
-        "Reads a trace, a line --, and requests to edit it, submits those of each session on a thread of its own, and writes the replies and the last version's report",
-    );
-    let race = titled.arg(workers_option(alloc))?;
-    clap::Command::new(alloc, "arc_scope")
-        .about(
-            "Replays a trace of Arc, Weak and atomic shared_ptr operations and reports what each did",
-        )
-        .subcommand_required(true)
-        .subcommand(replay)?
-        .subcommand(script)?
-        .subcommand(whatif)?
-        .subcommand(race)
 }

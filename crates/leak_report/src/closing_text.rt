@@ -1,5 +1,6 @@
 //! The text of what a report says of objects, leaks and husks, and of its total.
-ghost use Rattle.std.specs.Prelude.{◌≡◌, ◌++◌, count_by, string_bytes, OnOk};
+ghost use Rattle.std.specs.Prelude.{◌≡◌, count_by, OnOk};
+ghost use Rattle.text_pieces.specs.Pieces.{Adds};
 ghost use Rattle.leak_report.specs.Text.{ending_text, freed_text, fate_text, life_text, lives_text, holder_text, holders_text, leak_text, leaks_text, husk_text, husks_text, is_living, total_line};
 
 use crate::lives::{Ending, Life};
@@ -10,7 +11,7 @@ use text_pieces::push_labelled;
 
 /// Adds a line for each object that was made.
 pub fn push_lives(text: &mut String, lives: &[Life]) -> Result<(), AllocError>
-    ensures { OnOk result (string_bytes text.new ≡ string_bytes text.old ++ lives_text lives.now) }
+    ensures { OnOk result (Adds text.old text.new (lives_text lives.now)) }
 {
     for life in lives {
         push_life(text, *life)?;
@@ -19,7 +20,7 @@ pub fn push_lives(text: &mut String, lives: &[Life]) -> Result<(), AllocError>
 }
 
 fn push_life(text: &mut String, life: Life) -> Result<(), AllocError>
-    ensures { OnOk result (string_bytes text.new ≡ string_bytes text.old ++ life_text life) }
+    ensures { OnOk result (Adds text.old text.new (life_text life)) }
 {
     push_labelled(text, "object ", life.object as u64)?;
     push_fate(text, life.ending, life.freed)?;
@@ -32,7 +33,7 @@ fn push_fate(
     ending: Option<Ending>,
     freed: Option<u32>,
 ) -> Result<(), AllocError>
-    ensures { OnOk result (string_bytes text.new ≡ string_bytes text.old ++ fate_text ending freed) }
+    ensures { OnOk result (Adds text.old text.new (fate_text ending freed)) }
 {
     let Some(ending) = ending else {
         return text.push_str(" alive");
@@ -42,7 +43,7 @@ fn push_fate(
 }
 
 fn push_ending(text: &mut String, ending: Ending) -> Result<(), AllocError>
-    ensures { OnOk result (string_bytes text.new ≡ string_bytes text.old ++ ending_text ending) }
+    ensures { OnOk result (Adds text.old text.new (ending_text ending)) }
 {
     match ending {
         Ending::Destroyed(id) => push_labelled(text, " destroyed ", id as u64),
@@ -52,7 +53,7 @@ fn push_ending(text: &mut String, ending: Ending) -> Result<(), AllocError>
 }
 
 fn push_freed(text: &mut String, freed: Option<u32>) -> Result<(), AllocError>
-    ensures { OnOk result (string_bytes text.new ≡ string_bytes text.old ++ freed_text freed) }
+    ensures { OnOk result (Adds text.old text.new (freed_text freed)) }
 {
     let Some(id) = freed else {
         return Ok(());
@@ -62,7 +63,7 @@ fn push_freed(text: &mut String, freed: Option<u32>) -> Result<(), AllocError>
 
 /// Adds a line for each leaked object.
 pub fn push_leaks(text: &mut String, leaks: &[Leak]) -> Result<(), AllocError>
-    ensures { OnOk result (string_bytes text.new ≡ string_bytes text.old ++ leaks_text leaks.now) }
+    ensures { OnOk result (Adds text.old text.new (leaks_text leaks.now)) }
 {
     for leak in leaks {
         push_leak(text, leak)?;
@@ -71,7 +72,7 @@ pub fn push_leaks(text: &mut String, leaks: &[Leak]) -> Result<(), AllocError>
 }
 
 fn push_leak(text: &mut String, leak: &Leak) -> Result<(), AllocError>
-    ensures { OnOk result (string_bytes text.new ≡ string_bytes text.old ++ leak_text leak.now) }
+    ensures { OnOk result (Adds text.old text.new (leak_text leak.now)) }
 {
     push_labelled(text, "leak ", leak.object as u64)?;
     text.push_str(" held by")?;
@@ -81,7 +82,7 @@ fn push_leak(text: &mut String, leak: &Leak) -> Result<(), AllocError>
 }
 
 fn push_holders(text: &mut String, holders: &[Holder]) -> Result<(), AllocError>
-    ensures { OnOk result (string_bytes text.new ≡ string_bytes text.old ++ holders_text holders.now) }
+    ensures { OnOk result (Adds text.old text.new (holders_text holders.now)) }
 {
     for holder in holders {
         push_holder(text, *holder)?;
@@ -90,7 +91,7 @@ fn push_holders(text: &mut String, holders: &[Holder]) -> Result<(), AllocError>
 }
 
 fn push_holder(text: &mut String, holder: Holder) -> Result<(), AllocError>
-    ensures { OnOk result (string_bytes text.new ≡ string_bytes text.old ++ holder_text holder) }
+    ensures { OnOk result (Adds text.old text.new (holder_text holder)) }
 {
     push_labelled(text, " ", holder.object as u64)?;
     push_labelled(text, ".", holder.field as u64)
@@ -98,7 +99,7 @@ fn push_holder(text: &mut String, holder: Holder) -> Result<(), AllocError>
 
 /// Adds a line for each husk.
 pub fn push_husks(text: &mut String, husks: &[HuskLeft]) -> Result<(), AllocError>
-    ensures { OnOk result (string_bytes text.new ≡ string_bytes text.old ++ husks_text husks.now) }
+    ensures { OnOk result (Adds text.old text.new (husks_text husks.now)) }
 {
     for husk in husks {
         push_husk(text, *husk)?;
@@ -107,7 +108,7 @@ pub fn push_husks(text: &mut String, husks: &[HuskLeft]) -> Result<(), AllocErro
 }
 
 fn push_husk(text: &mut String, husk: HuskLeft) -> Result<(), AllocError>
-    ensures { OnOk result (string_bytes text.new ≡ string_bytes text.old ++ husk_text husk) }
+    ensures { OnOk result (Adds text.old text.new (husk_text husk)) }
 {
     push_labelled(text, "husk ", husk.object as u64)?;
     push_labelled(text, " weak ", husk.weak)?;
@@ -117,7 +118,7 @@ fn push_husk(text: &mut String, husk: HuskLeft) -> Result<(), AllocError>
 
 /// Adds the last line.
 pub fn push_total(text: &mut String, report: &Report) -> Result<(), AllocError>
-    ensures { OnOk result (string_bytes text.new ≡ string_bytes text.old ++ total_line report.now) }
+    ensures { OnOk result (Adds text.old text.new (total_line report.now)) }
 {
     let operations = report.operations();
     let skipped = report.skipped();

@@ -59,7 +59,8 @@ fn note_freed(lives: &mut [Life], object: u32, id: u32)
 // Where the life of an object stands, if it has one.
 fn place_of(lives: &[Life], object: u32) -> Option<usize>
     requires { HasRisingObjects lives.now }
-    ensures { MatchOption result (HasNone object lives.now) (λ place. (place < length lives.now) × ((d : Life) → (slice_index_or lives.now place d).object ≡ object)) }
+    ensures { MatchOption result (HasNone object lives.now) (λ place. (place < length lives.now)
+        × ((d : Life) → (slice_index_or lives.now place d).object ≡ object)) }
 {
     lives.binary_search_by_key(&object, |life| life.object).ok()
 }

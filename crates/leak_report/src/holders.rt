@@ -39,7 +39,8 @@ pub fn push_holders(
 ) -> Result<(), AllocError>
     requires same { leak_names leaks.old.items ≡ names.now }
     requires rising { IsStrictlySortedBy nat_cmp names.now }
-    ensures { OnOk result (leaks.new.items ≡ with_holders (λ o. holders_in heap.now objects.now o) leaks.old.items) }
+    ensures { OnOk result (leaks.new.items
+        ≡ with_holders (λ o. holders_in heap.now objects.now o) leaks.old.items) }
 {
     for object in objects {
         push_entry_holders(*object, entry(heap, *object), names, leaks)?;
@@ -47,12 +48,12 @@ pub fn push_holders(
     Ok(())
 }
 
-// What stands for an object. Each heap is within the limits, as the clauses of `kept` say.
+// What stands for an object. Each heap is within the limits, as the clauses of `show_sound` say.
 fn entry(heap: &Heap, object: u32) -> Option<&Entry>
     ensures value { option_copied result ≡ get heap.now.objects object }
     ensures fits { ObjectFits object (option_copied result) }
 {
-    heap.kept();
+    heap.show_sound();
     heap.object(object)
 }
 
@@ -65,7 +66,8 @@ fn push_entry_holders(
     requires fits { ObjectFits object (option_copied entry) }
     requires same { leak_names leaks.old.items ≡ names.now }
     requires rising { IsStrictlySortedBy nat_cmp names.now }
-    ensures value { OnOk result (leaks.new.items ≡ with_holders (λ o. entry_holding o object (option_copied entry.entry)) leaks.old.items) }
+    ensures value { OnOk result (leaks.new.items
+        ≡ with_holders (λ o. entry_holding o object (option_copied entry.entry)) leaks.old.items) }
     ensures same { OnOk result (leak_names leaks.new.items ≡ names.now) }
 {
     match entry {
@@ -83,7 +85,8 @@ fn push_field_holders(
     requires few { length fields.now ≤ MAX_FIELDS }
     requires same { leak_names leaks.old.items ≡ names.now }
     requires rising { IsStrictlySortedBy nat_cmp names.now }
-    ensures value { OnOk result (leaks.new.items ≡ with_holders (λ o. fields_holding o object 0 fields.now) leaks.old.items) }
+    ensures value { OnOk result (leaks.new.items
+        ≡ with_holders (λ o. fields_holding o object 0 fields.now) leaks.old.items) }
     ensures same { OnOk result (leak_names leaks.new.items ≡ names.now) }
 {
     for (i, slot) in fields.iter().enumerate() {
@@ -102,7 +105,8 @@ fn push_holder(
 ) -> Result<(), AllocError>
     requires same { leak_names leaks.old.items ≡ names.now }
     requires rising { IsStrictlySortedBy nat_cmp names.now }
-    ensures value { OnOk result (leaks.new.items ≡ with_holders (λ o. if holds o slot then holder ∷ [] else []) leaks.old.items) }
+    ensures value { OnOk result (leaks.new.items
+        ≡ with_holders (λ o. if holds o slot then holder ∷ [] else []) leaks.old.items) }
     ensures same { OnOk result (leak_names leaks.new.items ≡ names.now) }
 {
     let Slot::Strong(object) = slot else {

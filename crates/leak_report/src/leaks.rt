@@ -40,7 +40,8 @@ fn leaked_among(
     objects: &[u32],
     reached: &BTreeSet<u32>,
 ) -> Result<Vec<u32>, AllocError>
-    ensures { IfOk result (λ v. v.items ≡ leaked_in (λ o. contains nat_cmp reached.now o) heap.now objects.now) }
+    ensures { IfOk result (λ v. v.items
+        ≡ leaked_in (λ o. contains nat_cmp reached.now o) heap.now objects.now) }
 {
     let mut names = Vec::new(alloc);
     for object in objects {
@@ -52,7 +53,8 @@ fn leaked_among(
 }
 
 fn is_leaked(heap: &Heap, object: u32, reached: &BTreeSet<u32>) -> bool
-    ensures { result ≡ (definition.is_alive (get heap.now.objects object) && not (contains nat_cmp reached.now object)) }
+    ensures { result ≡ (definition.is_alive (get heap.now.objects object)
+        && not (contains nat_cmp reached.now object)) }
 {
     is_alive(heap.object(object)) && !reached.contains(&object)
 }

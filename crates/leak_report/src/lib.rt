@@ -14,6 +14,7 @@ mod shown;
 mod text;
 mod write;
 
+pub use closing_text::push_lives;
 pub use leaks::find_leaks;
 pub use lives::{Ending, Life};
 pub use report::report_of_stretches;

@@ -1,5 +1,6 @@
 //! The text of a report's lines: what each operation did.
-ghost use Rattle.std.specs.Prelude.{◌≡◌, ◌++◌, length, string_bytes, OnOk};
+ghost use Rattle.std.specs.Prelude.{◌≡◌, length, OnOk};
+ghost use Rattle.text_pieces.specs.Pieces.{Adds};
 ghost use Rattle.trace_types.specs.Stretches.{ops_of, outcomes_of};
 ghost use Rattle.leak_report.specs.Lines.{line_of, lines_of};
 ghost use Rattle.leak_report.specs.Text.{answer_text, reason_text, verdict_text, event_text, events_text, counts_text, outcome_text, line_text, lines_text};
@@ -12,7 +13,8 @@ use trace_types::stretches::Stretch;
 
 /// Adds a line for each operation of each stretch.
 pub fn push_all_lines(text: &mut String, stretches: &[Stretch]) -> Result<(), AllocError>
-    ensures { OnOk result (string_bytes text.new ≡ string_bytes text.old ++ lines_text (lines_of (ops_of stretches.now) (outcomes_of stretches.now))) }
+    ensures { OnOk result (Adds text.old text.new
+        (lines_text (lines_of (ops_of stretches.now) (outcomes_of stretches.now)))) }
 {
     for stretch in stretches {
         push_lines(text, stretch.ops, stretch.outcomes)?;
@@ -22,7 +24,7 @@ pub fn push_all_lines(text: &mut String, stretches: &[Stretch]) -> Result<(), Al
 
 fn push_lines(text: &mut String, ops: &[Op], outcomes: &[Outcome]) -> Result<(), AllocError>
     requires { length outcomes.now ≡ length ops.now }
-    ensures { OnOk result (string_bytes text.new ≡ string_bytes text.old ++ lines_text (lines_of ops.now outcomes.now)) }
+    ensures { OnOk result (Adds text.old text.new (lines_text (lines_of ops.now outcomes.now))) }
 {
     for i in 0..ops.len() {
         push_line(text, &ops[i], &outcomes[i])?;
@@ -31,7 +33,7 @@ fn push_lines(text: &mut String, ops: &[Op], outcomes: &[Outcome]) -> Result<(),
 }
 
 fn push_line(text: &mut String, op: &Op, outcome: &Outcome) -> Result<(), AllocError>
-    ensures { OnOk result (string_bytes text.new ≡ string_bytes text.old ++ line_text (line_of op.now outcome.now)) }
+    ensures { OnOk result (Adds text.old text.new (line_text (line_of op.now outcome.now))) }
 {
     push_decimal(text, outcome.id as u64)?;
     text.push(' ')?;
@@ -43,7 +45,7 @@ fn push_line(text: &mut String, op: &Op, outcome: &Outcome) -> Result<(), AllocE
 }
 
 fn push_outcome(text: &mut String, outcome: &Outcome) -> Result<(), AllocError>
-    ensures { OnOk result (string_bytes text.new ≡ string_bytes text.old ++ outcome_text outcome.now) }
+    ensures { OnOk result (Adds text.old text.new (outcome_text outcome.now)) }
 {
     push_verdict(text, outcome.verdict)?;
     push_counts(text, outcome.counts)?;
@@ -52,7 +54,7 @@ fn push_outcome(text: &mut String, outcome: &Outcome) -> Result<(), AllocError>
 }
 
 fn push_verdict(text: &mut String, verdict: Verdict) -> Result<(), AllocError>
-    ensures { OnOk result (string_bytes text.new ≡ string_bytes text.old ++ verdict_text verdict) }
+    ensures { OnOk result (Adds text.old text.new (verdict_text verdict)) }
 {
     match verdict {
         Verdict::Did(answer) => push_answer(text, answer),
@@ -64,7 +66,7 @@ fn push_verdict(text: &mut String, verdict: Verdict) -> Result<(), AllocError>
 }
 
 fn push_answer(text: &mut String, answer: Answer) -> Result<(), AllocError>
-    ensures { OnOk result (string_bytes text.new ≡ string_bytes text.old ++ answer_text answer) }
+    ensures { OnOk result (Adds text.old text.new (answer_text answer)) }
 {
     match answer {
         Answer::Made => text.push_str("made"),
@@ -78,7 +80,7 @@ fn push_answer(text: &mut String, answer: Answer) -> Result<(), AllocError>
 }
 
 fn push_reason(text: &mut String, reason: Reason) -> Result<(), AllocError>
-    ensures { OnOk result (string_bytes text.new ≡ string_bytes text.old ++ reason_text reason) }
+    ensures { OnOk result (Adds text.old text.new (reason_text reason)) }
 {
     match reason {
         Reason::SameName(n) => push_labelled(text, "SameName ", n as u64),
@@ -92,7 +94,7 @@ fn push_reason(text: &mut String, reason: Reason) -> Result<(), AllocError>
 }
 
 fn push_counts(text: &mut String, counts: Option<Counts>) -> Result<(), AllocError>
-    ensures { OnOk result (string_bytes text.new ≡ string_bytes text.old ++ counts_text counts) }
+    ensures { OnOk result (Adds text.old text.new (counts_text counts)) }
 {
     let Some(counts) = counts else {
         return Ok(());
@@ -103,7 +105,7 @@ fn push_counts(text: &mut String, counts: Option<Counts>) -> Result<(), AllocErr
 }
 
 fn push_events(text: &mut String, events: &[Event]) -> Result<(), AllocError>
-    ensures { OnOk result (string_bytes text.new ≡ string_bytes text.old ++ events_text events.now) }
+    ensures { OnOk result (Adds text.old text.new (events_text events.now)) }
 {
     for event in events {
         push_event(text, *event)?;
@@ -112,7 +114,7 @@ fn push_events(text: &mut String, events: &[Event]) -> Result<(), AllocError>
 }
 
 fn push_event(text: &mut String, event: Event) -> Result<(), AllocError>
-    ensures { OnOk result (string_bytes text.new ≡ string_bytes text.old ++ event_text event) }
+    ensures { OnOk result (Adds text.old text.new (event_text event)) }
 {
     match event {
         Event::Destroyed(o) => push_labelled(text, " destroyed #", o as u64),

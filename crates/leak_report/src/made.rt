@@ -36,7 +36,8 @@ fn note_outcomes(made: &mut Rising, outcomes: &[Outcome]) -> Result<(), AllocErr
 
 // Adds an operation's object, if it made one.
 fn note_made(made: &mut Rising, verdict: Verdict, id: u32) -> Result<(), AllocError>
-    ensures { OnOk result (made.new ≡ (if definition.is_making verdict then insert_key nat_cmp made.old id else made.old)) }
+    ensures { OnOk result (made.new
+        ≡ (if definition.is_making verdict then insert_key nat_cmp made.old id else made.old)) }
 {
     if is_making(verdict) {
         made.insert(id)?;

@@ -40,7 +40,8 @@ pub fn report_of_stretches<'a>(
     heap: &Heap,
 ) -> Result<Report<'a>, AllocError>
     requires { length (ops_of stretches.items) ≤ MAX_OPS }
-    ensures { IfOk result (λ r. r ≡ report_of (ops_of stretches.entry.items) (outcomes_of stretches.entry.items) heap.now) }
+    ensures { IfOk result (λ r. r ≡ report_of
+        (ops_of stretches.entry.items) (outcomes_of stretches.entry.items) heap.now) }
 {
     let lives = lives(alloc, &stretches)?;
     let leaks = find_leaks(alloc, heap)?;

@@ -1,5 +1,6 @@
 //! What a report shows.
-ghost use Rattle.std.specs.Prelude.{◌≡◌, ◌≤◌, ◌++◌, length, count_by, string_bytes, OnOk};
+ghost use Rattle.std.specs.Prelude.{◌≡◌, ◌≤◌, length, count_by, OnOk};
+ghost use Rattle.text_pieces.specs.Pieces.{Adds};
 ghost use Rattle.trace_types.specs.Stretches.{ops_of, outcomes_of};
 ghost use Rattle.leak_report.specs.Lines.{lines_of, is_skipped_line};
 ghost use Rattle.leak_report.specs.Lines as definition;
@@ -34,7 +35,11 @@ impl<'a> Model for Report<'a> {
 
     ghost Value = { Contents };
 
-    ghost view = { λ r. record { lines = lines_of (ops_of r.stretches.items) (outcomes_of r.stretches.items); lives = r.lives; leaks = r.leaks } };
+    ghost view = { λ r. record {
+      lines = lines_of (ops_of r.stretches.items) (outcomes_of r.stretches.items);
+      lives = r.lives;
+      leaks = r.leaks;
+    } };
 
     ghost invariant = { λ r. length (ops_of r.stretches.items) ≤ MAX_OPS };
 }
@@ -43,7 +48,11 @@ impl<'a> Report<'a> {
     /// A report on these stretches, one behind the other, with these lives and leaks.
     pub fn new(stretches: Vec<Stretch<'a>>, lives: Sequence<Life>, leaks: Leaks) -> Self
         requires { length (ops_of stretches.items) ≤ MAX_OPS }
-        ensures { result ≡ record { lines = lines_of (ops_of stretches.entry.items) (outcomes_of stretches.entry.items); lives = lives; leaks = leaks } }
+        ensures { result ≡ record {
+          lines = lines_of (ops_of stretches.entry.items) (outcomes_of stretches.entry.items);
+          lives = lives;
+          leaks = leaks;
+        } }
     {
         Report {
             stretches,
@@ -80,7 +89,7 @@ impl<'a> Report<'a> {
     }
 
     pub(crate) fn push_lines(&self, text: &mut String) -> Result<(), AllocError>
-        ensures { OnOk result (string_bytes text.new ≡ string_bytes text.old ++ lines_text self.now.lines) }
+        ensures { OnOk result (Adds text.old text.new (lines_text self.now.lines)) }
     {
         push_all_lines(text, &self.stretches)
     }
@@ -99,7 +108,8 @@ fn operations(stretches: &[Stretch]) -> usize
 
 fn skipped(stretches: &[Stretch]) -> usize
     requires { length (ops_of stretches.now) ≤ MAX_OPS }
-    ensures { result ≡ count_by (λ outcome. definition.is_skipped outcome.verdict) (outcomes_of stretches.now) }
+    ensures { result
+        ≡ count_by (λ outcome. definition.is_skipped outcome.verdict) (outcomes_of stretches.now) }
 {
     let mut skipped = 0;
     for stretch in stretches {

@@ -21,11 +21,13 @@ pub enum WriteFault {
 
 /// Writes the whole text of a report. The text is made before any of it is written.
 pub fn write_report<K: Sink>(alloc: Global, sink: &mut K, report: &Report) -> Result<(), WriteFault>
-    ensures ok { OnOk result (Appends (K.held sink.old) (K.held sink.new) (report_text report.now)) }
+    ensures ok { OnOk result
+        (Appends (K.held sink.old) (K.held sink.new) (report_text report.now)) }
     ensures ok_unraised { OnOk result (K.failed sink.new ≡ K.failed sink.old) }
 
     // A front of the text was written, and the flag is raised.
-    ensures device { IsErrOf result WriteFault.Device → AppendsFront (K.held sink.old) (K.held sink.new) (report_text report.now) }
+    ensures device { IsErrOf result WriteFault.Device
+        → AppendsFront (K.held sink.old) (K.held sink.new) (report_text report.now) }
     ensures device_raised { IsErrOf result WriteFault.Device → K.failed sink.new ≡ true }
 
     // Nothing was written.

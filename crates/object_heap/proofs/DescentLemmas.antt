@@ -22,7 +22,7 @@ use Rattle.ownership_model.proofs.Searching.{has-append}
 use Rattle.ownership_model.proofs.LawsHold as laws
 use Rattle.ownership_model.specs.Totals.{total}
 use Rattle.ownership_model.proofs.NamedLemmas.{each_zero}
-use Rattle.object_heap.specs.declared.object.Counters.{Counters}
+use Rattle.object_heap.specs.declared.counters.Counters.{Counters}
 use Rattle.object_heap.specs.declared.ranks.TheConstants.{MAX_RANK}
 use Rattle.object_heap.specs.Counted.{IsCounted}
 use Rattle.object_heap.specs.Descent.{rank_in, AreLow, NameLower, AreRanked, DescendTo, IsUnnamed}

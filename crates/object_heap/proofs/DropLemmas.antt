@@ -15,7 +15,7 @@ use Rattle.trace_types.specs.declared.outcomes.Event.{Event}
 use Rattle.ownership_model.proofs.Counting.{weight_at, total-set, total-cut, items_weight-drops, ends-drops, self_strong, self_weak, other_strong, other_weak, same_number}
 use Rattle.ownership_model.specs.State.{State, strong, weak, ends, weight, names_alike, entry_weight, IsSound, IsSoundAt}
 use Rattle.ownership_model.specs.Release.{Fate, Stays, Goes, fate, fall, is_husk, left_by, drop_first, Becomes}
-use Rattle.object_heap.specs.declared.object.Counters.{Counters}
+use Rattle.object_heap.specs.declared.counters.Counters.{Counters}
 use Rattle.object_heap.specs.declared.draft.Draft.{Draft}
 use Rattle.object_heap.specs.Counted.{drafted, IsCounted}
 use Rattle.object_heap.specs.TableView.{counters_at}

@@ -15,7 +15,7 @@ use Rattle.ownership_model.specs.Reach.{has}
 use Rattle.ownership_model.proofs.LawsHold.{patches}
 use Rattle.ownership_model.proofs.Counting.{weight_at, total-insert, total-remove, same_number, get_inserted, get_removed}
 use Rattle.ownership_model.proofs.Searching.{has_as_any}
-use Rattle.object_heap.specs.declared.object.Counters.{Counters}
+use Rattle.object_heap.specs.declared.counters.Counters.{Counters}
 use Rattle.object_heap.specs.declared.draft.Draft.{Draft}
 use Rattle.object_heap.specs.Counted.{drafted, IsCounted}
 use Rattle.object_heap.specs.TableView.{TableView}

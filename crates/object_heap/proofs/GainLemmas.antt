@@ -20,7 +20,7 @@ use Rattle.ownership_model.specs.Changes.{changed, changed_by, with_field, HasFi
 use Rattle.ownership_model.specs.Bounds.{IsBounded, ChangeFits, ChangesFit}
 use Rattle.ownership_model.proofs.LawsHold.{bounds}
 use Rattle.ownership_model.proofs.Counting.{weight_at, total-insert, total-remove, total-set, self_strong, self_weak, other_strong, other_weak, same_number, names_alike-le}
-use Rattle.object_heap.specs.declared.object.Counters.{Counters}
+use Rattle.object_heap.specs.declared.counters.Counters.{Counters}
 use Rattle.object_heap.specs.declared.draft.Draft.{Draft}
 use Rattle.object_heap.specs.Counted.{drafted, IsCounted}
 use Rattle.object_heap.specs.TableView.{TableView, counters_at}

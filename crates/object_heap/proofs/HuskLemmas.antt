@@ -15,7 +15,7 @@ use Rattle.trace_types.specs.declared.outcomes.Event.{Event}
 use Rattle.ownership_model.specs.State.{State, strong, weak, ends, names_alike, is_alive, IsSound, IsSoundAt}
 use Rattle.ownership_model.specs.Release.{fall, left_by, Becomes}
 use Rattle.ownership_model.proofs.Counting.{get_inserted, same_number}
-use Rattle.object_heap.specs.declared.object.Counters.{Counters}
+use Rattle.object_heap.specs.declared.counters.Counters.{Counters}
 use Rattle.object_heap.specs.declared.draft.Draft.{Draft}
 use Rattle.object_heap.specs.Counted.{drafted}
 use Rattle.object_heap.specs.TableView.{TableView, Kept, counters_at, table_of, IsLean}

@@ -16,7 +16,7 @@ use Rattle.ownership_model.specs.Reach.{has, holding_names, cell_names, handle_n
 use Rattle.ownership_model.proofs.Counting.{weight_at}
 use Rattle.ownership_model.proofs.NamedLemmas.{each_zero}
 use Rattle.ownership_model.proofs.Searching.{has-append}
-use Rattle.object_heap.specs.declared.object.Counters.{Counters}
+use Rattle.object_heap.specs.declared.counters.Counters.{Counters}
 use Rattle.object_heap.specs.TableView.{are_zero, counters_at}
 use Rattle.object_heap.specs.Counted.{IsCounted}
 use Rattle.object_heap.specs.Exchange.{without_keys}

@@ -8,7 +8,7 @@ use Rattle.std.specs.FinMap.{FinMap, get, insert, same_map, nat_cmp-IsAntisymmet
 use Rattle.share_tree.specs.Updates.{set_at}
 use Rattle.trace_types.specs.declared.slots.Entry.{Entry}
 use Rattle.ownership_model.proofs.Counting.{get_inserted, same_number}
-use Rattle.object_heap.specs.declared.object.Counters.{Counters}
+use Rattle.object_heap.specs.declared.counters.Counters.{Counters}
 use Rattle.object_heap.specs.TableView.{TableView, Kept, counters_at, kept_of, minus, AreAmong, table_of, IsLean}
 use Rattle.object_heap.specs.Gains.{IsSetAt}
 use Rattle.object_heap.proofs.TableLemmas.{by_zero, counters_found, recounted, same_some}

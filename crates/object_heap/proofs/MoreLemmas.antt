@@ -6,7 +6,7 @@ use Rattle.std.specs.Ordering.{nat_cmp}
 use Rattle.std.specs.FinMap.{FinMap, get}
 use Rattle.std.proofs.lemmas.Bool.Decides.{nat_tests}
 use Rattle.share_tree.specs.Updates.{set_at}
-use Rattle.object_heap.specs.declared.object.Counters.{Counters}
+use Rattle.object_heap.specs.declared.counters.Counters.{Counters}
 use Rattle.object_heap.specs.TableView.{TableView, Kept, counters_at, are_zero, plus, HasRoomFor, table_of, IsLean}
 use Rattle.object_heap.specs.Gains.{IsSetAt}
 use Rattle.object_heap.proofs.TableLemmas.{counters_found, kept_counted, recounted}

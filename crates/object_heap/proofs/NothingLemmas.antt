@@ -8,7 +8,7 @@ use Rattle.ownership_model.specs.Totals.{total, total_in}
 use Rattle.ownership_model.specs.State.{State, nothing_held, weight, holding_weight, entry_weight, names_alike, IsSound}
 use Rattle.ownership_model.specs.Bounds.{IsBounded}
 use Rattle.ownership_model.proofs.LawsHold.{soundness, bounds}
-use Rattle.object_heap.specs.declared.object.Counters.{Counters}
+use Rattle.object_heap.specs.declared.counters.Counters.{Counters}
 use Rattle.object_heap.specs.declared.draft.Draft.{Draft}
 use Rattle.object_heap.specs.Counted.{drafted, IsCounted, IsKept}
 use Rattle.object_heap.specs.TableView.{counters_at}

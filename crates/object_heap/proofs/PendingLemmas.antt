@@ -9,7 +9,7 @@ use Rattle.trace_types.specs.declared.slots.Item.{Item}
 use Rattle.trace_types.specs.declared.slots.Item.TheVariants as item
 use Rattle.ownership_model.specs.State.{State, names_alike, items_weight, ends}
 use Rattle.ownership_model.proofs.Counting.{same_number}
-use Rattle.object_heap.specs.declared.object.Counters.{Counters}
+use Rattle.object_heap.specs.declared.counters.Counters.{Counters}
 use Rattle.object_heap.specs.Counted.{IsCounted}
 use Rattle.object_heap.specs.TableView.{counters_at}
 use Rattle.object_heap.specs.Gains.{IsSetAt, CountsMore, CountsItem}

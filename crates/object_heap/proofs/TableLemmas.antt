@@ -12,7 +12,7 @@ use Rattle.share_tree.specs.Updates.{set_at}
 use Rattle.trace_types.specs.declared.slots.Entry.{Entry}
 use Rattle.ownership_model.proofs.Counting.{get_inserted, get_removed, same_number}
 use Rattle.ownership_model.proofs.Scoping.{itself}
-use Rattle.object_heap.specs.declared.object.Counters.{Counters}
+use Rattle.object_heap.specs.declared.counters.Counters.{Counters}
 use Rattle.object_heap.specs.TableView.{TableView, Kept, counters_at, are_zero, if_any, kept_at, kept_of, picked, part, table_of, IsLean, AreAlike, AllStand}
 use Rattle.object_heap.specs.Gains.{IsSetAt}
 use Rattle.object_heap.proofs.ViewLemmas.{first, second, same_key, find_below}

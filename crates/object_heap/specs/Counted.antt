@@ -5,7 +5,7 @@ use Rattle.std.specs.FinMap.{FinMap, get}
 use Rattle.trace_types.specs.declared.slots.Item.{Item}
 use Rattle.ownership_model.specs.State.{State, strong, weak, ends, IsSound}
 use Rattle.ownership_model.specs.Bounds.{IsBounded}
-use Rattle.object_heap.specs.declared.object.Counters.{Counters}
+use Rattle.object_heap.specs.declared.counters.Counters.{Counters}
 use Rattle.object_heap.specs.declared.draft.Draft.{Draft}
 use Rattle.object_heap.specs.TableView.{counters_at}
 

@@ -9,7 +9,7 @@ use Rattle.trace_types.specs.declared.slots.Item.{Item}
 use Rattle.trace_types.specs.declared.slots.Change.{Change}
 use Rattle.ownership_model.specs.State.{names_alike, items_weight, ends}
 use Rattle.ownership_model.specs.Changes.{changed_by}
-use Rattle.object_heap.specs.declared.object.Counters.{Counters}
+use Rattle.object_heap.specs.declared.counters.Counters.{Counters}
 use Rattle.object_heap.specs.declared.draft.Draft.{Draft}
 use Rattle.object_heap.specs.Counted.{drafted, IsCounted}
 use Rattle.object_heap.specs.TableView.{counters_at}

@@ -8,7 +8,7 @@ use Rattle.std.specs.Coded.{Coded, code_by, coded×, coded_ℕ, coded_option}
 use Rattle.share_tree.specs.Entries.{entry}
 use Rattle.trace_types.specs.declared.slots.Entry.{Entry}
 use Rattle.trace_types.specs.contracts.slots.Entry as stands
-use Rattle.object_heap.specs.declared.object.Counters.{Counters}
+use Rattle.object_heap.specs.declared.counters.Counters.{Counters}
 
 -- what contracts see of all objects: what stands for each, and the counters of each that is named
 pub record TableView : Type 0 where

@@ -14,9 +14,10 @@ ghost use Rattle.object_heap.specs.Drops.{DropsFirst};
 ghost use Rattle.object_heap.specs.Told.{at_once};
 ghost use Rattle.object_heap.specs.Gains.{IsSetAt};
 
-use crate::counters::hold_item;
+use crate::counters::Counters;
+use crate::counting::hold_item;
 use crate::draft::Draft;
-use crate::object::{Counters, counters_of, entry_of};
+use crate::object::{counters_of, entry_of};
 use crate::told::tell_item;
 use crate::weight::added;
 use ownership_model::Key;
@@ -39,10 +40,16 @@ impl Draft {
         requires counted { IsCounted self.old.objects.counts (drafted self.old) [] }
         requires bounded { IsBounded (drafted self.old) }
         requires none { pending.old.items ≡ [] }
-        ensures rest { OnOk result (after events.new.items (release (drafted self.new) pending.new.items) ≡ after events.old.items (release (drafted self.old) items.now)) }
+
+        // What is still to be dropped.
+        ensures rest { OnOk result (after events.new.items
+            (release (drafted self.new) pending.new.items)
+            ≡ after events.old.items (release (drafted self.old) items.now)) }
         ensures sound { OnOk result (IsSound (drafted self.new) pending.new.items) }
-        ensures counted { OnOk result (IsCounted self.new.objects.counts (drafted self.new) pending.new.items) }
-        ensures taken { OnOk result (taken (drafted self.old) items.now ≡ at_once items.now ++ taken (drafted self.new) pending.new.items) }
+        ensures counted { OnOk result (IsCounted self.new.objects.counts (drafted self.new)
+            pending.new.items) }
+        ensures taken { OnOk result (taken (drafted self.old) items.now
+            ≡ at_once items.now ++ taken (drafted self.new) pending.new.items) }
     {
         if let Some((Item::Slot(Slot::Strong(object)), rest)) = items.split_first() {
             self.add_all(alloc, rest, pending)?;
@@ -63,7 +70,8 @@ impl Draft {
         requires none { pending.old.items ≡ [] }
         ensures state { OnOk result (drafted self.new ≡ drafted self.old) }
         ensures pending { OnOk result (pending.new.items ≡ items.now) }
-        ensures counted { OnOk result (IsCounted self.new.objects.counts (drafted self.new) items.now) }
+        ensures counted { OnOk result (IsCounted self.new.objects.counts (drafted self.new)
+            items.now) }
     {
         for item in items {
             self.add(alloc, *item, pending)?;
@@ -83,7 +91,8 @@ impl Draft {
         requires short { length pending.old.items < 2 ^ 63 }
         ensures state { OnOk result (drafted self.new ≡ drafted self.old) }
         ensures pending { OnOk result (pending.new.items ≡ pending.old.items ++ item ∷ []) }
-        ensures counted { OnOk result (IsCounted self.new.objects.counts (drafted self.new) pending.new.items) }
+        ensures counted { OnOk result (IsCounted self.new.objects.counts (drafted self.new)
+            pending.new.items) }
     {
         hold_item(alloc, &mut self.objects, item)?;
         Ok(pending.push_back(item)?)
@@ -98,8 +107,10 @@ impl Draft {
     ) -> Result<(), AllocError>
         requires sound { IsSound (drafted self.old) pending.old.items }
         requires counted { IsCounted self.old.objects.counts (drafted self.old) pending.old.items }
-        ensures state { OnOk result (drafted self.new ≡ (release (drafted self.old) pending.old.items).state) }
-        ensures events { OnOk result (events.new.items ≡ events.old.items ++ (release (drafted self.old) pending.old.items).events) }
+        ensures state { OnOk result (drafted self.new
+            ≡ (release (drafted self.old) pending.old.items).state) }
+        ensures events { OnOk result (events.new.items
+            ≡ events.old.items ++ (release (drafted self.old) pending.old.items).events) }
         ensures sound { OnOk result (IsSound (drafted self.new) []) }
         ensures counted { OnOk result (IsCounted self.new.objects.counts (drafted self.new) []) }
     {
@@ -119,11 +130,16 @@ impl Draft {
     ) -> Result<(), AllocError>
         requires sound { IsSound (drafted self.old) pending.old.items }
         requires counted { IsCounted self.old.objects.counts (drafted self.old) pending.old.items }
-        ensures state { OnOk result (drafted self.new ≡ (release (drafted self.old) pending.old.items).state) }
-        ensures events { OnOk result (events.new.items ≡ events.old.items ++ (release (drafted self.old) pending.old.items).events) }
+
+        // What is left, and what is told.
+        ensures state { OnOk result (drafted self.new
+            ≡ (release (drafted self.old) pending.old.items).state) }
+        ensures events { OnOk result (events.new.items
+            ≡ events.old.items ++ (release (drafted self.old) pending.old.items).events) }
         ensures sound { OnOk result (IsSound (drafted self.new) []) }
         ensures counted { OnOk result (IsCounted self.new.objects.counts (drafted self.new) []) }
-        ensures told { OnOk result (keys.new.items ≡ keys.old.items ++ flat_map item_keys (taken (drafted self.old) pending.old.items)) }
+        ensures told { OnOk result (keys.new.items
+            ≡ keys.old.items ++ flat_map item_keys (taken (drafted self.old) pending.old.items)) }
     {
         while let Some(item) = pending.pop_front() {
             tell_item(item, keys)?;
@@ -141,8 +157,10 @@ impl Draft {
         events: &mut Vec<Event>,
     ) -> Result<(), AllocError>
         requires sound { IsSound (drafted self.old) (item ∷ pending.old.items) }
-        requires counted { IsCounted self.old.objects.counts (drafted self.old) (item ∷ pending.old.items) }
-        ensures { OnOk result (DropsFirst self.old self.new item pending.old.items pending.new.items events.old.items events.new.items) }
+        requires counted { IsCounted self.old.objects.counts (drafted self.old)
+            (item ∷ pending.old.items) }
+        ensures { OnOk result (DropsFirst self.old self.new item pending.old.items pending.new.items
+            events.old.items events.new.items) }
     {
         match item {
             Item::Slot(Slot::Strong(object)) => self.drop_strong(alloc, object, pending, events),
@@ -160,9 +178,12 @@ impl Draft {
         pending: &mut VecDeque<Item>,
         events: &mut Vec<Event>,
     ) -> Result<(), AllocError>
-        requires sound { IsSound (drafted self.old) (item.Slot (slot.Strong object) ∷ pending.old.items) }
-        requires counted { IsCounted self.old.objects.counts (drafted self.old) (item.Slot (slot.Strong object) ∷ pending.old.items) }
-        ensures { OnOk result (DropsFirst self.old self.new (item.Slot (slot.Strong object)) pending.old.items pending.new.items events.old.items events.new.items) }
+        requires sound { IsSound (drafted self.old) (item.Slot (slot.Strong object)
+            ∷ pending.old.items) }
+        requires counted { IsCounted self.old.objects.counts (drafted self.old)
+            (item.Slot (slot.Strong object) ∷ pending.old.items) }
+        ensures { OnOk result (DropsFirst self.old self.new (item.Slot (slot.Strong object))
+            pending.old.items pending.new.items events.old.items events.new.items) }
     {
         let kept = self.objects.kept(object);
         let was = counters_of(kept);
@@ -185,9 +206,11 @@ impl Draft {
         pending: &mut VecDeque<Item>,
         events: &mut Vec<Event>,
     ) -> Result<(), AllocError>
-        requires sound { IsSound (drafted self.old) (item.Slot (slot.Strong object) ∷ pending.old.items) }
+        requires sound { IsSound (drafted self.old) (item.Slot (slot.Strong object)
+            ∷ pending.old.items) }
         requires counted { IsCounted self.old.objects.counts (drafted self.old) pending.old.items }
-        ensures { OnOk result (DropsFirst self.old self.new (item.Slot (slot.Strong object)) pending.old.items pending.new.items events.old.items events.new.items) }
+        ensures { OnOk result (DropsFirst self.old self.new (item.Slot (slot.Strong object))
+            pending.old.items pending.new.items events.old.items events.new.items) }
     {
         let kept = self.objects.kept(object);
         let was = counters_of(kept);
@@ -206,9 +229,12 @@ impl Draft {
         rest: &VecDeque<Item>,
         events: &mut Vec<Event>,
     ) -> Result<(), AllocError>
-        requires sound { IsSound (drafted self.old) (item.Slot (slot.Weak object) ∷ rest.now.items) }
-        requires counted { IsCounted self.old.objects.counts (drafted self.old) (item.Slot (slot.Weak object) ∷ rest.now.items) }
-        ensures { OnOk result (DropsFirst self.old self.new (item.Slot (slot.Weak object)) rest.now.items rest.now.items events.old.items events.new.items) }
+        requires sound { IsSound (drafted self.old) (item.Slot (slot.Weak object)
+            ∷ rest.now.items) }
+        requires counted { IsCounted self.old.objects.counts (drafted self.old)
+            (item.Slot (slot.Weak object) ∷ rest.now.items) }
+        ensures { OnOk result (DropsFirst self.old self.new (item.Slot (slot.Weak object))
+            rest.now.items rest.now.items events.old.items events.new.items) }
     {
         let kept = self.objects.kept(object);
         let was = counters_of(kept);
@@ -232,8 +258,10 @@ impl Draft {
         events: &mut Vec<Event>,
     ) -> Result<(), AllocError>
         requires sound { IsSound (drafted self.old) (item.End object ∷ rest.now.items) }
-        requires counted { IsCounted self.old.objects.counts (drafted self.old) (item.End object ∷ rest.now.items) }
-        ensures { OnOk result (DropsFirst self.old self.new (item.End object) rest.now.items rest.now.items events.old.items events.new.items) }
+        requires counted { IsCounted self.old.objects.counts (drafted self.old)
+            (item.End object ∷ rest.now.items) }
+        ensures { OnOk result (DropsFirst self.old self.new (item.End object) rest.now.items
+            rest.now.items events.old.items events.new.items) }
     {
         let kept = self.objects.kept(object);
         let was = counters_of(kept);
@@ -258,8 +286,10 @@ impl Draft {
         counters: Counters,
         events: &mut Vec<Event>,
     ) -> Result<(), AllocError>
-        ensures step { OnOk result (Becomes (drafted self.new) [] events.old.items events.new.items (left_by (drafted self.old) [] (Goes object))) }
-        ensures set { OnOk result (IsSetAt self.old.objects.counts self.new.objects.counts object counters) }
+        ensures step { OnOk result (Becomes (drafted self.new) [] events.old.items events.new.items
+            (left_by (drafted self.old) [] (Goes object))) }
+        ensures set { OnOk result (IsSetAt self.old.objects.counts self.new.objects.counts object
+            counters) }
     {
         events.push(Event::Freed(object))?;
         self.objects.free(alloc, object, part, counters)
@@ -268,7 +298,8 @@ impl Draft {
 
 // Whether nothing names a husk any more.
 fn is_last(entry: Option<&Entry>, counters: Counters) -> bool
-    ensures { result ≡ ((counters.weak == 0) && (is_husk (option_copied entry.entry) && (counters.ends == 0))) }
+    ensures { result ≡ ((counters.weak == 0) && (is_husk (option_copied entry.entry)
+        && (counters.ends == 0))) }
 {
     counters.weak == 0 && matches!(entry, Some(Entry::Husk)) && counters.ends == 0
 }
@@ -282,8 +313,11 @@ fn fall(
     events: &mut Vec<Event>,
 ) -> Result<u64, AllocError>
     requires { is_alive (option_copied entry) ≡ true }
-    ensures pending { OnOk result ((m : State) → pending.new.items ≡ (left_by m pending.old.items (fall object (option_copied entry.entry))).pending) }
-    ensures events { OnOk result ((m : State) → events.new.items ≡ events.old.items ++ (left_by m pending.old.items (fall object (option_copied entry.entry))).events) }
+    ensures pending { OnOk result ((m : State) → pending.new.items
+        ≡ (left_by m pending.old.items (fall object (option_copied entry.entry))).pending) }
+    ensures events { OnOk result ((m : State) → events.new.items
+        ≡ events.old.items ++ (left_by m pending.old.items
+        (fall object (option_copied entry.entry))).events) }
 {
     let Some(Entry::Alive(fields)) = entry else {
         unreachable!()
@@ -296,7 +330,8 @@ fn fall(
 // The fields in the order of their declaration (Rust Reference, Destructors), and then the end of the object, go before
 // what is pending: all that a field sets off comes before the next field.
 fn push_fields(fields: &[Slot], object: u32, pending: &mut VecDeque<Item>) -> Result<(), AllocError>
-    ensures { OnOk result (pending.new.items ≡ drops fields.now (item.End object ∷ pending.old.items)) }
+    ensures { OnOk result (pending.new.items ≡ drops fields.now
+        (item.End object ∷ pending.old.items)) }
 {
     pending.push_front(Item::End(object))?;
     let mut left = fields.len();

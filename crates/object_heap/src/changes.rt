@@ -11,10 +11,11 @@ ghost use Rattle.object_heap.specs.NamesCounted.{AreNamesCounted};
 ghost use Rattle.object_heap.specs.Told.{changes_keys};
 ghost use Rattle.object_heap.specs.Gains.{Changes, CountsMore, HasRoom, HasSlots};
 
-use crate::counters::{hold, hold_all, hold_holding, let_go, let_go_holding, let_go_object};
+use crate::counting::{hold, hold_all, hold_holding, let_go, let_go_holding, let_go_object};
 use crate::draft::Draft;
-use crate::object::{SetField, counters_of, entry_of};
+use crate::object::{counters_of, entry_of};
 use crate::objects::Objects;
+use crate::updates::SetField;
 use crate::weight::added;
 use ownership_model::Key;
 use std::alloc::{AllocError, Global};
@@ -28,6 +29,8 @@ impl Draft {
         requires bounded { IsBounded (drafted self.old) }
         requires can { CanChange (drafted self.old) changes.now }
         requires fits { ChangesFit changes.now }
+
+        // What the draft holds then.
         ensures state { OnOk result (drafted self.new ≡ changed (drafted self.old) changes.now) }
         ensures counted { OnOk result (IsCounted self.new.objects.counts (drafted self.new) []) }
         ensures bounded { OnOk result (IsBounded (drafted self.new)) }
@@ -49,10 +52,13 @@ impl Draft {
         requires bounded { IsBounded (drafted self.old) }
         requires can { CanChange (drafted self.old) changes.now }
         requires fits { ChangesFit changes.now }
+
+        // What the draft holds then, and what is told.
         ensures state { OnOk result (drafted self.new ≡ changed (drafted self.old) changes.now) }
         ensures counted { OnOk result (IsCounted self.new.objects.counts (drafted self.new) []) }
         ensures bounded { OnOk result (IsBounded (drafted self.new)) }
-        ensures told { OnOk result (keys.new.items ≡ keys.old.items ++ changes_keys (drafted self.old) changes.now) }
+        ensures told { OnOk result (keys.new.items
+            ≡ keys.old.items ++ changes_keys (drafted self.old) changes.now) }
     {
         for change in changes {
             self.tell_change(change, keys)?;
@@ -94,7 +100,8 @@ impl Draft {
         requires counted { IsCounted self.old.objects.counts (drafted self.old) [] }
         requires bounded { IsBounded (drafted self.old) }
         requires fits { HoldingFits holding.now }
-        ensures { OnOk result (Changes self.old self.new (change.SetHandle label handle holding.now)) }
+        ensures { OnOk result (Changes self.old self.new
+            (change.SetHandle label handle holding.now)) }
     {
         hold_holding(alloc, &mut self.objects, holding)?;
         let copy = holding.clone()?;
@@ -216,8 +223,10 @@ fn let_go_held(
     objects: &mut Objects,
     held: Option<&Holding>,
 ) -> Result<(), AllocError>
-    requires { HasSlots objects.old.counts (λ w. option_map_or (holding_weight w) (option_copied held) 0) }
-    ensures counts { OnOk result (CountsMore objects.new.counts objects.old.counts (λ w. option_map_or (holding_weight w) (option_copied held.entry) 0)) }
+    requires { HasSlots objects.old.counts (λ w.
+        option_map_or (holding_weight w) (option_copied held) 0) }
+    ensures counts { OnOk result (CountsMore objects.new.counts objects.old.counts
+        (λ w. option_map_or (holding_weight w) (option_copied held.entry) 0)) }
     ensures entries { OnOk result (objects.new.entries ≡ objects.old.entries) }
 {
     match held {
@@ -229,7 +238,8 @@ fn let_go_held(
 // What a cell held, if there was one, is counted no more.
 fn let_go_cell(alloc: Global, objects: &mut Objects, held: Option<&Slot>) -> Result<(), AllocError>
     requires { HasSlots objects.old.counts (λ w. option_map_or w (option_copied held) 0) }
-    ensures counts { OnOk result (CountsMore objects.new.counts objects.old.counts (λ w. option_map_or w (option_copied held.entry) 0)) }
+    ensures counts { OnOk result (CountsMore objects.new.counts objects.old.counts
+        (λ w. option_map_or w (option_copied held.entry) 0)) }
     ensures entries { OnOk result (objects.new.entries ≡ objects.old.entries) }
 {
     match held {

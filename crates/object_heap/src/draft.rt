@@ -61,9 +61,13 @@ impl Draft {
         requires can { CanChange (drafted self.old) changes.now }
         requires fits { ChangesFit changes.now }
         requires sound { IsSound (changed (drafted self.old) changes.now) pending.now }
+
+        // What the draft holds then, and what became of objects.
         ensures kept { OnOk result (IsKept self.new) }
-        ensures state { OnOk result (drafted self.new ≡ (release (changed (drafted self.old) changes.now) pending.now).state) }
-        ensures events { IfOk result (λ v. v.items ≡ (release (changed (drafted self.old) changes.now) pending.now).events) }
+        ensures state { OnOk result (drafted self.new
+            ≡ (release (changed (drafted self.old) changes.now) pending.now).state) }
+        ensures events { IfOk result (λ v. v.items ≡ (release
+            (changed (drafted self.old) changes.now) pending.now).events) }
     {
         self.apply(alloc, changes)?;
         work.clear();
@@ -86,10 +90,15 @@ impl Draft {
         requires can { CanChange (drafted self.old) changes.now }
         requires fits { ChangesFit changes.now }
         requires sound { IsSound (changed (drafted self.old) changes.now) pending.now }
+
+        // What the draft holds then, what became of objects, and what is told.
         ensures kept { OnOk result (IsKept self.new) }
-        ensures state { OnOk result (drafted self.new ≡ (release (changed (drafted self.old) changes.now) pending.now).state) }
-        ensures events { IfOk result (λ v. v.items ≡ (release (changed (drafted self.old) changes.now) pending.now).events) }
-        ensures told { OnOk result (keys.new.items ≡ keys.old.items ++ release_keys (drafted self.old) changes.now pending.now) }
+        ensures state { OnOk result (drafted self.new
+            ≡ (release (changed (drafted self.old) changes.now) pending.now).state) }
+        ensures events { IfOk result (λ v. v.items ≡ (release
+            (changed (drafted self.old) changes.now) pending.now).events) }
+        ensures told { OnOk result (keys.new.items
+            ≡ keys.old.items ++ release_keys (drafted self.old) changes.now pending.now) }
     {
         self.apply_told(alloc, changes, keys)?;
         work.clear();

@@ -7,7 +7,7 @@ ghost use Rattle.ownership_model.specs.Patch.{patched};
 ghost use Rattle.object_heap.specs.Counted.{drafted, IsCounted};
 ghost use Rattle.object_heap.specs.Exchange.{AreWithinLimits, without_keys, with_keys, PutsIn, TakesOut};
 
-use crate::counters::{hold_entry, let_go_object};
+use crate::counting::{hold_entry, let_go_object};
 use crate::draft::Draft;
 use ownership_model::remaining::Remaining;
 use share_tree::ShareTree;
@@ -25,7 +25,10 @@ impl Draft {
         requires counted { IsCounted self.old.objects.counts (drafted self.old) [] }
         requires bounded { IsBounded (drafted self.old) }
         requires fits { AreWithinLimits added.now }
-        ensures state { OnOk result (drafted self.new ≡ patched (drafted self.old) (record { removed = removed.now; added = added.now })) }
+        ensures state { OnOk result (drafted self.new ≡ patched (drafted self.old) (record {
+          removed = removed.now;
+          added = added.now;
+        })) }
         ensures counted { OnOk result (IsCounted self.new.objects.counts (drafted self.new) []) }
         ensures bounded { OnOk result (IsBounded (drafted self.new)) }
     {
@@ -40,7 +43,8 @@ impl Draft {
     ) -> Result<(), AllocError>
         requires counted { IsCounted self.old.objects.counts (drafted self.old) [] }
         requires bounded { IsBounded (drafted self.old) }
-        ensures state { OnOk result (drafted self.new ≡ without_keys (map.keys removed.now) (drafted self.old)) }
+        ensures state { OnOk result (drafted self.new
+            ≡ without_keys (map.keys removed.now) (drafted self.old)) }
         ensures counted { OnOk result (IsCounted self.new.objects.counts (drafted self.new) []) }
         ensures bounded { OnOk result (IsBounded (drafted self.new)) }
     {
@@ -52,7 +56,8 @@ impl Draft {
     pub fn take_out_each(&mut self, alloc: Global, objects: &[u32]) -> Result<(), AllocError>
         requires counted { IsCounted self.old.objects.counts (drafted self.old) [] }
         requires bounded { IsBounded (drafted self.old) }
-        ensures state { OnOk result (drafted self.new ≡ without_keys objects.now (drafted self.old)) }
+        ensures state { OnOk result (drafted self.new
+            ≡ without_keys objects.now (drafted self.old)) }
         ensures counted { OnOk result (IsCounted self.new.objects.counts (drafted self.new) []) }
         ensures bounded { OnOk result (IsBounded (drafted self.new)) }
     {
@@ -66,7 +71,8 @@ impl Draft {
         requires counted { IsCounted self.old.objects.counts (drafted self.old) [] }
         requires bounded { IsBounded (drafted self.old) }
         requires fits { AreWithinLimits added.now }
-        ensures state { OnOk result (drafted self.new ≡ with_keys added.now (map.keys added.now) (drafted self.old)) }
+        ensures state { OnOk result (drafted self.new
+            ≡ with_keys added.now (map.keys added.now) (drafted self.old)) }
         ensures counted { OnOk result (IsCounted self.new.objects.counts (drafted self.new) []) }
         ensures bounded { OnOk result (IsBounded (drafted self.new)) }
     {

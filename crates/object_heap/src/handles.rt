@@ -36,7 +36,8 @@ impl Model for Handles {
 
     ghost view = { λ h. handles_of h.kept h.last };
 
-    ghost invariant = { λ h. AreLinked (places_of h.kept) h.last (scopes_at (places_of h.kept) h.last) };
+    ghost invariant = { λ h. AreLinked (places_of h.kept) h.last
+        (scopes_at (places_of h.kept) h.last) };
 }
 
 impl Handles {
@@ -118,8 +119,10 @@ impl Handles {
         holding: Holding,
     ) -> Result<Option<Holding>, AllocError>
         ensures was { IfOk result (λ was. was ≡ map.get self.old.holdings handle) }
-        ensures held { OnOk result (self.new.holdings ≡ map.insert self.old.holdings handle holding) }
-        ensures scopes { OnOk result (self.new.scopes ≡ kept_or_entered (map.get self.old.holdings handle) label handle self.old.scopes) }
+        ensures held { OnOk result (self.new.holdings
+            ≡ map.insert self.old.holdings handle holding) }
+        ensures scopes { OnOk result (self.new.scopes
+            ≡ kept_or_entered (map.get self.old.holdings handle) label handle self.old.scopes) }
     {
         let Some(held) = self.kept.get(handle) else {
             self.enter(alloc, label, handle, holding)?;
@@ -165,7 +168,8 @@ impl Handles {
         holding: Holding,
     ) -> Result<(), AllocError>
         requires { map.get self.old.holdings handle ≡ None }
-        ensures held { OnOk result (self.new.holdings ≡ map.insert self.old.holdings handle holding) }
+        ensures held { OnOk result (self.new.holdings
+            ≡ map.insert self.old.holdings handle holding) }
         ensures scopes { OnOk result (self.new.scopes ≡ entered label handle self.old.scopes) }
     {
         let earlier = self.last.get(label).copied();
@@ -215,8 +219,11 @@ fn link(
     handle: u32,
     held: Held,
 ) -> Result<(), AllocError>
-    ensures holdings { OnOk result (holdings_of kept.new ≡ map.insert (holdings_of kept.old) handle held.holding) }
-    ensures places { OnOk result (places_of kept.new ≡ map.insert (relinked_later (places_of kept.old) held.place.earlier (Some handle)) handle held.place) }
+    ensures holdings { OnOk result (holdings_of kept.new
+        ≡ map.insert (holdings_of kept.old) handle held.holding) }
+    ensures places { OnOk result (places_of kept.new
+        ≡ map.insert (relinked_later (places_of kept.old) held.place.earlier (Some handle)) handle
+        held.place) }
     ensures last { OnOk result (last.new ≡ map.insert last.old held.place.label handle) }
 {
     let Place { label, earlier, .. } = held.place;
@@ -233,9 +240,13 @@ fn unlink(
     handle: u32,
     place: Place,
 ) -> Result<(), AllocError>
-    ensures holdings { OnOk result (holdings_of kept.new ≡ map.remove (holdings_of kept.old) handle) }
-    ensures places { OnOk result (places_of kept.new ≡ relinked_earlier (relinked_later (map.remove (places_of kept.old) handle) place.earlier place.later) place.later place.earlier) }
-    ensures last { OnOk result (last.new ≡ last_without last.old place.label place.earlier place.later) }
+    ensures holdings { OnOk result (holdings_of kept.new
+        ≡ map.remove (holdings_of kept.old) handle) }
+    ensures places { OnOk result (places_of kept.new
+        ≡ relinked_earlier (relinked_later (map.remove (places_of kept.old) handle) place.earlier
+        place.later) place.later place.earlier) }
+    ensures last { OnOk result (last.new ≡ last_without last.old place.label place.earlier
+        place.later) }
 {
     kept.remove(alloc, handle)?;
     set_later(alloc, kept, place.earlier, place.later)?;
@@ -252,7 +263,8 @@ fn set_later(
     later: Option<u32>,
 ) -> Result<(), AllocError>
     ensures holdings { OnOk result (holdings_of kept.new ≡ holdings_of kept.old) }
-    ensures places { OnOk result (places_of kept.new ≡ relinked_later (places_of kept.old) handle later) }
+    ensures places { OnOk result (places_of kept.new
+        ≡ relinked_later (places_of kept.old) handle later) }
 {
     let Some(handle) = handle else {
         return Ok(());
@@ -269,7 +281,8 @@ fn set_earlier(
     earlier: Option<u32>,
 ) -> Result<(), AllocError>
     ensures holdings { OnOk result (holdings_of kept.new ≡ holdings_of kept.old) }
-    ensures places { OnOk result (places_of kept.new ≡ relinked_earlier (places_of kept.old) handle earlier) }
+    ensures places { OnOk result (places_of kept.new
+        ≡ relinked_earlier (places_of kept.old) handle earlier) }
 {
     let Some(handle) = handle else {
         return Ok(());

@@ -17,8 +17,8 @@ ghost use Rattle.object_heap.specs.Exchange.{AreWithinLimits};
 ghost use Rattle.object_heap.specs.Told.{release_keys};
 ghost use Rattle.object_heap.specs.Links.{first_of, earlier_in};
 
+use crate::counters::Counters;
 use crate::draft::Draft;
-use crate::object::Counters;
 use ownership_model::Key;
 use ownership_model::remaining::Remaining;
 use share_tree::ShareTree;
@@ -76,8 +76,8 @@ impl Heap {
         })
     }
 
-    /// Does nothing. By its clauses a caller knows that every heap is sound and within the limits.
-    pub fn kept(&self)
+    /// Does nothing. Its clauses tell the caller that every heap is sound and within the limits.
+    pub fn show_sound(&self)
         ensures sound { IsSound self.now [] }
         ensures bounded { IsBounded self.now }
     {
@@ -139,7 +139,8 @@ impl Heap {
     /// One may be listed twice, or not stand at all. The work is that of the objects and of their fields: the rest isn't looked at.
     /// May take memory. It is a help for speed, and no clause says that an island is told as one.
     pub fn is_island(&self, alloc: Global, objects: &[u32]) -> Result<bool, AllocError>
-        ensures { IfOk result (λ b. IsTrue b → IsClosed StrongOrWeak self.now (λ o. not (has o objects.now))) }
+        ensures { IfOk result (λ b. IsTrue b → IsClosed StrongOrWeak self.now
+            (λ o. not (has o objects.now))) }
     {
         self.draft.is_island(alloc, objects)
     }
@@ -160,7 +161,11 @@ impl Heap {
 
     /// How many slots name the object, strongly and weakly. It is looked up once.
     pub fn counts(&self, object: u32) -> Counts
-        ensures { result ≡ record { object = object; strong = strong self.now [] object; weak = weak self.now [] object } }
+        ensures { result ≡ record {
+          object = object;
+          strong = strong self.now [] object;
+          weak = weak self.now [] object;
+        } }
     {
         let Counters { strong, weak, .. } = self.draft.objects.counters(object);
         Counts {
@@ -227,8 +232,10 @@ impl Heap {
         requires can { CanChange self.now changes.now }
         requires fits { ChangesFit changes.now }
         requires sound { IsSound (changed self.now changes.now) pending.now }
-        ensures state { IfOk result (λ r. r.0 ≡ (release (changed self.now changes.now) pending.now).state) }
-        ensures events { IfOk result (λ r. r.1 ≡ (release (changed self.now changes.now) pending.now).events) }
+        ensures state { IfOk result (λ r. r.0 ≡ (release (changed self.now changes.now)
+            pending.now).state) }
+        ensures events { IfOk result (λ r. r.1 ≡ (release (changed self.now changes.now)
+            pending.now).events) }
         ensures cascade { IfOk result (λ r. CascadesTo (changed self.now changes.now) r.0 r.1) }
     {
         self.share()?.released(alloc, changes, pending)
@@ -244,8 +251,10 @@ impl Heap {
         requires can { CanChange self changes.now }
         requires fits { ChangesFit changes.now }
         requires sound { IsSound (changed self changes.now) pending.now }
-        ensures state { IfOk result (λ r. r.0 ≡ (release (changed self changes.now) pending.now).state) }
-        ensures events { IfOk result (λ r. r.1 ≡ (release (changed self changes.now) pending.now).events) }
+        ensures state { IfOk result (λ r. r.0 ≡ (release (changed self changes.now)
+            pending.now).state) }
+        ensures events { IfOk result (λ r. r.1 ≡ (release (changed self changes.now)
+            pending.now).events) }
         ensures cascade { IfOk result (λ r. CascadesTo (changed self changes.now) r.0 r.1) }
     {
         let mut heap = self;
@@ -263,9 +272,14 @@ impl Heap {
         requires can { CanChange self.old changes.now }
         requires fits { ChangesFit changes.now }
         requires sound { IsSound (changed self.old changes.now) pending.now }
-        ensures state { OnOk result (self.new ≡ (release (changed self.old changes.now) pending.now).state) }
-        ensures events { IfOk result (λ events. events ≡ (release (changed self.old changes.now) pending.now).events) }
-        ensures cascade { IfOk result (λ events. CascadesTo (changed self.old changes.now) self.new events) }
+
+        // What the heap holds then, and what became of objects.
+        ensures state { OnOk result (self.new ≡ (release (changed self.old changes.now)
+            pending.now).state) }
+        ensures events { IfOk result (λ events. events
+            ≡ (release (changed self.old changes.now) pending.now).events) }
+        ensures cascade { IfOk result (λ events. CascadesTo (changed self.old changes.now) self.new
+            events) }
         ensures err { OnErr result (self.new ≡ nothing_held) }
     {
         let mut work = VecDeque::new(alloc);
@@ -283,9 +297,14 @@ impl Heap {
         requires can { CanChange self.old changes.now }
         requires fits { ChangesFit changes.now }
         requires sound { IsSound (changed self.old changes.now) pending.now }
-        ensures state { OnOk result (self.new ≡ (release (changed self.old changes.now) pending.now).state) }
-        ensures events { IfOk result (λ events. events ≡ (release (changed self.old changes.now) pending.now).events) }
-        ensures cascade { IfOk result (λ events. CascadesTo (changed self.old changes.now) self.new events) }
+
+        // What the heap holds then, and what became of objects.
+        ensures state { OnOk result (self.new ≡ (release (changed self.old changes.now)
+            pending.now).state) }
+        ensures events { IfOk result (λ events. events
+            ≡ (release (changed self.old changes.now) pending.now).events) }
+        ensures cascade { IfOk result (λ events. CascadesTo (changed self.old changes.now) self.new
+            events) }
         ensures err { OnErr result (self.new ≡ nothing_held) }
     {
         match self.draft.carry_out(alloc, work, changes, pending) {
@@ -312,10 +331,16 @@ impl Heap {
         requires can { CanChange self.old changes.now }
         requires fits { ChangesFit changes.now }
         requires sound { IsSound (changed self.old changes.now) pending.now }
-        ensures state { OnOk result (self.new ≡ (release (changed self.old changes.now) pending.now).state) }
-        ensures events { IfOk result (λ events. events ≡ (release (changed self.old changes.now) pending.now).events) }
-        ensures cascade { IfOk result (λ events. CascadesTo (changed self.old changes.now) self.new events) }
-        ensures told { OnOk result (Covers keys.new.items (keys.old.items ++ release_keys self.old changes.now pending.now)) }
+
+        // What the heap holds then, what became of objects, and what is told.
+        ensures state { OnOk result (self.new ≡ (release (changed self.old changes.now)
+            pending.now).state) }
+        ensures events { IfOk result (λ events. events
+            ≡ (release (changed self.old changes.now) pending.now).events) }
+        ensures cascade { IfOk result (λ events. CascadesTo (changed self.old changes.now) self.new
+            events) }
+        ensures told { OnOk result (Covers keys.new.items
+            (keys.old.items ++ release_keys self.old changes.now pending.now)) }
         ensures err { OnErr result (self.new ≡ nothing_held) }
     {
         match self
@@ -341,8 +366,14 @@ impl Heap {
         added: &ShareTree<Remaining>,
     ) -> Result<Heap, AllocError>
         requires fits { AreWithinLimits added.now }
-        requires sound { IsSound (patched self (record { removed = removed.now; added = added.now })) [] }
-        ensures { IfOk result (λ h. h ≡ patched self (record { removed = removed.now; added = added.now })) }
+        requires sound { IsSound (patched self (record {
+          removed = removed.now;
+          added = added.now;
+        })) [] }
+        ensures { IfOk result (λ h. h ≡ patched self (record {
+          removed = removed.now;
+          added = added.now;
+        })) }
     {
         let Heap { mut draft } = self;
         draft.exchange(alloc, removed, added)?;

@@ -64,7 +64,9 @@ pub struct Earlier(pub Option<u32>);
 impl Update<Held> for Earlier {
     ghost can = { λ _ _. ⊤ };
 
-    ghost to = { λ earlier held. record held { place = record held.place { earlier = earlier.0 } } };
+    ghost to = { λ earlier held. record held {
+      place = record held.place { earlier = earlier.0 };
+    } };
 
     ghost answer = { λ _ _. true };
 

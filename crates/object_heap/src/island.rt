@@ -19,7 +19,8 @@ impl Draft {
     pub fn is_island(&self, alloc: Global, objects: &[u32]) -> Result<bool, AllocError>
         requires counted { IsCounted self.now.objects.counts (drafted self.now) [] }
         requires bounded { IsBounded (drafted self.now) }
-        ensures { IfOk result (λ b. IsTrue b → IsClosed StrongOrWeak (drafted self.now) (λ o. not (has o objects.now))) }
+        ensures { IfOk result (λ b. IsTrue b → IsClosed StrongOrWeak (drafted self.now)
+            (λ o. not (has o objects.now))) }
     {
         let rest = self.without(alloc, objects)?;
         Ok(rest.counts_none(objects))
@@ -29,7 +30,8 @@ impl Draft {
     fn without(&self, alloc: Global, objects: &[u32]) -> Result<Draft, AllocError>
         requires counted { IsCounted self.now.objects.counts (drafted self.now) [] }
         requires bounded { IsBounded (drafted self.now) }
-        ensures { IfOk result (λ d. IsCounted d.objects.counts (without_keys objects.now (drafted self.now)) []) }
+        ensures { IfOk result (λ d. IsCounted d.objects.counts
+            (without_keys objects.now (drafted self.now)) []) }
     {
         let mut rest = self.share()?;
         rest.take_out_each(alloc, objects)?;
@@ -38,7 +40,8 @@ impl Draft {
 
     // Whether all their counters are zero.
     fn counts_none(&self, objects: &[u32]) -> bool
-        ensures { result ≡ list_all (λ o. are_zero (counters_at (map.get self.now.objects.counts o))) objects.now }
+        ensures { result ≡ list_all (λ o. are_zero
+            (counters_at (map.get self.now.objects.counts o))) objects.now }
     {
         objects
             .iter()

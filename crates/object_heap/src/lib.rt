@@ -4,6 +4,7 @@
 mod cascade;
 mod changes;
 mod counters;
+mod counting;
 mod draft;
 mod exchange;
 mod handles;
@@ -18,6 +19,7 @@ pub mod reach;
 mod summed;
 mod table;
 mod told;
+mod updates;
 mod weight;
 
 pub use heap::Heap;

@@ -8,9 +8,11 @@ ghost use Rattle.object_heap.specs.TableView.{counters_at, are_zero, kept_at, mi
 ghost use Rattle.object_heap.specs.Gains.{IsSetAt};
 ghost use Rattle.object_heap.specs.Descent.{DescendTo, IsUnnamed};
 
-use crate::object::{Counters, Object, SetField};
+use crate::counters::Counters;
+use crate::object::Object;
 use crate::ranks::{MAX_RANK, lower_from, rank_of, rank_over, slot_lower_from};
 use crate::table::Table;
+use crate::updates::SetField;
 use share_tree::ShareTree;
 use std::alloc::{AllocError, Global};
 use std::marker::Model;
@@ -90,14 +92,20 @@ impl Objects {
 
     /// What is kept for an object, if anything is.
     pub fn kept(&self, object: u32) -> Option<&Object>
-        ensures { kept_at (option_copied result) ≡ (map.get self.now.entries object, counters_at (map.get self.now.counts object)) }
+        ensures { kept_at (option_copied result) ≡ (
+          map.get self.now.entries object,
+          counters_at (map.get self.now.counts object),
+        ) }
     {
         self.table.kept(object)
     }
 
     /// What is kept for an object. It shares what stands, which is there while others change, and takes no memory.
     pub fn at(&self, object: u32) -> Result<Object, AllocError>
-        ensures { IfOk result (λ x. x ≡ (map.get self.now.entries object, counters_at (map.get self.now.counts object))) }
+        ensures { IfOk result (λ x. x ≡ (
+          map.get self.now.entries object,
+          counters_at (map.get self.now.counts object),
+        )) }
     {
         self.table.at(object)
     }
@@ -131,7 +139,9 @@ impl Objects {
 
     /// Something else stands for an object, or it comes to be. Its counters stay.
     pub fn insert(&mut self, alloc: Global, object: u32, entry: Entry) -> Result<(), AllocError>
-        ensures ok { OnOk result (self.new ≡ record self.old { entries = map.insert self.old.entries object entry }) }
+        ensures ok { OnOk result (self.new ≡ record self.old {
+          entries = map.insert self.old.entries object entry;
+        }) }
         ensures err { OnErr result (self.new ≡ self.old) }
     {
         let rank = rank_of(&self.ranks, object);
@@ -147,7 +157,10 @@ impl Objects {
         field: SetField,
     ) -> Result<(), AllocError>
         requires { HasField (map.get self.old.entries object) field.index }
-        ensures ok { OnOk result (self.new ≡ record self.old { entries = map.insert self.old.entries object (with_field (map.get self.old.entries object) field.index field.slot) }) }
+        ensures ok { OnOk result (self.new ≡ record self.old {
+          entries = map.insert self.old.entries object
+              (with_field (map.get self.old.entries object) field.index field.slot);
+        }) }
         ensures err { OnErr result (self.new ≡ self.old) }
     {
         let rank = rank_of(&self.ranks, object);
@@ -157,7 +170,9 @@ impl Objects {
 
     /// Nothing stands for an object any more. Its counters stay, and its rank is left: no other object gets its number.
     pub fn remove(&mut self, alloc: Global, object: u32) -> Result<(), AllocError>
-        ensures ok { OnOk result (self.new ≡ record self.old { entries = map.remove self.old.entries object }) }
+        ensures ok { OnOk result (self.new ≡ record self.old {
+          entries = map.remove self.old.entries object;
+        }) }
         ensures err { OnErr result (self.new ≡ self.old) }
     {
         self.table.remove(alloc, object)
@@ -218,7 +233,8 @@ impl Objects {
     ) -> Result<(), AllocError>
         requires any { are_zero more ≡ false }
         requires room { HasRoomFor (counters_at (map.get self.old.counts object)) more }
-        ensures set { OnOk result (IsSetAt self.old.counts self.new.counts object (plus (counters_at (map.get self.old.counts object)) more)) }
+        ensures set { OnOk result (IsSetAt self.old.counts self.new.counts object
+            (plus (counters_at (map.get self.old.counts object)) more)) }
         ensures entries { self.new.entries ≡ self.old.entries }
     {
         self.table.count_more(alloc, object, more)
@@ -232,7 +248,8 @@ impl Objects {
         less: Counters,
     ) -> Result<(), AllocError>
         requires { AreAmong less (counters_at (map.get self.old.counts object)) }
-        ensures set { OnOk result (IsSetAt self.old.counts self.new.counts object (minus (counters_at (map.get self.old.counts object)) less)) }
+        ensures set { OnOk result (IsSetAt self.old.counts self.new.counts object
+            (minus (counters_at (map.get self.old.counts object)) less)) }
         ensures entries { self.new.entries ≡ self.old.entries }
     {
         self.table.count_less(alloc, object, less)

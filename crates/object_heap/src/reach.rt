@@ -45,7 +45,8 @@ fn push_handles(
     heap: &Heap,
     by: Link,
 ) -> Result<(), AllocError>
-    ensures { OnOk result (names.new.items ≡ names.old.items ++ handle_names by heap.now (map.keys heap.now.handles)) }
+    ensures { OnOk result (names.new.items ≡ names.old.items
+        ++ handle_names by heap.now (map.keys heap.now.handles)) }
 {
     let handles = heap.handles(alloc)?;
     for handle in &handles {
@@ -55,7 +56,8 @@ fn push_handles(
 }
 
 fn push_cells(alloc: Global, names: &mut Vec<u32>, heap: &Heap, by: Link) -> Result<(), AllocError>
-    ensures { OnOk result (names.new.items ≡ names.old.items ++ all_cell_names by heap.now (map.keys heap.now.cells)) }
+    ensures { OnOk result (names.new.items ≡ names.old.items
+        ++ all_cell_names by heap.now (map.keys heap.now.cells)) }
 {
     let cells = heap.cells(alloc)?;
     for cell in &cells {
@@ -65,7 +67,8 @@ fn push_cells(alloc: Global, names: &mut Vec<u32>, heap: &Heap, by: Link) -> Res
 }
 
 fn push_holding(names: &mut Vec<u32>, holding: Option<&Holding>, by: Link) -> Result<(), AllocError>
-    ensures { OnOk result (names.new.items ≡ names.old.items ++ holding_names by (option_copied holding.entry)) }
+    ensures { OnOk result (names.new.items ≡ names.old.items
+        ++ holding_names by (option_copied holding.entry)) }
 {
     match holding {
         None => Ok(()),
@@ -84,7 +87,8 @@ fn push_cell(names: &mut Vec<u32>, cell: Option<Slot>, by: Link) -> Result<(), A
 }
 
 fn push_entry(names: &mut Vec<u32>, entry: Option<&Entry>, by: Link) -> Result<(), AllocError>
-    ensures { OnOk result (names.new.items ≡ names.old.items ++ entry_names by (option_copied entry.entry)) }
+    ensures { OnOk result (names.new.items ≡ names.old.items
+        ++ entry_names by (option_copied entry.entry)) }
 {
     match entry {
         Some(Entry::Alive(fields)) => push_slots(names, fields.as_slice(), by),

@@ -7,9 +7,9 @@ ghost use Rattle.ownership_model.specs.Changes.{HasField, with_field};
 ghost use Rattle.object_heap.specs.TableView.{counters_at, are_zero, kept_at, kept_of, minus, plus, AreAmong, HasRoomFor, AreAlike, AllStand};
 ghost use Rattle.object_heap.specs.Gains.{IsSetAt};
 
-use crate::object::{
-    Counters, Less, More, NOTHING, Object, SetField, TurnHusk, counters_of, entry_of, share_of,
-};
+use crate::counters::{Counters, NOTHING};
+use crate::object::{Object, counters_of, entry_of, share_of};
+use crate::updates::{Less, More, SetField, TurnHusk};
 use crate::weight::{added, field_change};
 use share_tree::ShareTree;
 use std::alloc::{AllocError, Global};
@@ -73,14 +73,20 @@ impl Table {
 
     /// What is kept for an object, if anything is.
     pub fn kept(&self, object: u32) -> Option<&Object>
-        ensures { kept_at (option_copied result) ≡ (map.get self.now.entries object, counters_at (map.get self.now.counts object)) }
+        ensures { kept_at (option_copied result) ≡ (
+          map.get self.now.entries object,
+          counters_at (map.get self.now.counts object),
+        ) }
     {
         self.kept.get(object)
     }
 
     /// What is kept for an object. It shares what stands, which is there while others change, and takes no memory.
     pub fn at(&self, object: u32) -> Result<Object, AllocError>
-        ensures { IfOk result (λ x. x ≡ (map.get self.now.entries object, counters_at (map.get self.now.counts object))) }
+        ensures { IfOk result (λ x. x ≡ (
+          map.get self.now.entries object,
+          counters_at (map.get self.now.counts object),
+        )) }
     {
         share_of(self.kept(object))
     }
@@ -114,7 +120,9 @@ impl Table {
 
     /// Something else stands for an object, or it comes to be. Its counters stay.
     pub fn insert(&mut self, alloc: Global, object: u32, entry: Entry) -> Result<(), AllocError>
-        ensures ok { OnOk result (self.new ≡ record self.old { entries = map.insert self.old.entries object entry }) }
+        ensures ok { OnOk result (self.new ≡ record self.old {
+          entries = map.insert self.old.entries object entry;
+        }) }
         ensures err { OnErr result (self.new ≡ self.old) }
     {
         let (rest, counters) = self.rest(object);
@@ -127,7 +135,9 @@ impl Table {
 
     /// Nothing stands for an object any more. Its counters stay.
     pub fn remove(&mut self, alloc: Global, object: u32) -> Result<(), AllocError>
-        ensures ok { OnOk result (self.new ≡ record self.old { entries = map.remove self.old.entries object }) }
+        ensures ok { OnOk result (self.new ≡ record self.old {
+          entries = map.remove self.old.entries object;
+        }) }
         ensures err { OnErr result (self.new ≡ self.old) }
     {
         let (rest, counters) = self.rest(object);
@@ -183,7 +193,10 @@ impl Table {
         field: SetField,
     ) -> Result<(), AllocError>
         requires { HasField (map.get self.old.entries object) field.index }
-        ensures ok { OnOk result (self.new ≡ record self.old { entries = map.insert self.old.entries object (with_field (map.get self.old.entries object) field.index field.slot) }) }
+        ensures ok { OnOk result (self.new ≡ record self.old {
+          entries = map.insert self.old.entries object
+              (with_field (map.get self.old.entries object) field.index field.slot);
+        }) }
         ensures err { OnErr result (self.new ≡ self.old) }
     {
         let sum = self
@@ -219,7 +232,8 @@ impl Table {
     ) -> Result<(), AllocError>
         requires any { are_zero more ≡ false }
         requires room { HasRoomFor (counters_at (map.get self.old.counts object)) more }
-        ensures set { OnOk result (IsSetAt self.old.counts self.new.counts object (plus (counters_at (map.get self.old.counts object)) more)) }
+        ensures set { OnOk result (IsSetAt self.old.counts self.new.counts object
+            (plus (counters_at (map.get self.old.counts object)) more)) }
         ensures entries { self.new.entries ≡ self.old.entries }
     {
         if self.kept.update(alloc, object, &More(more))? {
@@ -236,7 +250,8 @@ impl Table {
         less: Counters,
     ) -> Result<(), AllocError>
         requires { AreAmong less (counters_at (map.get self.old.counts object)) }
-        ensures set { OnOk result (IsSetAt self.old.counts self.new.counts object (minus (counters_at (map.get self.old.counts object)) less)) }
+        ensures set { OnOk result (IsSetAt self.old.counts self.new.counts object
+            (minus (counters_at (map.get self.old.counts object)) less)) }
         ensures entries { self.new.entries ≡ self.old.entries }
     {
         if self.kept.update(alloc, object, &Less(less))? {
@@ -288,7 +303,8 @@ fn store(
     object: u32,
     kept: Object,
 ) -> Result<(), AllocError>
-    ensures ok { OnOk result ((q : ℕ) → map.get tree.new q ≡ (if object == q then kept_of kept.0 kept.1 else map.get tree.old q)) }
+    ensures ok { OnOk result ((q : ℕ) → map.get tree.new q
+        ≡ (if object == q then kept_of kept.0 kept.1 else map.get tree.old q)) }
     ensures err { OnErr result (tree.new ≡ tree.old) }
 {
     if kept.is_needed() {

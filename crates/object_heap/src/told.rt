@@ -23,7 +23,8 @@ pub fn tell_item(item: Item, keys: &mut Vec<Key>) -> Result<(), AllocError>
 
 /// Tells the object of an item that is dropped at once: the first one, where it is a strong slot.
 pub fn tell_at_once(items: &[Item], keys: &mut Vec<Key>) -> Result<(), AllocError>
-    ensures { OnOk result (keys.new.items ≡ keys.old.items ++ flat_map item_keys (at_once items.now)) }
+    ensures { OnOk result (keys.new.items ≡ keys.old.items
+        ++ flat_map item_keys (at_once items.now)) }
 {
     if let Some((Item::Slot(Slot::Strong(object)), _)) = items.split_first() {
         keys.push(Key::Object(*object))?;
@@ -34,7 +35,8 @@ pub fn tell_at_once(items: &[Item], keys: &mut Vec<Key>) -> Result<(), AllocErro
 impl Draft {
     /// Tells what a change sets and moves, before it is made.
     pub fn tell_change(&self, change: &Change, keys: &mut Vec<Key>) -> Result<(), AllocError>
-        ensures { OnOk result (keys.new.items ≡ keys.old.items ++ change_key change.now ∷ moved_by (drafted self.now) change.now) }
+        ensures { OnOk result (keys.new.items ≡ keys.old.items ++ change_key change.now
+            ∷ moved_by (drafted self.now) change.now) }
     {
         match change {
             Change::SetHandle(_, handle, holding) => {
@@ -104,7 +106,8 @@ fn tell_holding(holding: &Holding, keys: &mut Vec<Key>) -> Result<(), AllocError
 
 // As `tell_holding`, of a handle that may be held.
 fn tell_held(held: Option<&Holding>, keys: &mut Vec<Key>) -> Result<(), AllocError>
-    ensures { OnOk result (keys.new.items ≡ keys.old.items ++ holding_keys (option_copied held.entry)) }
+    ensures { OnOk result (keys.new.items ≡ keys.old.items
+        ++ holding_keys (option_copied held.entry)) }
 {
     match held {
         Some(holding) => tell_holding(holding, keys),
@@ -114,7 +117,8 @@ fn tell_held(held: Option<&Holding>, keys: &mut Vec<Key>) -> Result<(), AllocErr
 
 // Tells the object that what a cell holds names, if the cell is there.
 fn tell_cell(held: Option<&Slot>, keys: &mut Vec<Key>) -> Result<(), AllocError>
-    ensures { OnOk result (keys.new.items ≡ keys.old.items ++ cell_keys (option_copied held.entry)) }
+    ensures { OnOk result (keys.new.items ≡ keys.old.items
+        ++ cell_keys (option_copied held.entry)) }
 {
     match held {
         Some(slot) => tell_slot(*slot, keys),
@@ -124,7 +128,8 @@ fn tell_cell(held: Option<&Slot>, keys: &mut Vec<Key>) -> Result<(), AllocError>
 
 // Tells the object that a field names, where the object's value lives and has it.
 fn tell_field(entry: Option<&Entry>, index: u32, keys: &mut Vec<Key>) -> Result<(), AllocError>
-    ensures { OnOk result (keys.new.items ≡ keys.old.items ++ cell_keys (slice_get (fields_of (option_copied entry.entry)) index)) }
+    ensures { OnOk result (keys.new.items ≡ keys.old.items
+        ++ cell_keys (slice_get (fields_of (option_copied entry.entry)) index)) }
 {
     match entry {
         Some(Entry::Alive(fields)) => tell_cell(fields.as_slice().get(index as usize), keys),
@@ -134,7 +139,8 @@ fn tell_field(entry: Option<&Entry>, index: u32, keys: &mut Vec<Key>) -> Result<
 
 // Tells the objects that the fields of an object name, where its value lives.
 fn tell_fields(entry: Option<&Entry>, keys: &mut Vec<Key>) -> Result<(), AllocError>
-    ensures { OnOk result (keys.new.items ≡ keys.old.items ++ slots_keys (fields_of (option_copied entry.entry))) }
+    ensures { OnOk result (keys.new.items ≡ keys.old.items
+        ++ slots_keys (fields_of (option_copied entry.entry))) }
 {
     match entry {
         Some(Entry::Alive(fields)) => tell_slots(fields.as_slice(), keys),

@@ -98,8 +98,11 @@ pub fn step_told(
     requires { get heap.old.objects op.now.id ≡ None }
     ensures state { OnOk result (heap.new ≡ (step heap.old op.now).state) }
     ensures outcome { IfOk result (λ r. r ≡ (step heap.old op.now).outcome) }
-    ensures told { OnOk result (Covers keys.new.items (keys.old.items ++ step_keys heap.old op.now)) }
+    ensures told { OnOk result (Covers keys.new.items
+        (keys.old.items ++ step_keys heap.old op.now)) }
     ensures err { OnErr result (heap.new ≡ nothing_held) }
+
+    // The meter counts what was carried out.
     ensures counted { OnOk result (meter.new ≡ raised meter.old 1) }
     ensures uncounted { OnErr result (meter.new ≡ meter.old) }
 {
@@ -118,8 +121,11 @@ pub fn step_told_in(
     requires { get heap.old.objects op.now.id ≡ None }
     ensures state { OnOk result (heap.new ≡ (step heap.old op.now).state) }
     ensures outcome { IfOk result (λ r. r ≡ (step heap.old op.now).outcome) }
-    ensures told { OnOk result (Covers keys.new.items (keys.old.items ++ step_keys heap.old op.now)) }
+    ensures told { OnOk result (Covers keys.new.items
+        (keys.old.items ++ step_keys heap.old op.now)) }
     ensures err { OnErr result (heap.new ≡ nothing_held) }
+
+    // The meter counts what was carried out.
     ensures counted { OnOk result (meter.new ≡ raised meter.old 1) }
     ensures uncounted { OnErr result (meter.new ≡ meter.old) }
 {
@@ -145,11 +151,12 @@ fn carried_told(
     requires { get heap.old.objects op.now.id ≡ None }
     ensures state { OnOk result (heap.new ≡ (step heap.old op.now).state) }
     ensures outcome { IfOk result (λ r. r ≡ (step heap.old op.now).outcome) }
-    ensures told { OnOk result (Covers keys.new.items (keys.old.items ++ step_keys heap.old op.now)) }
+    ensures told { OnOk result (Covers keys.new.items
+        (keys.old.items ++ step_keys heap.old op.now)) }
 {
     tell_read(heap, op, keys)?;
     let planned = plan_in(room, heap, op)?;
-    heap.kept();
+    heap.show_sound();
     let outcome = carry_out_told(room, heap, op.id(), planned, keys)?;
     Ok(outcome)
 }
@@ -166,7 +173,8 @@ fn carry_out_told(
     requires fits { PlanFits plan }
     ensures state { OnOk result (heap.new ≡ (carried_out heap.old id plan).state) }
     ensures outcome { IfOk result (λ r. r ≡ (carried_out heap.old id plan).outcome) }
-    ensures told { OnOk result (Covers keys.new.items (keys.old.items ++ carried_keys heap.old plan)) }
+    ensures told { OnOk result (Covers keys.new.items
+        (keys.old.items ++ carried_keys heap.old plan)) }
 {
     match plan {
         Plan::Skip(reason) => Ok(skipped(room.alloc(), id, reason)),
@@ -205,7 +213,7 @@ fn carried(room: &mut Room, heap: &mut Heap, op: &Op) -> Result<Outcome, AllocEr
     ensures outcome { IfOk result (λ r. r ≡ (step heap.old op.now).outcome) }
 {
     let planned = plan_in(room, heap, op)?;
-    heap.kept();
+    heap.show_sound();
     let outcome = carry_out(room, heap, op.id(), planned)?;
     Ok(outcome)
 }
@@ -248,7 +256,12 @@ fn carry_out(room: &mut Room, heap: &mut Heap, id: u32, plan: Plan) -> Result<Ou
 }
 
 fn skipped(alloc: Global, id: u32, reason: Reason) -> Outcome
-    ensures { result ≡ record { id = id; verdict = Verdict.Skipped reason; events = []; counts = None } }
+    ensures { result ≡ record {
+      id = id;
+      verdict = Verdict.Skipped reason;
+      events = [];
+      counts = None;
+    } }
 {
     Outcome {
         id,

@@ -41,7 +41,10 @@ impl Model for ChunkRun {
 
     ghost view = { λ c. record { start = c.start; ops = (arc_value c.replayed).ops.items } };
 
-    ghost invariant = { λ c. IsReplayOf (record { start = c.start; ops = (arc_value c.replayed).ops.items }) (arc_value c.replayed).outcomes c.end };
+    ghost invariant = { λ c. IsReplayOf (record {
+      start = c.start;
+      ops = (arc_value c.replayed).ops.items;
+    }) (arc_value c.replayed).outcomes c.end };
 }
 
 /// Replays operations from a heap. Their numbers are distinct, and no object of the heap has one of them.
@@ -78,7 +81,7 @@ pub fn run_of(
     ensures never_less { meter.old ≤ meter.new }
     ensures never_more { meter.new ≤ meter.old + length ops.items }
 {
-    start.kept();
+    start.show_sound();
     let (outcomes, end) = replay_from(alloc, start.share()?, &ops, meter)?;
     let replayed = Replayed { ops, outcomes };
     Ok(ChunkRun {
@@ -127,7 +130,8 @@ impl ChunkRun {
     /// The operations and their outcomes, which a share has without a copy.
     pub fn replayed(&self) -> &Arc<Replayed>
         ensures ops { (arc_value result.now).ops.items ≡ self.now.ops }
-        ensures outcomes { (arc_value result.now).outcomes ≡ outcomes_from self.now.start self.now.ops }
+        ensures outcomes { (arc_value result.now).outcomes
+            ≡ outcomes_from self.now.start self.now.ops }
     {
         &self.replayed
     }

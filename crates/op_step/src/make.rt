@@ -28,7 +28,8 @@ pub fn new(
     to: u32,
     fields: &[Field],
 ) -> Result<Plan, Stop>
-    ensures { Tells result (new_row label id to (elements_of heap.now fields.now) (get heap.now.handles to)) }
+    ensures { Tells result (new_row label id to (elements_of heap.now fields.now)
+        (get heap.now.handles to)) }
 {
     all_held(heap, fields)?;
     all_slots(heap, fields)?;
@@ -117,7 +118,8 @@ fn making(
     fields: &[Field],
     to: u32,
 ) -> Result<Vec<Change>, AllocError>
-    ensures { IfOk result (λ v. let es = elements_of heap.now fields.now in v.items ≡ ending es (Table.make label id (Table.made_fields id es) to)) }
+    ensures { IfOk result (λ v. let es = elements_of heap.now fields.now in v.items
+        ≡ ending es (Table.make label id (Table.made_fields id es) to)) }
 {
     let made = made_fields(room.alloc(), heap, id, fields)?;
     let mut changes = room.changes();

@@ -71,7 +71,10 @@ pub fn replay_told(
     requires { AreNew start ops.now }
     ensures outcomes { IfOk result (λ r. r.0 ≡ outcomes_from start ops.now) }
     ensures end { IfOk result (λ r. r.1 ≡ end_from start ops.now) }
-    ensures told { OnOk result (Covers keys.new.items (keys.old.items ++ replay_keys start ops.now)) }
+    ensures told { OnOk result (Covers keys.new.items
+        (keys.old.items ++ replay_keys start ops.now)) }
+
+    // The meter counts what was carried out.
     ensures counted { OnOk result (meter.new ≡ raised meter.old (length ops.now)) }
     ensures never_less { meter.old ≤ meter.new }
     ensures never_more { meter.new ≤ meter.old + length ops.now }

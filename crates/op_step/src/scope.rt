@@ -34,7 +34,8 @@ fn push_held(
     pending: &mut Vec<Item>,
     held: Option<&Holding>,
 ) -> Result<(), AllocError>
-    ensures { OnOk result (pending.new.items ≡ pending.old.items ++ holding_drops (option_copied held.entry) []) }
+    ensures { OnOk result (pending.new.items ≡ pending.old.items
+        ++ holding_drops (option_copied held.entry) []) }
 {
     match held {
         Some(Holding::Slot(slot)) => Ok(pending.push(Item::Slot(*slot))?),

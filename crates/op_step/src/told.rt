@@ -25,7 +25,8 @@ pub fn tell_read(heap: &Heap, op: &Op, keys: &mut Vec<Key>) -> Result<(), AllocE
 
 /// Tells the object whose counts are told.
 pub fn tell_object(object: Option<u32>, keys: &mut Vec<Key>) -> Result<(), AllocError>
-    ensures { OnOk result (keys.new.items ≡ keys.old.items ++ map key.Object (option_to_list object)) }
+    ensures { OnOk result (keys.new.items ≡ keys.old.items
+        ++ map key.Object (option_to_list object)) }
 {
     match object {
         Some(object) => Ok(keys.push(Key::Object(object))?),
@@ -95,7 +96,8 @@ fn tell_names(kind: &Kind, keys: &mut Vec<Key>) -> Result<(), AllocError>
 }
 
 fn tell_pair(first: u32, second: u32, keys: &mut Vec<Key>) -> Result<(), AllocError>
-    ensures { OnOk result (keys.new.items ≡ keys.old.items ++ key.Handle first ∷ key.Handle second ∷ []) }
+    ensures { OnOk result (keys.new.items ≡ keys.old.items
+        ++ key.Handle first ∷ key.Handle second ∷ []) }
 {
     keys.push(Key::Handle(first))?;
     Ok(keys.push(Key::Handle(second))?)
@@ -103,7 +105,8 @@ fn tell_pair(first: u32, second: u32, keys: &mut Vec<Key>) -> Result<(), AllocEr
 
 // Tells the handle of a new object, and the handles among its fields.
 fn tell_new(to: u32, fields: &[Field], keys: &mut Vec<Key>) -> Result<(), AllocError>
-    ensures { OnOk result (keys.new.items ≡ keys.old.items ++ (key.Handle to ∷ (map key.Handle (held_fields fields.now) ++ []))) }
+    ensures { OnOk result (keys.new.items ≡ keys.old.items
+        ++ (key.Handle to ∷ (map key.Handle (held_fields fields.now) ++ []))) }
 {
     keys.push(Key::Handle(to))?;
     tell_fields(fields, keys)
@@ -111,7 +114,8 @@ fn tell_new(to: u32, fields: &[Field], keys: &mut Vec<Key>) -> Result<(), AllocE
 
 // Tells the handles among the fields of a new object.
 fn tell_fields(fields: &[Field], keys: &mut Vec<Key>) -> Result<(), AllocError>
-    ensures { OnOk result (keys.new.items ≡ keys.old.items ++ map key.Handle (held_fields fields.now)) }
+    ensures { OnOk result (keys.new.items ≡ keys.old.items
+        ++ map key.Handle (held_fields fields.now)) }
 {
     for field in fields {
         tell_field(*field, keys)?;
@@ -121,7 +125,8 @@ fn tell_fields(fields: &[Field], keys: &mut Vec<Key>) -> Result<(), AllocError>
 
 // Tells the handle of a field of a new object, if it is one.
 fn tell_field(field: Field, keys: &mut Vec<Key>) -> Result<(), AllocError>
-    ensures { OnOk result (keys.new.items ≡ keys.old.items ++ map key.Handle (held_fields (field ∷ []))) }
+    ensures { OnOk result (keys.new.items ≡ keys.old.items
+        ++ map key.Handle (held_fields (field ∷ []))) }
 {
     match field {
         Field::Held(h) => Ok(keys.push(Key::Handle(h))?),
@@ -131,7 +136,9 @@ fn tell_field(field: Field, keys: &mut Vec<Key>) -> Result<(), AllocError>
 
 // Tells the object that the first handle names, if it names one.
 fn tell_first(heap: &Heap, kind: &Kind, keys: &mut Vec<Key>) -> Result<(), AllocError>
-    ensures { OnOk result (keys.new.items ≡ keys.old.items ++ map key.Object (option_to_list (named_in (held_by heap.now (members [] kind.now).first)))) }
+    ensures { OnOk result (keys.new.items ≡ keys.old.items
+        ++ map key.Object (option_to_list
+        (named_in (held_by heap.now (members [] kind.now).first)))) }
 {
     match first_handle(kind) {
         Some(h) => tell_object(named_object(heap.holding(h)), keys),

@@ -77,7 +77,9 @@ fn moved(
     object: u32,
     fields: &[Slot],
 ) -> Result<Plan, AllocError>
-    ensures { IfOk result (λ p. p ≡ Act Answer.Moved (TurnHusk object ∷ Table.make label id fields.now h) (Some (Event.Moved object)) [] (Some id)) }
+    ensures { IfOk result (λ p. p ≡ Act Answer.Moved
+        (TurnHusk object ∷ Table.make label id fields.now h) (Some (Event.Moved object)) []
+        (Some id)) }
 {
     let mut changes = room.change(Change::TurnHusk(object))?;
     let fields = copy_fields(room.alloc(), fields)?;
@@ -95,7 +97,8 @@ fn cloned(
     object: u32,
     fields: &[Slot],
 ) -> Result<Plan, AllocError>
-    ensures { IfOk result (λ p. p ≡ Table.act Answer.Cloned (Table.make label id fields.now h) (item.Slot (Strong object) ∷ []) (Some id)) }
+    ensures { IfOk result (λ p. p ≡ Table.act Answer.Cloned (Table.make label id fields.now h)
+        (item.Slot (Strong object) ∷ []) (Some id)) }
 {
     let mut changes = room.changes();
     let fields = copy_fields(room.alloc(), fields)?;

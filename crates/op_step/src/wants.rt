@@ -73,7 +73,8 @@ pub fn fields_of(heap: &Heap, object: u32) -> &[Slot]
 
 /// The fields of the value that the handle's `Arc` keeps, with its object, or of the value that the handle holds itself.
 pub fn fields_in<'a>(heap: &'a Heap, h: u32, held: &'a Holding) -> Result<Fields<'a>, Stop>
-    ensures { AsksBoth (found_fields result) (Table.fields_in h held.now (seen heap.now (named_in (Some held.now))).entry) }
+    ensures { AsksBoth (found_fields result) (Table.fields_in h held.now
+        (seen heap.now (named_in (Some held.now))).entry) }
 {
     match held {
         Holding::Slot(Slot::Strong(object)) => Ok(Fields {
@@ -92,7 +93,8 @@ pub fn fields_in<'a>(heap: &'a Heap, h: u32, held: &'a Holding) -> Result<Fields
 
 /// All handles among the fields of a new object are held.
 pub fn all_held(heap: &Heap, fields: &[Field]) -> Result<(), Stop>
-    ensures { Allows result (Table.all_held (Table.first_unheld (elements_of heap.now fields.now))) }
+    ensures { Allows result (Table.all_held (Table.first_unheld
+        (elements_of heap.now fields.now))) }
 {
     for field in fields {
         if let Field::Held(h) = field {

@@ -34,3 +34,4 @@ mod RetainedTold
 mod AccountsTold
 mod TotalsTold
 pub mod ShownSteps
+mod NotedTold

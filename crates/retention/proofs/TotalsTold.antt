@@ -47,7 +47,7 @@ count_bools f t (b ∷ bs) (y ∷ ys) e h =
     let rest : count_by f bs ≡ count_by t ys = count_bools f t bs ys n (λ j l. h (suc j) (omega (arith, l))) in
     sum_by-cons (λ z. cond (f z) 1 0) b bs ∙ ap (λ k. cond (f b) 1 0 + k) rest ∙ ap (λ x. cond x 1 0 + count_by t ys) (h 0 (omega arith)) ∙ sym (sum_by-cons (λ z. cond (t z) 1 0) y ys)
 
-same_bool : (a b : Bool) → (a ≡ true → b ≡ true) → (b ≡ true → a ≡ true) → a ≡ b
+pub same_bool : (a b : Bool) → (a ≡ true → b ≡ true) → (b ≡ true → a ≡ true) → a ≡ b
 same_bool true b f g = sym (f refl)
 same_bool false true f g = g refl
 same_bool false false f g = refl
@@ -100,7 +100,7 @@ module _ (ops : List Operation) (e : Ending) (of : IsEndOf ops e) (ending : IsEn
         ∙ sym (length-filter (model.leaks (end_from nothing_held ops)) e.graph.objects.items) ∙ ap (λ ks. length (filter (model.leaks (end_from nothing_held ops)) ks)) of.1.objects,
   )
 
-  there : (i : ℕ) → i < size e.graph → is_some (get (end_from nothing_held ops).objects (object_at e.graph i)) ≡ true
+  pub there : (i : ℕ) → i < size e.graph → is_some (get (end_from nothing_held ops).objects (object_at e.graph i)) ≡ true
   there i within =
       contains_key-keys (end_from nothing_held ops).objects (object_at e.graph i) ∙ has_as_any (object_at e.graph i) (keys (end_from nothing_held ops).objects)
       ∙ subst (λ ks. has (object_at e.graph i) ks ≡ true) of.1.objects (index_has e.graph.objects.items i within)
@@ -115,10 +115,10 @@ module _ (ops : List Operation) (e : Ending) (of : IsEndOf ops e) (ending : IsEn
   )
 
   -- which objects stand for cycles
-  abbrev stands : ℕ → Bool
+  abbrev pub stands : ℕ → Bool
   stands i = slice_index_or e.cycles.marks.items i false && (slice_index e.cycles.parts.items i == i)
 
-  least_is : (i : ℕ) → i < size e.graph → stands i ≡ true → IsLeastInCycle (end_from nothing_held ops) (object_at e.graph i)
+  pub least_is : (i : ℕ) → i < size e.graph → stands i ≡ true → IsLeastInCycle (end_from nothing_held ops) (object_at e.graph i)
   least_is i within h =
       let each = and_both (slice_index_or e.cycles.marks.items i false) (slice_index e.cycles.parts.items i == i) h in
       let own : slice_index e.cycles.parts.items i ≡ i = number (slice_index e.cycles.parts.items i) i each.1 in
@@ -140,7 +140,7 @@ module _ (ops : List Operation) (e : Ending) (of : IsEndOf ops e) (ending : IsEn
           let low : slice_index e.cycles.parts.items j.0 ≤ j.0 = (ending.cycles.parts.least j.0 j.1).0 in
           subst (λ x. object_at e.graph i ≤ x) j.2 (rises i j.0 (omega (arith, own, same, low)) j.1)
 
-  is_least : (o : ℕ) → IsLeastInCycle (end_from nothing_held ops) o → (i : ℕ) × (i < size e.graph) × (object_at e.graph i ≡ o) × (stands i ≡ true)
+  pub is_least : (o : ℕ) → IsLeastInCycle (end_from nothing_held ops) o → (i : ℕ) × (i < size e.graph) × (object_at e.graph i ≡ o) × (stands i ≡ true)
   is_least o it =
       let i = object_index (end_from nothing_held ops) (λ q. since_from nothing_held ops q 0) e.graph of.1 o (alive_key (end_from nothing_held ops) o it.0.0.alive) in
       let cyclic : IsCyclic e.graph e.leaked.items i.0 = (cyclic_told ops e of ending i.0 i.1).1 (subst (λ k. IsInCycle (end_from nothing_held ops) k) (sym i.2) it.0) in (

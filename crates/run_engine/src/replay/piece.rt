@@ -168,7 +168,7 @@ pub fn replayed_on(
     ensures rise { meter.new ≤ meter.old + length ops.items }
 {
     let len = front.len + ops.len();
-    front.end.kept();
+    front.end.show_sound();
     let (outcomes, end) = replay_from(alloc, front.end, &ops, meter)?;
     let bare = Segment::bare(alloc, ops, outcomes)?;
     let segments = front.segments.push(alloc, bare)?;

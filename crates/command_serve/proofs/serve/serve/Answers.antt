@@ -7,7 +7,7 @@ use Rattle.command_serve.proofs.serve.serve.Goals as goal
 
 pub returns-in-Ok : goal.returns-in-Ok
 returns-in-Ok g c =
-    let is = g.C.Answers.IsDue in
+    let is = g.C.Answers.IsDue c.args.command.now in
     let input = c.in-Ok.input.items in
     let read = c.in-Ok.ensures in
     let same = c.as_slice.ensures.value in

@@ -11,12 +11,12 @@ use Rattle.op_step.proofs.carry.carried_told.Goals as goal
 pub carry_out_told-requires-clause-carriable : goal.carry_out_told-requires-clause-carriable
 carry_out_told-requires-clause-carriable c =
     subst (λ (p : Plan). IsCarriable c.args.heap.now p) (sym c.in_ok-planned.ensures)
-    (soundness.rows c.args.heap.now c.args.op.now c.kept.ensures.sound c.requires)
+    (soundness.rows c.args.heap.now c.args.op.now c.show_sound.ensures.sound c.requires)
 
 pub carry_out_told-requires-clause-fits : goal.carry_out_told-requires-clause-fits
 carry_out_told-requires-clause-fits c =
     subst (λ (p : Plan). PlanFits p) (sym c.in_ok-planned.ensures)
-    (bounds.rows c.args.heap.now c.args.op.now c.kept.ensures.bounded c.id.ensures.within)
+    (bounds.rows c.args.heap.now c.args.op.now c.show_sound.ensures.bounded c.id.ensures.within)
 
 pub returns-clause-state : goal.returns-clause-state
 returns-clause-state c =

@@ -6,4 +6,4 @@ use Rattle.op_step.proofs.chunk_run.run_of.Goals as goal
 pub replay_from-requires : goal.replay_from-requires
 replay_from-requires c =
     rw (c.in_ok-share.ensures, c.deref.ensures.value)
-    (soundness.replays c.args.start.now c.args.ops.items c.kept.ensures.sound c.requires.distinct c.requires.unused).0
+    (soundness.replays c.args.start.now c.args.ops.items c.show_sound.ensures.sound c.requires.distinct c.requires.unused).0

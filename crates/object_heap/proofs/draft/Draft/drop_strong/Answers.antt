@@ -4,7 +4,7 @@ use Rattle.std.specs.FinMap.{get}
 use Rattle.trace_types.specs.declared.slots.Entry.{Entry}
 use Rattle.std.specs.Prelude.{Option, true}
 use Rattle.ownership_model.specs.State.{is_alive}
-use Rattle.object_heap.specs.declared.object.Counters.{Counters}
+use Rattle.object_heap.specs.declared.counters.Counters.{Counters}
 use Rattle.object_heap.specs.declared.draft.Draft.{Draft}
 use Rattle.object_heap.specs.Counted.{drafted}
 use Rattle.object_heap.specs.TableView.{Kept, counters_at}

@@ -1,6 +1,6 @@
 use Rattle.std.proofs.Common.{ap, sym, subst, ◌∙◌}
 use Rattle.std.specs.FinMap.{get}
-use Rattle.object_heap.specs.declared.object.Counters.{Counters}
+use Rattle.object_heap.specs.declared.counters.Counters.{Counters}
 use Rattle.object_heap.specs.TableView.{TableView, counters_at, minus, table_of, AreAmong, IsLean}
 use Rattle.object_heap.specs.Gains.{IsSetAt}
 use Rattle.object_heap.proofs.GainLemmas.{on_ok}

@@ -1,0 +1,5 @@
+mod LineLemmas
+mod MadeLemmas
+mod RisingLemmas
+mod SearchLemmas
+mod ToldLemmas
