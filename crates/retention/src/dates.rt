@@ -350,7 +350,7 @@ fn fields_alive(heap: &Heap, object: u32) -> &[Slot]
     ensures fields { (i : ℕ) → slice_get result.now i ≡ field_at (map.get heap.now.objects object) i }
     ensures few { length result.now ≤ MAX_FIELDS }
 {
-    heap.kept();
+    heap.show_sound();
     match heap.object(object) {
         Some(Entry::Alive(fields)) => fields.as_slice(),
         Some(Entry::Husk) | None => &[],
