@@ -1,5 +1,5 @@
-use Rattle.std.proofs.Common.{◌≡◌, List, [], ◌∷◌, ◌++◌, ℕ, ap, sym, ◌∙◌, append_assoc, string_bytes}
-use Rattle.std.specs.Prelude.{codes, decimal}
+use Rattle.std.proofs.Common.{◌≡◌, ◌∷◌, ◌++◌, ap, sym, ◌∙◌, append_assoc, string_bytes}
+use Rattle.std.specs.Prelude.{codes}
 use Rattle.retention_text.specs.Pieces.{held_text}
 use Rattle.retention_text.specs.Accounts.{through_text, reached_text}
 use Rattle.retention_text.proofs.account.push_reached.Goals as goal

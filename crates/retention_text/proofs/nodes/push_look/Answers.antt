@@ -1,6 +1,5 @@
 use Rattle.std.proofs.Common.{◌≡◌, List, [], ◌++◌, ℕ, ap, ◌∙◌, append_assoc, string_bytes}
 use Rattle.std.specs.Prelude.{codes, if◌then◌else◌}
-use Rattle.retention_text.specs.Pictures.{look_text}
 use Rattle.retention_text.proofs.nodes.push_look.Goals as goal
 
 pieces : (a b d e : List ℕ) → ((a ++ b) ++ d) ++ e ≡ a ++ ((b ++ d) ++ e)

@@ -3,13 +3,13 @@ use Rattle.std.specs.Prelude.{codes, decimal}
 use Rattle.trace_types.specs.Names.{name_text, name_of_kind}
 use Rattle.retention_text.proofs.turns.push_head.Goals as goal
 
-pieces : (t p a q b c r d : List ℕ) → ((((((((t ++ p) ++ a) ++ q) ++ b) ++ q) ++ c) ++ r) ++ d) ≡ t ++ (((((((p ++ a) ++ q) ++ b) ++ q) ++ c) ++ r) ++ d)
-pieces t p a q b c r d = simp append_assoc
+pieces : (t k a l b d m e : List ℕ) → ((((t ++ (k ++ a)) ++ l) ++ b) ++ (l ++ d)) ++ (m ++ e) ≡ t ++ (((((((k ++ a) ++ l) ++ b) ++ l) ++ d) ++ m) ++ e)
+pieces t k a l b d m e = simp append_assoc
 
-joined : (t s1 s2 s3 s4 s5 p a q b c r d : List ℕ) → s1 ≡ (t ++ p) ++ a → s2 ≡ s1 ++ q → s3 ≡ s2 ++ b → s4 ≡ (s3 ++ q) ++ c → s5 ≡ (s4 ++ r) ++ d
-    → s5 ≡ t ++ (((((((p ++ a) ++ q) ++ b) ++ q) ++ c) ++ r) ++ d)
-joined t s1 s2 s3 s4 s5 p a q b c r d e f g h k =
-    k ∙ ap (λ s. (s ++ r) ++ d) (h ∙ ap (λ s. (s ++ q) ++ c) (g ∙ ap (λ s. s ++ b) (f ∙ ap (λ s. s ++ q) e))) ∙ pieces t p a q b c r d
+joined : (t s1 s2 s3 s4 s5 k a l b d m e : List ℕ) → s1 ≡ t ++ (k ++ a) → s2 ≡ s1 ++ l → s3 ≡ s2 ++ b → s4 ≡ s3 ++ (l ++ d) → s5 ≡ s4 ++ (m ++ e)
+    → s5 ≡ t ++ (((((((k ++ a) ++ l) ++ b) ++ l) ++ d) ++ m) ++ e)
+joined t s1 s2 s3 s4 s5 k a l b d m e p q r u v =
+    v ∙ ap (λ x. x ++ (m ++ e)) (u ∙ ap (λ x. x ++ (l ++ d)) (r ∙ ap (λ x. x ++ b) (q ∙ ap (λ x. x ++ l) p))) ∙ pieces t k a l b d m e
 
 pub returns : goal.returns
 returns c =
