@@ -1,6 +1,6 @@
 -- What is drawn of the places and objects of a graph, one after another.
-use Rattle.std.proofs.Common.{◌≡◌, ℕ, zero, suc, ◌+◌, ◌<◌, ◌≤◌, ◌⊎◌, inl, inr, List, [], ◌∷◌, ◌++◌, length, get_or, take, map, refl, sym, ap, ◌∙◌, subst, arith, append_assoc, Bool, true, false, cond}
-use Rattle.std.specs.Prelude.{Option, Some, None, flat_map, filter, ◌==◌, ◌&&◌, ◌||◌, is_some, not, slice_index, slice_index_or, IfSome, MatchOption, if◌then◌else◌}
+use Rattle.std.proofs.Common.{◌≡◌, ℕ, suc, ◌+◌, ◌<◌, ◌⊎◌, inl, inr, List, [], ◌∷◌, ◌++◌, length, get_or, take, refl, sym, ap, ◌∙◌, subst, arith, append_assoc, Bool, true, false, cond}
+use Rattle.std.specs.Prelude.{Option, Some, None, flat_map, filter, ◌==◌, ◌||◌, not, slice_index, slice_index_or, IfSome, MatchOption, if◌then◌else◌}
 use Rattle.std.proofs.lemmas.List.{take_more, append-nil}
 use Rattle.ownership_model.specs.Reach.{has}
 use Rattle.retention_model.specs.declared.place.Place.{Place}
@@ -9,7 +9,7 @@ use Rattle.retention_model.specs.declared.place.Held.{Held}
 use Rattle.retention.specs.declared.graph.Graph.{Graph}
 use Rattle.retention.specs.declared.cycles.Cycles.{Cycles}
 use Rattle.retention.specs.Graph.{size, object_at}
-use Rattle.retention.proofs.WalkSteps.{number_same, same_number}
+use Rattle.retention.proofs.WalkSteps.{number_same}
 use Rattle.retention.proofs.GraphLaws.{same_index}
 use Rattle.retention.proofs.PathLemmas.{has_at}
 use Rattle.ownership_model.specs.State.{State, strong, weak}

@@ -3,3 +3,9 @@ mod MadeLemmas
 mod RisingLemmas
 mod SearchLemmas
 mod ToldLemmas
+mod DrawLemmas
+mod GivenLemmas
+mod LeakedTold
+mod ShownTold
+mod PictureTold
+mod PictureLaws

@@ -1,17 +1,16 @@
 -- What is there at the end of a trace was made by an operation whose outcome tells so: a row of the table makes an object only where it
 -- answers that it made, cloned or moved one.
-use Rattle.std.proofs.Common.{◌≡◌, ℕ, zero, suc, List, [], ◌∷◌, refl, sym, ap, ◌∙◌, subst, arith, Bool, true, false}
-use Rattle.std.specs.Prelude.{Option, Some, None, ◌==◌, ◌||◌, is_some, slice_get, ◌&&◌, if◌then◌else◌, IsTrue}
-use Rattle.std.proofs.lemmas.Bool.Decides.{nat_tests}
+use Rattle.std.proofs.Common.{◌≡◌, ℕ, List, [], ◌∷◌, refl, sym, ap, ◌∙◌, subst, Bool, true, false}
+use Rattle.std.specs.Prelude.{Option, Some, None, ◌==◌, is_some, slice_get, ◌&&◌, if◌then◌else◌, IsTrue}
 use Rattle.std.specs.FinMap.{get, get-empty}
 use Rattle.std.specs.Ordering.{nat_cmp}
 use Rattle.std.specs.BTreeSet.{insert_key}
 use Rattle.trace_types.specs.declared.slots.Slot.{Slot}
-use Rattle.trace_types.specs.declared.slots.Slot.TheVariants.{Nothing, Strong, Weak, Dangling}
+use Rattle.trace_types.specs.declared.slots.Slot.TheVariants.{Nothing}
 use Rattle.trace_types.specs.declared.slots.Holding.{Holding}
 use Rattle.trace_types.specs.declared.slots.Holding.TheVariants as holding
 use Rattle.trace_types.specs.declared.slots.Entry.{Entry}
-use Rattle.trace_types.specs.declared.slots.Entry.TheVariants.{Alive, Husk}
+use Rattle.trace_types.specs.declared.slots.Entry.TheVariants.{Husk}
 use Rattle.trace_types.specs.declared.slots.Change.{Change}
 use Rattle.trace_types.specs.declared.slots.Change.TheVariants.{SetHandle, EndHandle, SetCell, EndCell, SetField, Make, TurnHusk}
 use Rattle.trace_types.specs.declared.kinds.Kind.{Kind}
@@ -26,13 +25,13 @@ use Rattle.ownership_model.specs.declared.plan.Plan.TheVariants.{Skip, Act}
 use Rattle.ownership_model.specs.View.{Element, Read, Null, Me, Seen, View, repeated, view_of}
 use Rattle.ownership_model.specs.State.{State, is_alive, IsSound, nothing_held}
 use Rattle.ownership_model.specs.Reach.{has}
-use Rattle.ownership_model.specs.Changes.{changed, changed_by, with_field, HasField, CanBeDone, CanChange}
+use Rattle.ownership_model.specs.Changes.{changed, changed_by, with_field, HasField, CanChange}
 use Rattle.ownership_model.specs.Carry.{IsCarriable}
 use Rattle.ownership_model.specs.Release.{release}
 use Rattle.ownership_model.specs.Cascade.{times_destroyed, times_freed, Course}
 use Rattle.ownership_model.specs.Falling.{CascadesTo}
 use Rattle.ownership_model.specs.Step.{step, carried_out, AreNew, outcomes_from, end_from}
-use Rattle.ownership_model.specs.Table.{row, row_of, new_row, upgraded, unwrapped, made_unique, dropped, swapped, exchanged, write_field, set_field, take_field, copy_field, fields_of, made_fields, ending, first_unheld, first_bare, same_pointer, make, yes_if}
+use Rattle.ownership_model.specs.Table.{row, row_of, new_row, upgraded, made_unique, dropped, swapped, exchanged, write_field, set_field, take_field, copy_field, fields_of, ending, first_unheld, first_bare, same_pointer, yes_if}
 use Rattle.ownership_model.proofs.WalkLemmas as walk
 use Rattle.ownership_model.proofs.LawsHold as model
 use Rattle.ownership_model.proofs.CountLemmas.{get_set_other, same_number}

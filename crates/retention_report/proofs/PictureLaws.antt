@@ -1,8 +1,8 @@
 -- What is drawn by the graph at the end of a trace is its picture.
-use Rattle.std.proofs.Common.{◌≡◌, ℕ, zero, suc, ◌+◌, ◌<◌, ◌⊎◌, inl, inr, List, [], ◌∷◌, ◌++◌, length, get_or, replicate, refl, sym, ap, ◌∙◌, subst, arith, Bool, true, false}
-use Rattle.std.specs.Prelude.{Option, Some, None, flat_map, filter, ◌==◌, ◌&&◌, ◌↔◌, not, is_some, codes, slice_index, slice_index_or, if◌then◌else◌}
+use Rattle.std.proofs.Common.{◌≡◌, ℕ, zero, suc, ◌+◌, ◌<◌, inl, inr, List, [], ◌∷◌, ◌++◌, length, replicate, refl, sym, ap, ◌∙◌, subst, arith, Bool, true, false}
+use Rattle.std.specs.Prelude.{Option, Some, None, flat_map, filter, ◌==◌, ◌||◌, ◌↔◌, not, is_some, codes, slice_index, slice_index_or, if◌then◌else◌}
 use Rattle.std.specs.FinMap.{get, keys}
-use Rattle.ownership_model.proofs.Searching.{either, or_left, or_right}
+use Rattle.ownership_model.proofs.Searching.{either, or_left}
 use Rattle.trace_types.specs.Operation.{Operation}
 use Rattle.ownership_model.specs.State.{State, nothing_held, is_alive, strong, weak}
 use Rattle.ownership_model.specs.Step.{end_from}
@@ -16,12 +16,11 @@ use Rattle.retention_model.specs.Cycles as state
 use Rattle.retention_model.specs.Cycles.{AreInOneCycle}
 use Rattle.retention_model.specs.Shown.{IsOfInterest, IsShown}
 use Rattle.retention.specs.declared.ending.Ending.{Ending}
-use Rattle.retention.specs.Graph.{size, object_at, alive_at, IsGraphOf}
+use Rattle.retention.specs.Graph.{size, object_at}
 use Rattle.retention.specs.Walked.{Keeps}
 use Rattle.retention.specs.Components.{AreTogether, IsCyclic}
-use Rattle.retention.specs.Pictured.{IsAskedAt, IsShownAt}
+use Rattle.retention.specs.Pictured.{IsAskedAt}
 use Rattle.retention.specs.Endings.{IsEnding, IsEndOf}
-use Rattle.retention.specs.Ends.{AreTotals}
 use Rattle.retention.proofs.WalkSteps.{number_same, same_number}
 use Rattle.retention.specs.declared.graph.Graph.{Graph}
 use Rattle.retention.specs.Paths.{Points}
@@ -29,12 +28,11 @@ use Rattle.retention.proofs.PathLemmas.{path_trans}
 use Rattle.retention.proofs.GraphPaths.{keeps_path, path_keeps}
 use Rattle.retention.proofs.GraphLaws.{keeps_told}
 use Rattle.retention.proofs.CycleLaws.{leaked_keeper}
-use Rattle.retention.proofs.SinceTold.{alive_key}
-use Rattle.retention.proofs.AccountsTold.{leaked_told, cyclic_told}
-use Rattle.retention_text.specs.Pictures.{head_text, root_text, object_text}
+use Rattle.retention_report.proofs.LeakedTold.{alive_key, leaked_told}
+use Rattle.retention_text.specs.Pictures.{head_text, object_text}
 use Rattle.retention_report.specs.Explained.{missing_text}
-use Rattle.retention_report.specs.Pictured.{Asked, Shows, Sorts, roots_of, once, drawn, slot_line, object_line, picture_text, first_gone, IsPictureOf}
-use Rattle.retention_report.specs.Drawn.{listed, index_in, mark_at, is_marked_in, indices_in, first_absent, object_of, is_joined, cycle_at, are_same, roots_text, edges_text, objects_text, drawn_text, AreShownAt, IsDrawnText}
+use Rattle.retention_report.specs.Pictured.{Asked, Shows, Sorts, drawn, object_line, picture_text, first_gone, IsPictureOf}
+use Rattle.retention_report.specs.Drawn.{listed, index_in, mark_at, is_marked_in, indices_in, first_absent, object_of, is_joined, cycle_at, are_same, objects_text, drawn_text, AreShownAt, IsDrawnText}
 use Rattle.retention_report.proofs.DrawLemmas.{index_found}
 use Rattle.retention_report.proofs.ShownTold.{there, there_key, index_of_key, husk_there, husk_not, shown_told, told_shown, shown_there, interest_told, given_told}
 use Rattle.retention_report.proofs.PictureTold.{same_kept, edges_same, roots_same}
@@ -213,7 +211,7 @@ module _ (ops : List Operation) (e : Ending) (of : IsEndOf ops e) (ending : IsEn
   asked_there (x ∷ os) n o a = all_there (x ∷ os) n o a
 
   shows : (with_all : Bool) (os : List ℕ) (shown : List Bool) → first_gone m os ≡ None → length shown ≡ size e.graph → AreShownAt with_all e (indices_in os_of os) shown → Shows with_all m os (is_marked_in os_of shown)
-  shows true os shown n long are p = same_bool (is_marked_in os_of shown p) (is_some (get m.objects p))
+  shows true os shown n long are = λ p. same_bool (is_marked_in os_of shown p) (is_some (get m.objects p))
       (λ h. let it = marked_index os_of shown p (index_in os_of p) refl h in sym (is_there p) ∙ ap is_some it.1)
       (λ h. let it = index_of_key m since e.graph of.1 p (there_key m.objects p ∙ h) in
       mark_of os_of shown p it.0 it.3 ∙ ap (λ xs. slice_index_or xs it.0 false) are ∙ all_true (size e.graph) it.0 it.1)

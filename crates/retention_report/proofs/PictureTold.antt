@@ -1,53 +1,29 @@
 -- What is drawn by the graph is the picture of the state.
-use Rattle.std.proofs.Common.{◌≡◌, ℕ, zero, suc, ◌+◌, ◌<◌, ◌≤◌, ◌⊎◌, inl, inr, List, [], ◌∷◌, ◌++◌, length, get_or, take, map, replicate, refl, sym, ap, ◌∙◌, subst, arith, append_assoc, Bool, true, false, cond}
-use Rattle.std.specs.Prelude.{Option, Some, None, flat_map, filter, ◌==◌, ◌&&◌, ◌||◌, ◌↔◌, not, is_some, unwrap_or, codes, slice_index_or, if◌then◌else◌}
-use Rattle.std.specs.FinMap.{get, keys, contains_key-keys}
-use Rattle.ownership_model.proofs.Searching.{has_as_any, either, or_left, or_right}
+use Rattle.std.proofs.Common.{◌≡◌, ℕ, ◌+◌, List, [], ◌∷◌, ◌++◌, refl, sym, ap, ◌∙◌, Bool, true, false, cond}
+use Rattle.std.specs.Prelude.{Option, Some, None, flat_map, filter, ◌==◌, ◌&&◌, unwrap_or}
+use Rattle.ownership_model.proofs.Searching.{or_left, or_right}
 use Rattle.trace_types.specs.Slots.{named_by}
 use Rattle.trace_types.specs.declared.slots.Slot.{Slot}
 use Rattle.trace_types.specs.declared.slots.Slot.TheVariants.{Nothing, Strong, Weak, Dangling}
-use Rattle.trace_types.specs.declared.slots.Entry.{Entry}
-use Rattle.trace_types.specs.declared.slots.Entry.TheVariants.{Alive, Husk}
 use Rattle.trace_types.specs.Operation.{Operation}
-use Rattle.ownership_model.specs.State.{State, nothing_held, is_alive, strong, weak}
+use Rattle.ownership_model.specs.State.{State, nothing_held}
 use Rattle.ownership_model.specs.Step.{end_from}
-use Rattle.ownership_model.specs.Release.{is_husk}
-use Rattle.ownership_model.specs.Leaks.{IsLeaked}
 use Rattle.ownership_model.specs.Reach.{has}
 use Rattle.retention_model.specs.declared.place.Place.{Place}
-use Rattle.retention_model.specs.declared.place.Place.TheVariants.{Handle, Cell, Field}
 use Rattle.retention_model.specs.declared.place.Held.{Held}
-use Rattle.retention_model.specs.declared.totals.Totals.{Totals}
-use Rattle.retention_model.specs.Places.{at, IsFieldOf, places_of}
+use Rattle.retention_model.specs.Places.{at, places_of}
 use Rattle.retention_model.specs.Since.{since_from}
-use Rattle.retention_model.specs.Turns.{is_weak_slot}
-use Rattle.retention_model.specs.Ways.{IsWay}
 use Rattle.retention_model.specs.Cycles as state
-use Rattle.retention_model.specs.Cycles.{AreInOneCycle}
-use Rattle.retention_model.specs.Shown.{IsOfInterest, HoldsWeakly, IsNear, IsShown}
 use Rattle.retention.specs.declared.ending.Ending.{Ending}
-use Rattle.retention.specs.declared.graph.Graph.{Graph}
-use Rattle.retention.specs.Graph.{size, places, object_at, alive_at, held_at, target_at, IsFieldAt, start_at, IsGraphOf}
+use Rattle.retention.specs.Graph.{IsGraphOf}
 use Rattle.retention.specs.HeldPlaces.{held_if, held_among}
-use Rattle.retention.specs.Walked.{Keeps}
-use Rattle.retention.specs.Paths.{marked}
 use Rattle.retention.specs.Pictured as at_graph
-use Rattle.retention.specs.Pictured.{IsAskedAt, HoldsWeaklyAt, IsNearAt, IsShownAt}
-use Rattle.retention.specs.Components.{AreTogether}
-use Rattle.retention.specs.Endings.{IsEnding, IsEndOf}
-use Rattle.retention.specs.Ends.{AreTotals}
 use Rattle.retention.specs.Told.{is_weak_to}
-use Rattle.retention.proofs.WalkSteps.{number_same, same_number}
-use Rattle.retention.proofs.PathLemmas.{has_at, at_has}
-use Rattle.retention.proofs.HeldLemmas.{Tells, Stands, all_stand, listed, field_key, key_of}
-use Rattle.retention.proofs.GraphLaws.{place_at, tells, object_index, keeps_told, same_index}
-use Rattle.retention.proofs.CycleLaws.{leaked_keeper}
-use Rattle.retention.proofs.SinceTold.{alive_key}
-use Rattle.retention.proofs.AccountsTold.{leaked_told, cyclic_told}
-use Rattle.retention_text.specs.Pictures.{head_text, root_text, object_text, edge_text}
-use Rattle.retention_report.specs.Pictured.{Asked, Shows, Sorts, stands_in_shown, names_shown, roots_of, once, is_bold, named_at, drawn, slot_line, object_line, picture_text, first_gone}
+use Rattle.retention.proofs.WalkSteps.{same_number}
+use Rattle.retention_text.specs.Pictures.{root_text, edge_text}
+use Rattle.retention_report.specs.Pictured.{stands_in_shown, names_shown, roots_of, once, is_bold, drawn, slot_line}
 use Rattle.retention_report.specs.Drawn as drawn_by
-use Rattle.retention_report.specs.Drawn.{index_in, mark_at, is_marked_in, indices_in, first_absent, is_drawn, edge_of, object_of, is_joined, cycle_at, are_same, roots_in, roots_text, edges_text, objects_text, drawn_text, AreShownAt, number_from}
+use Rattle.retention_report.specs.Drawn.{is_marked_in, is_drawn, edge_of, is_joined, roots_text, edges_text}
 use Rattle.retention_report.proofs.DrawLemmas.{kept_if, kept_append, kept_one}
 
 -- ---- the text
@@ -84,7 +60,7 @@ module _ {A : Type 0} (k : ℕ → Bool) (F : Held → List A) (G : Place → Op
       ∙ ap (λ zs. cond (drawn_at k p (at m p)) (G p (at m p)) [] ++ zs) (all_places m ps)
       ∙ sym (kept_if (λ q. G q (at m q)) (drawn_at k p (at m p)) p (filter (λ q. drawn_at k q (at m q)) ps))
 
-same_kept : {A : Type 0} (F G : ℕ → List A) (K : ℕ → Bool) (xs : List ℕ) → ((o : ℕ) → has o xs ≡ true → F o ≡ G o) → flat_map F (filter K xs) ≡ flat_map G (filter K xs)
+pub same_kept : {A : Type 0} (F G : ℕ → List A) (K : ℕ → Bool) (xs : List ℕ) → ((o : ℕ) → has o xs ≡ true → F o ≡ G o) → flat_map F (filter K xs) ≡ flat_map G (filter K xs)
 same_kept F G K [] same = refl
 same_kept F G K (x ∷ xs) same =
     kept_if F (K x) x (filter K xs) ∙ ap (λ zs. cond (K x) zs [] ++ flat_map F (filter K xs)) (same x (or_left (x == x) (has x xs) (same_number x)))
@@ -111,9 +87,6 @@ edges_same ops e shown leaked is =
     ap (λ hs. flat_map (edge_of e) (filter (is_drawn e.graph.objects.items shown) hs)) is.held
     ∙ all_places (is_marked_in e.graph.objects.items shown) (edge_of e) (line_at (is_joined e) (λ p. since_from nothing_held ops p 0)) (λ p. since_from nothing_held ops p 0) (edge_same e (λ p. since_from nothing_held ops p 0))
     (end_from nothing_held ops) (places_of (end_from nothing_held ops))
-
-flat_itself : (ps : List Place) → flat_map roots_of ps ≡ flat_map roots_of ps
-flat_itself ps = refl
 
 pub roots_same : (ops : List Operation) (e : Ending) (shown : List Bool) (leaked : ℕ → Bool)
     → IsGraphOf (end_from nothing_held ops) (λ p. since_from nothing_held ops p 0) e.graph

@@ -1,17 +1,15 @@
 -- Which objects are shown, leaked, given and in one cycle: what the marks of a graph say of the state.
-use Rattle.std.proofs.Common.{◌≡◌, ℕ, zero, suc, ◌+◌, ◌<◌, ◌≤◌, ◌⊎◌, inl, inr, List, [], ◌∷◌, ◌++◌, length, get_or, replicate, refl, sym, ap, ◌∙◌, subst, arith, Bool, true, false, cond}
-use Rattle.std.specs.Prelude.{Option, Some, None, filter, ◌==◌, ◌&&◌, ◌||◌, ◌↔◌, not, is_some, slice_get, slice_index_or, if◌then◌else◌}
+use Rattle.std.proofs.Common.{◌≡◌, ℕ, ◌+◌, ◌<◌, ◌≤◌, ◌⊎◌, inl, inr, List, [], ◌∷◌, ◌++◌, length, get_or, refl, sym, ap, ◌∙◌, subst, arith, Bool, true, false}
+use Rattle.std.specs.Prelude.{Option, Some, None, ◌==◌, ◌||◌, ◌↔◌, not, is_some}
 use Rattle.std.specs.Ordering.{nat_cmp}
 use Rattle.std.specs.FinMap.{FinMap, get, keys, contains_key-keys}
-use Rattle.ownership_model.proofs.Searching.{has_as_any, has-append, either, or_left, or_right}
+use Rattle.ownership_model.proofs.Searching.{has_as_any}
 use Rattle.trace_types.specs.Slots.{named_by}
 use Rattle.trace_types.specs.declared.slots.Slot.{Slot}
 use Rattle.trace_types.specs.declared.slots.Slot.TheVariants.{Nothing, Strong, Weak, Dangling}
 use Rattle.trace_types.specs.declared.slots.Entry.{Entry}
 use Rattle.trace_types.specs.declared.slots.Entry.TheVariants.{Alive, Husk}
-use Rattle.trace_types.specs.Operation.{Operation}
-use Rattle.ownership_model.specs.State.{State, nothing_held, is_alive}
-use Rattle.ownership_model.specs.Step.{end_from}
+use Rattle.ownership_model.specs.State.{State, is_alive}
 use Rattle.ownership_model.specs.Release.{is_husk}
 use Rattle.ownership_model.specs.Leaks.{IsLeaked}
 use Rattle.ownership_model.specs.Reach.{has}
@@ -19,25 +17,22 @@ use Rattle.retention_model.specs.declared.place.Place.{Place}
 use Rattle.retention_model.specs.declared.place.Place.TheVariants.{Handle, Cell, Field}
 use Rattle.retention_model.specs.declared.place.Held.{Held}
 use Rattle.retention_model.specs.Places.{at, IsFieldOf, places_of}
-use Rattle.retention_model.specs.Since.{since_from}
 use Rattle.retention_model.specs.Ways.{LeadsTo, IsWay}
 use Rattle.retention_model.specs.Cycles as state
-use Rattle.retention_model.specs.Cycles.{AreInOneCycle}
 use Rattle.retention_model.specs.Shown.{IsOfInterest, HoldsWeakly, IsNear, IsShown}
-use Rattle.retention.specs.declared.ending.Ending.{Ending}
 use Rattle.retention.specs.declared.graph.Graph.{Graph}
-use Rattle.retention.specs.Graph.{size, places, object_at, alive_at, held_at, target_at, IsFieldAt, start_at, IsGraphOf}
+use Rattle.retention.specs.Graph.{size, places, object_at, alive_at, held_at, IsFieldAt, start_at, IsGraphOf}
 use Rattle.retention.specs.HeldPlaces.{held_among}
 use Rattle.retention.specs.Walked.{Keeps}
 use Rattle.retention.specs.Paths.{marked}
 use Rattle.retention.specs.Pictured.{is_weak_slot, IsAskedAt, HoldsWeaklyAt, IsNearAt, IsShownAt}
 use Rattle.retention.proofs.WalkSteps.{number_same, same_number}
-use Rattle.retention.proofs.PathLemmas.{has_at, at_has}
+use Rattle.retention.proofs.PathLemmas.{has_at}
 use Rattle.retention.proofs.GraphPaths.{field_object}
-use Rattle.retention.proofs.HeldLemmas.{all_stand, listed, field_key, key_of}
+use Rattle.retention.proofs.HeldLemmas.{all_stand, listed, field_key}
 use Rattle.retention.proofs.GraphLaws.{place_at, tells, object_index, keeps_told, same_index}
 use Rattle.retention_report.specs.Drawn as drawn_by
-use Rattle.retention_report.specs.Drawn.{index_in, indices_in, number_from}
+use Rattle.retention_report.specs.Drawn.{index_in, indices_in}
 use Rattle.retention_report.proofs.DrawLemmas.{index_found, index_at}
 
 husk_entry : (x : Option Entry) → is_some x ≡ true → is_alive x ≡ false → is_husk x ≡ true

@@ -1,6 +1,6 @@
 -- Pieces of text that are told, over plain variables.
-use Rattle.std.proofs.Common.{◌≡◌, ℕ, ◌<◌, List, [], ◌∷◌, ◌++◌, length, refl, sym, ap, ◌∙◌, subst, arith, append_assoc, get_or, zero, suc, ◌+◌, Bool, true, false}
-use Rattle.std.specs.Prelude.{Option, Some, None, ◌==◌, ◌||◌, codes, is_some, filter, if◌then◌else◌}
+use Rattle.std.proofs.Common.{◌≡◌, ℕ, ◌<◌, List, [], ◌∷◌, ◌++◌, length, refl, sym, ap, ◌∙◌, subst, arith, append_assoc, get_or, ◌+◌, Bool, true, false}
+use Rattle.std.specs.Prelude.{Option, Some, None, ◌==◌, ◌||◌, is_some, filter, if◌then◌else◌}
 use Rattle.std.proofs.lemmas.Bool.Decides.{nat_tests}
 use Rattle.std.proofs.lemmas.List.{append-nil}
 use Rattle.std.specs.FinMap.{get, keys, contains_key-keys}
@@ -9,7 +9,7 @@ use Rattle.trace_types.specs.Operation.{Operation}
 use Rattle.ownership_model.specs.State.{nothing_held}
 use Rattle.ownership_model.specs.Step.{outcomes_from, end_from}
 use Rattle.ownership_model.specs.Reach.{has}
-use Rattle.ownership_model.proofs.Searching.{has_as_any, or_left, or_right}
+use Rattle.ownership_model.proofs.Searching.{has_as_any, or_right}
 use Rattle.leak_report.specs.Lives.{life_of, made_after}
 use Rattle.leak_report.specs.Text.{life_text}
 use Rattle.retention_model.specs.Turns.{marks_of, AreMarked}

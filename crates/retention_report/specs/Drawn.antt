@@ -1,5 +1,5 @@
 -- What of the end of a trace is drawn, by its graph (profile of this project).
-use Rattle.std.specs.Prelude.{ℕ, ◌≡◌, ◌+◌, ◌<◌, ◌==◌, ◌&&◌, List, [], ◌∷◌, ◌++◌, codes, flat_map, filter, not, Option, Some, None, Bool, true, false, is_some, slice_index, slice_index_or, if◌then◌else◌, ◌↔◌, length, replicate}
+use Rattle.std.specs.Prelude.{ℕ, ◌≡◌, ◌+◌, ◌==◌, ◌&&◌, List, [], ◌∷◌, ◌++◌, codes, flat_map, filter, not, Option, Some, None, Bool, true, false, is_some, slice_index, slice_index_or, if◌then◌else◌, ◌↔◌, length, replicate}
 use Rattle.trace_types.specs.Slots.{named_by}
 use Rattle.ownership_model.specs.State.{State, strong, weak}
 use Rattle.retention_model.specs.declared.place.Place.{Place}

@@ -1,3 +1,4 @@
 pub mod Explained
 pub mod Pictured
 pub mod Sources
+pub mod Drawn

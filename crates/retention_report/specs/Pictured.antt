@@ -1,5 +1,5 @@
 -- The text of `picture` (profile of this project).
-use Rattle.std.specs.Prelude.{ℕ, ◌≡◌, ◌==◌, ◌+◌, ◌↔◌, ◌⊎◌, List, [], ◌∷◌, ◌++◌, codes, decimal, flat_map, filter, map, Option, Some, None, Bool, true, false, is_some, not, ◌&&◌, unwrap_or, if◌then◌else◌}
+use Rattle.std.specs.Prelude.{ℕ, ◌≡◌, ◌==◌, ◌+◌, ◌↔◌, List, [], ◌∷◌, ◌++◌, codes, flat_map, filter, Option, Some, None, Bool, true, false, is_some, ◌&&◌, unwrap_or, if◌then◌else◌}
 use Rattle.std.specs.FinMap.{get, keys}
 use Rattle.trace_types.specs.Operation.{Operation}
 use Rattle.trace_types.specs.Slots.{named_by}

@@ -1,19 +1,18 @@
 -- What the lines of objects are told from: the replay of a trace, its end, and the lives of the objects that it made (profile of this project).
-use Rattle.std.specs.Prelude.{ℕ, ◌≡◌, ◌==◌, ◌&&◌, ◌||◌, not, List, map, Option, Some, None, Bool, true, false, slice_index, slice_index_or}
+use Rattle.std.specs.Prelude.{ℕ, ◌≡◌, List, [], map, Option, Some, None, Bool, true, false}
 use Rattle.trace_types.specs.Operation.{Operation}
 use Rattle.ownership_model.specs.State.{nothing_held}
+use Rattle.ownership_model.specs.Reach.{has}
 use Rattle.ownership_model.specs.Step.{outcomes_from, end_from, AreNew}
 use Rattle.leak_report.specs.declared.lives.Life.{Life}
-use Rattle.leak_report.specs.Lives.{lives_of}
+use Rattle.leak_report.specs.Lives.{lives_of, made_after}
 use Rattle.retention_model.specs.Since.{since_from}
 use Rattle.retention_model.specs.Turns.{AreMarked, marks_of}
 use Rattle.retention_model.specs.declared.mark.Marked.{Marked}
 use Rattle.retention.specs.declared.lifelines.Lifelines.{Lifelines}
 use Rattle.retention.specs.declared.moves.Loss.{Loss}
 use Rattle.retention.specs.declared.story.Story.{Story}
-use Rattle.retention.specs.declared.ending.Ending.{Ending}
 use Rattle.retention.specs.Dates.{Tell}
-use Rattle.retention.specs.Graph.{alive_at}
 use Rattle.retention.specs.Losses.{AreLosses}
 use Rattle.retention.specs.Dating.{AreDated}
 use Rattle.retention.specs.Endings.{IsEnding, IsEndOf}
@@ -53,6 +52,6 @@ AreLivesIn ops lives = lives ≡ lives_of (outcomes_from nothing_held ops)
 abbrev pub objects_of : List Life → List ℕ
 objects_of lives = map (λ (l : Life). l.object) lives
 
--- whether an object stands for a cycle, or is a husk, by the numbers of the graph
-abbrev pub is_noted : Ending → ℕ → Bool
-is_noted e i = (slice_index_or e.cycles.marks.items i false && (slice_index e.cycles.parts.items i == i)) || not (alive_at e.graph i)
+-- each of these objects was made
+abbrev pub AreMade : List Operation → List ℕ → Type 0
+AreMade ops os = (o : ℕ) → has o os ≡ true → has o (made_after [] (outcomes_from nothing_held ops)) ≡ true

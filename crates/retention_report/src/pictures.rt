@@ -34,14 +34,19 @@ pub fn picture(
 {
     let story = tell(alloc, ops, false)?;
     let end = end_of(alloc, &story)?;
-    if let Some(object) = first_absent(&end.graph, objects) {
-        return no_object(alloc, object);
+    match first_absent(&end.graph, objects) {
+        Some(object) => {
+            let answer = no_object(alloc, object)?;
+            Ok(answer)
+        }
+        None => {
+            let text = text_of(alloc, &story.end, &end, objects, with_all)?;
+            Ok(Answer {
+                text,
+                is_missing: false,
+            })
+        }
     }
-    let text = text_of(alloc, &story.end, &end, objects, with_all)?;
-    Ok(Answer {
-        text,
-        is_missing: false,
-    })
 }
 
 // The end of a replay as a graph.

@@ -1,8 +1,8 @@
-use Rattle.std.proofs.Common.{◌≡◌, ◌<◌, ◌++◌, ℕ, length, take, refl, sym, ap, ◌∙◌, arith, string_bytes}
+use Rattle.std.proofs.Common.{◌≡◌, ◌<◌, ◌++◌, ap, ◌∙◌, arith, string_bytes}
 use Rattle.std.specs.Prelude.{flat_map, filter}
 use Rattle.trace_types.specs.declared.slots.Slot.TheVariants.{Nothing}
 use Rattle.retention_model.specs.declared.place.Place.TheVariants.{Cell}
-use Rattle.retention.specs.Graph.{places, held_at}
+use Rattle.retention.specs.Graph.{places}
 use Rattle.retention_report.specs.Drawn.{edge_of, is_drawn}
 use Rattle.retention_report.proofs.DrawLemmas.{lines_more, take_end}
 use Rattle.retention_report.proofs.drawing.push_edges.Goals as goal

@@ -1,4 +1,4 @@
-use Rattle.std.proofs.Common.{◌≡◌, ◌<◌, ◌++◌, ℕ, length, take, refl, sym, ap, ◌∙◌, arith, string_bytes}
+use Rattle.std.proofs.Common.{◌≡◌, ◌<◌, ◌++◌, refl, ap, ◌∙◌, arith, string_bytes}
 use Rattle.std.specs.Prelude.{flat_map, filter}
 use Rattle.retention.specs.Graph.{size, object_at}
 use Rattle.retention_report.specs.Drawn.{object_of, is_marked_in}

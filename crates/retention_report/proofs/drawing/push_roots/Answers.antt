@@ -1,7 +1,7 @@
-use Rattle.std.proofs.Common.{◌≡◌, ◌<◌, ◌+◌, ◌++◌, ℕ, length, take, append-nil, refl, sym, ap, ◌∙◌, subst, arith, string_bytes}
+use Rattle.std.proofs.Common.{◌≡◌, ◌<◌, ◌+◌, ◌++◌, take, append-nil, refl, sym, ap, ◌∙◌, subst, arith, string_bytes}
 use Rattle.trace_types.specs.declared.slots.Slot.TheVariants.{Nothing}
 use Rattle.retention_model.specs.declared.place.Place.TheVariants.{Cell}
-use Rattle.retention.specs.Graph.{places, held_at}
+use Rattle.retention.specs.Graph.{places}
 use Rattle.retention_report.specs.Drawn.{roots_in}
 use Rattle.retention_report.proofs.DrawLemmas.{IsLastOf, lines_of, roots_more, take_end}
 use Rattle.retention_report.proofs.drawing.push_roots.Goals as goal

@@ -1,4 +1,4 @@
-use Rattle.std.proofs.Common.{◌≡◌, ◌++◌, List, ℕ, sym, subst, ap, string_bytes}
+use Rattle.std.proofs.Common.{◌≡◌, ◌++◌, List, ℕ, sym, subst, string_bytes}
 use Rattle.retention_report.specs.Explained.{AreLines}
 use Rattle.retention_report.specs.Sources.{AreMade}
 use Rattle.retention_report.proofs.ToldLemmas.{summary, note_made}

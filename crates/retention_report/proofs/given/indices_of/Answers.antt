@@ -1,4 +1,4 @@
-use Rattle.std.proofs.Common.{◌≡◌, refl}
+use Rattle.std.proofs.Common.{refl}
 use Rattle.retention_report.proofs.GivenLemmas.{indices_more}
 use Rattle.retention_report.proofs.given.indices_of.Goals as goal
 

@@ -1,4 +1,4 @@
-use Rattle.std.proofs.Common.{◌≡◌, [], ◌++◌, List, take, refl, sym, subst, arith, string_bytes}
+use Rattle.std.proofs.Common.{[], refl, sym, subst, arith, string_bytes}
 use Rattle.std.proofs.lemmas.List.{append-nil, take_all}
 use Rattle.retention_report.specs.Explained.{AreLines}
 use Rattle.retention_report.proofs.LineLemmas.{lines_next, item_has}

@@ -1,4 +1,4 @@
-use Rattle.std.proofs.Common.{◌≡◌, List, [], ◌∷◌, ◌++◌, ℕ, ap, ◌∙◌, append_assoc, string_bytes}
+use Rattle.std.proofs.Common.{◌≡◌, List, ◌++◌, ℕ, ap, ◌∙◌, append_assoc, string_bytes}
 use Rattle.std.specs.Prelude.{codes}
 use Rattle.retention_text.specs.Pictures.{head_text}
 use Rattle.retention_report.specs.Drawn.{roots_text, objects_text, edges_text}

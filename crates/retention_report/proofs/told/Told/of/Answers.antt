@@ -1,4 +1,4 @@
-use Rattle.std.proofs.Common.{◌≡◌, ◌∙◌, subst, ap, sym, List}
+use Rattle.std.proofs.Common.{subst, sym, List}
 use Rattle.ownership_model.specs.State.{State, nothing_held}
 use Rattle.ownership_model.specs.Step.{end_from}
 use Rattle.retention_model.specs.Since.{since_from}
