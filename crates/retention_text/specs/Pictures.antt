@@ -1,5 +1,5 @@
 -- The lines of a picture in DOT (profile of this project; the words of DOT are Graphviz's).
-use Rattle.std.specs.Prelude.{ℕ, List, [], ◌∷◌, ◌++◌, codes, decimal, Option, Some, None, Bool, true, false, if◌then◌else◌}
+use Rattle.std.specs.Prelude.{ℕ, List, [], ◌++◌, codes, decimal, Some, None, Bool, true, false, if◌then◌else◌}
 use Rattle.retention_model.specs.declared.place.Place.{Place}
 use Rattle.retention_model.specs.declared.place.Place.TheVariants.{Handle, Cell, Field}
 use Rattle.retention_model.specs.declared.totals.Totals.{Totals}
