@@ -1,5 +1,5 @@
 -- What is drawn by the graph at the end of a trace is its picture.
-use Rattle.std.proofs.Common.{◌≡◌, ℕ, zero, suc, ◌+◌, ◌<◌, inl, inr, List, [], ◌∷◌, ◌++◌, length, replicate, refl, sym, ap, ◌∙◌, subst, arith, Bool, true, false}
+use Rattle.std.proofs.Common.{◌≡◌, ℕ, zero, suc, ◌<◌, inl, inr, List, [], ◌∷◌, ◌++◌, length, replicate, refl, sym, ap, ◌∙◌, subst, arith, Bool, true, false}
 use Rattle.std.specs.Prelude.{Option, Some, None, flat_map, filter, ◌==◌, ◌||◌, ◌↔◌, not, is_some, codes, slice_index, slice_index_or, if◌then◌else◌}
 use Rattle.std.specs.FinMap.{get, keys}
 use Rattle.ownership_model.proofs.Searching.{either, or_left}
@@ -12,7 +12,6 @@ use Rattle.ownership_model.specs.Reach.{has}
 use Rattle.retention_model.specs.declared.place.Place.{Place}
 use Rattle.retention_model.specs.declared.totals.Totals.{Totals}
 use Rattle.retention_model.specs.Since.{since_from}
-use Rattle.retention_model.specs.Cycles as state
 use Rattle.retention_model.specs.Cycles.{AreInOneCycle}
 use Rattle.retention_model.specs.Shown.{IsOfInterest, IsShown}
 use Rattle.retention.specs.declared.ending.Ending.{Ending}
@@ -31,7 +30,7 @@ use Rattle.retention.proofs.CycleLaws.{leaked_keeper}
 use Rattle.retention_report.proofs.LeakedTold.{alive_key, leaked_told}
 use Rattle.retention_text.specs.Pictures.{head_text, object_text}
 use Rattle.retention_report.specs.Explained.{missing_text}
-use Rattle.retention_report.specs.Pictured.{Asked, Shows, Sorts, drawn, object_line, picture_text, first_gone, IsPictureOf}
+use Rattle.retention_report.specs.Pictured.{Asked, Shows, Sorts, object_line, picture_text, first_gone, IsPictureOf}
 use Rattle.retention_report.specs.Drawn.{listed, index_in, mark_at, is_marked_in, indices_in, first_absent, object_of, is_joined, cycle_at, are_same, objects_text, drawn_text, AreShownAt, IsDrawnText}
 use Rattle.retention_report.proofs.DrawLemmas.{index_found}
 use Rattle.retention_report.proofs.ShownTold.{there, there_key, index_of_key, husk_there, husk_not, shown_told, told_shown, shown_there, interest_told, given_told}

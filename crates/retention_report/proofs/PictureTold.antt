@@ -1,5 +1,5 @@
 -- What is drawn by the graph is the picture of the state.
-use Rattle.std.proofs.Common.{◌≡◌, ℕ, ◌+◌, List, [], ◌∷◌, ◌++◌, refl, sym, ap, ◌∙◌, Bool, true, false, cond}
+use Rattle.std.proofs.Common.{◌≡◌, ℕ, List, [], ◌∷◌, ◌++◌, refl, sym, ap, ◌∙◌, Bool, true, false, cond}
 use Rattle.std.specs.Prelude.{Option, Some, None, flat_map, filter, ◌==◌, ◌&&◌, unwrap_or}
 use Rattle.ownership_model.proofs.Searching.{or_left, or_right}
 use Rattle.trace_types.specs.Slots.{named_by}
@@ -13,16 +13,13 @@ use Rattle.retention_model.specs.declared.place.Place.{Place}
 use Rattle.retention_model.specs.declared.place.Held.{Held}
 use Rattle.retention_model.specs.Places.{at, places_of}
 use Rattle.retention_model.specs.Since.{since_from}
-use Rattle.retention_model.specs.Cycles as state
 use Rattle.retention.specs.declared.ending.Ending.{Ending}
 use Rattle.retention.specs.Graph.{IsGraphOf}
 use Rattle.retention.specs.HeldPlaces.{held_if, held_among}
-use Rattle.retention.specs.Pictured as at_graph
 use Rattle.retention.specs.Told.{is_weak_to}
 use Rattle.retention.proofs.WalkSteps.{same_number}
 use Rattle.retention_text.specs.Pictures.{root_text, edge_text}
 use Rattle.retention_report.specs.Pictured.{stands_in_shown, names_shown, roots_of, once, is_bold, drawn, slot_line}
-use Rattle.retention_report.specs.Drawn as drawn_by
 use Rattle.retention_report.specs.Drawn.{is_marked_in, is_drawn, edge_of, is_joined, roots_text, edges_text}
 use Rattle.retention_report.proofs.DrawLemmas.{kept_if, kept_append, kept_one}
 

@@ -23,7 +23,6 @@ use Rattle.retention_model.specs.Shown.{IsOfInterest, HoldsWeakly, IsNear, IsSho
 use Rattle.retention.specs.declared.graph.Graph.{Graph}
 use Rattle.retention.specs.Graph.{size, places, object_at, alive_at, held_at, IsFieldAt, start_at, IsGraphOf}
 use Rattle.retention.specs.HeldPlaces.{held_among}
-use Rattle.retention.specs.Walked.{Keeps}
 use Rattle.retention.specs.Paths.{marked}
 use Rattle.retention.specs.Pictured.{is_weak_slot, IsAskedAt, HoldsWeaklyAt, IsNearAt, IsShownAt}
 use Rattle.retention.proofs.WalkSteps.{number_same, same_number}

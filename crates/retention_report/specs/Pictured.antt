@@ -1,5 +1,5 @@
 -- The text of `picture` (profile of this project).
-use Rattle.std.specs.Prelude.{ℕ, ◌≡◌, ◌==◌, ◌+◌, ◌↔◌, List, [], ◌∷◌, ◌++◌, codes, flat_map, filter, Option, Some, None, Bool, true, false, is_some, ◌&&◌, unwrap_or, if◌then◌else◌}
+use Rattle.std.specs.Prelude.{ℕ, ◌≡◌, ◌==◌, ◌↔◌, List, [], ◌∷◌, ◌++◌, codes, flat_map, filter, Option, Some, None, Bool, true, false, is_some, ◌&&◌, unwrap_or, if◌then◌else◌}
 use Rattle.std.specs.FinMap.{get, keys}
 use Rattle.trace_types.specs.Operation.{Operation}
 use Rattle.trace_types.specs.Slots.{named_by}
@@ -11,7 +11,7 @@ use Rattle.ownership_model.specs.Reach.{has}
 use Rattle.ownership_model.specs.Step.{end_from}
 use Rattle.retention_model.specs.declared.place.Place.{Place}
 use Rattle.retention_model.specs.declared.place.Place.TheVariants.{Handle, Cell, Field}
-use Rattle.retention_model.specs.Places.{at, names, places_of}
+use Rattle.retention_model.specs.Places.{at, places_of}
 use Rattle.retention_model.specs.Since.{since_from}
 use Rattle.retention_model.specs.Cycles.{AreInOneCycle}
 use Rattle.retention_model.specs.Shown.{IsOfInterest, IsShown}
