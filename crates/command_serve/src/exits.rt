@@ -7,7 +7,7 @@ ghost use Rattle.command_serve.specs.Exits.{status_of};
 pub enum Exit {
     /// 0: what was due was written.
     Fine,
-    /// 1: the input is at fault; the line that says so was written.
+    /// 1: the input is at fault, or an object that was asked for isn't there; the line that says so was written.
     Trace,
     /// 2: the words are none that the program takes. No command answers it.
     Usage,
