@@ -18,6 +18,10 @@ mod meetings;
 #[cfg(test)]
 mod random_edits;
 #[cfg(test)]
+mod refused;
+#[cfg(test)]
+mod refused_traces;
+#[cfg(test)]
 mod relabelled;
 #[cfg(test)]
 mod runs;
