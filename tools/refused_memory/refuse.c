@@ -1,19 +1,21 @@
 /* Refuses the allocation number REFUSE_AT (counted from 1) of the program that it is preloaded into, and says so on
-   standard error. All others go through. */
+   standard error. All others go through. Threads count together. */
 #define _GNU_SOURCE
 #include <dlfcn.h>
 #include <errno.h>
+#include <stdatomic.h>
 #include <stdlib.h>
 #include <unistd.h>
 
-static long left = -1;
+static atomic_long asked = 0;
 
 static int refused(void) {
-    if (left < 0) {
+    static atomic_long wanted = -1;
+    if (wanted < 0) {
         const char *at = getenv("REFUSE_AT");
-        left = at ? atol(at) : 0;
+        wanted = at ? atol(at) : 0;
     }
-    if (left == 0 || --left > 0) return 0;
+    if (atomic_fetch_add(&asked, 1) + 1 != wanted) return 0;
     if (write(2, "refused\n", 8) < 0) _exit(99);
     errno = ENOMEM;
     return 1;
