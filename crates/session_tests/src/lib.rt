@@ -23,3 +23,5 @@ mod requests;
 mod sixteen;
 #[cfg(test)]
 mod steps;
+#[cfg(test)]
+mod workers;
