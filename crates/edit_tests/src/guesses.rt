@@ -1,7 +1,7 @@
 //! Jobs of a run, and guesses that are handed to a desk with a request.
 use crate::runs::labelled_and_more;
 use crate::small_runs::{with_desk, with_run};
-use crate::small_traces::{broken_cycle, change, insertion, whole_cycle};
+use crate::small_traces::{batch, broken_cycle, change, insertion, op_of, whole_cycle};
 use edit_desk::{Desk, Reply, Request};
 use op_step::{ChunkRun, Job};
 use run_engine::{Run, RunFault};
@@ -33,18 +33,28 @@ fn rise(alloc: Global, desk: &mut Desk, edits: Batch, guesses: Vec<ChunkRun>) ->
     Ok(desk.meter().count() - before)
 }
 
-// A fresh desk on the trace of a broken cycle steps so many operations for the edits of two stretches.
+// A fresh desk on the trace of a broken cycle steps so many operations for these edits.
+fn assert_steps(
+    rt: &impl Abort,
+    alloc: Global,
+    edits: Batch,
+    guesses: Vec<ChunkRun>,
+    due: u64,
+) -> Result<(), Fail> {
+    with_desk(alloc, broken_cycle(alloc)?, |desk| {
+        assert_eq!(rt; rise(alloc, desk, edits, guesses)?, due);
+        Ok(())
+    })
+}
+
+// So many for the edits of two stretches.
 fn assert_rise(
     rt: &impl Abort,
     alloc: Global,
     guesses: Vec<ChunkRun>,
     due: u64,
 ) -> Result<(), Fail> {
-    let edits = labelled_and_more(alloc)?;
-    with_desk(alloc, broken_cycle(alloc)?, |desk| {
-        assert_eq!(rt; rise(alloc, desk, edits, guesses)?, due);
-        Ok(())
-    })
+    assert_steps(rt, alloc, labelled_and_more(alloc)?, guesses, due)
 }
 
 // The chunks of the two jobs that these edits give for a run.
@@ -101,6 +111,38 @@ fn guesses_of_another_trace(rt: HostRuntime) -> Result<(), Fail> {
         let guesses = guesses_of(alloc, run)?;
         assert_lengths(&rt, &guesses);
         assert_rise(&rt, alloc, guesses, 116)
+    })
+}
+
+// The first operation behind a checkpoint, with another label.
+fn first_labelled(alloc: Global) -> Result<Batch, Fail> {
+    let op = op_of(65, 1, Kind::Drop { h: 9 })?;
+    batch(alloc, Edit::Change { id: 65, op })
+}
+
+fn first_removed(alloc: Global) -> Result<Batch, Fail> {
+    batch(alloc, Edit::Remove { id: 65 })
+}
+
+// No old stretch begins with an operation that is new. A guess does.
+#[test]
+fn guess_begins_with_a_new_operation(rt: HostRuntime) -> Result<(), Fail> {
+    let alloc = rt.alloc();
+    assert_steps(&rt, alloc, first_labelled(alloc)?, Vec::new(alloc), 64)?;
+    with_run(alloc, broken_cycle(alloc)?, |run| {
+        let guesses = chunks_of(alloc, run, &first_labelled(alloc)?)?;
+        assert_steps(&rt, alloc, first_labelled(alloc)?, guesses, 0)
+    })
+}
+
+// All that differs stands before the checkpoint's next operation: from there on no old stretch serves. A guess does.
+#[test]
+fn guess_begins_behind_the_last_edit(rt: HostRuntime) -> Result<(), Fail> {
+    let alloc = rt.alloc();
+    assert_steps(&rt, alloc, first_removed(alloc)?, Vec::new(alloc), 63)?;
+    with_run(alloc, broken_cycle(alloc)?, |run| {
+        let guesses = chunks_of(alloc, run, &first_removed(alloc)?)?;
+        assert_steps(&rt, alloc, first_removed(alloc)?, guesses, 0)
     })
 }
 
