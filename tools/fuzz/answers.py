@@ -10,7 +10,7 @@ MOST_REQUESTS = 1_000_000
 
 
 class Replay:
-    """A trace with its outcomes and the heap behind it."""
+    """A trace with its outcomes and the heap after it."""
 
     def __init__(self, ops):
         self.heap = Heap()
@@ -100,7 +100,7 @@ class Refused(Exception):
 
 
 def edited(ops, edits):
-    """The operations behind a batch, or Refused."""
+    """The operations after a batch, or Refused."""
     if not edits:
         raise Refused("EmptyBatch", 0)
     if len(edits) > MOST_EDITS:

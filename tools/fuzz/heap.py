@@ -26,7 +26,7 @@ class Bare:
 
 
 class Skipped(Exception):
-    """Why an operation can't be done, and the number of what stands against it."""
+    """Why an operation can't be done, and the number of what is against it."""
 
 
 class Heap:
@@ -201,7 +201,7 @@ def object_at(heap, handle):
     return None if isinstance(held, Bare) else named(held)
 
 
-# Each of these carries out an operation that can be done. It returns the answer and the object whose counts are told.
+# Each of these carries out an operation that can be done. It returns the answer and the object whose counts are reported.
 def new(heap, op):
     number = op["id"]
     fields = [NOTHING if it is None else weak(number) if it == "me" else heap.end(it) for it in op["fields"]]

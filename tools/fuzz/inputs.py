@@ -44,7 +44,7 @@ class Inputs:
         return self.changed(self.random_input())
 
     def random_input(self):
-        """A trace, mostly with requests behind it."""
+        """A trace, mostly with requests after it."""
         length = self.chosen.choice([0, 1, 3, 8, 8, 20, 20, 60, 140])
         heap, lines = Heap(), []
         for number in range(1, length + 1):

@@ -1,4 +1,4 @@
-"""JSON as serde_json reads it: a value, or None where the bytes are none.
+"""JSON as serde_json reads it: a value, or None if the bytes are none.
 
 Integers from 0 to 2^64 - 1 are Python's. Every other number is a float, so that an int is just what the formats take. An object keeps the last of two
 members of one name. Nesting ends at 127 levels.

@@ -1,4 +1,4 @@
-"""Whether what `race` writes is a race: its lines tell an order of the requests, and asked in that order, they have just these replies and this report."""
+"""Whether what `race` writes is a race: its lines have an order of the requests, and asked in that order, these get just these replies and this report."""
 
 import re
 

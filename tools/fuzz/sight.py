@@ -32,7 +32,7 @@ def named_by(places, number):
 
 
 class Moment:
-    """A state: the slots at its places, and how each object stands."""
+    """A state: the slots at its places, and what each object is."""
 
     def __init__(self, heap):
         self.places = places_of(heap)
@@ -78,7 +78,7 @@ class Moment:
 
 
 class Sight:
-    """A replay, looked at behind each operation."""
+    """A replay, looked at after each operation."""
 
     def __init__(self, ops):
         self.replay = Replay([])
