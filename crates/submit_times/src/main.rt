@@ -25,6 +25,6 @@ fn main(rt: HostRuntime) -> io::Result<ExitCode> {
         return Ok(ExitCode::from(1));
     };
     drop(input);
-    answer_all(&rt, script, &asked)?;
+    answer_all(&rt, &rt, script, &asked)?;
     Ok(ExitCode::SUCCESS)
 }

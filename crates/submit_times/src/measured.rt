@@ -4,29 +4,37 @@ use crate::words::Asked;
 use edit_desk::{Desk, Published, Request};
 use live_sessions::Workers;
 use op_step::ChunkRun;
+use std::alloc::Global;
 use std::io;
+use std::thread::Threads;
 use std::time::Instant;
 use trace_reader::{RequestLine, Script};
 
-/// Answers all requests in order and writes a line for each.
-pub fn answer_all(rt: &HostRuntime, script: Script, asked: &Asked) -> io::Result<()> {
+/// Answers all requests in order and writes a line for each. `threads` is the runtime too, as the one that may start threads.
+pub fn answer_all<S: Threads + Sync>(
+    rt: &HostRuntime,
+    threads: &S,
+    script: Script,
+    asked: &Asked,
+) -> io::Result<()> {
     let Script { trace, requests } = script;
     let mut desk = Desk::open(rt.alloc(), trace)?;
     let first = desk.published().share()?;
     for line in requests.into_vec() {
         if asked.from_first {
-            answer(rt, &mut desk, &first, &asked.workers, line)?;
+            answer(rt, threads, &mut desk, &first, &asked.workers, line)?;
         } else {
             let standing = desk.published().share()?;
-            answer(rt, &mut desk, &standing, &asked.workers, line)?;
+            answer(rt, threads, &mut desk, &standing, &asked.workers, line)?;
         }
     }
     Ok(())
 }
 
 // Answers one request, which workers guess from a version, as a submit does.
-fn answer(
+fn answer<S: Threads + Sync>(
     rt: &HostRuntime,
+    threads: &S,
     desk: &mut Desk,
     from: &Published,
     workers: &Workers,
@@ -39,7 +47,7 @@ fn answer(
     } = line;
     let request = Request { base, batch };
     let begin = Instant::now(rt)?;
-    let guesses = guessed(rt, from, workers, &request);
+    let guesses = guessed(threads, rt.alloc(), from, workers, &request);
     let outside = begin.elapsed(rt)?.as_micros();
     let count = guesses.len();
     let before = desk.meter().count();
@@ -52,15 +60,16 @@ fn answer(
     )
 }
 
-fn guessed(
-    rt: &HostRuntime,
+fn guessed<S: Threads + Sync>(
+    threads: &S,
+    alloc: Global,
     from: &Published,
     workers: &Workers,
     request: &Request,
 ) -> Vec<ChunkRun> {
     if workers.do_guess() {
-        workers.guesses(rt, rt.alloc(), from, request)
+        workers.guesses(threads, alloc, from, request)
     } else {
-        Vec::new(rt.alloc())
+        Vec::new(alloc)
     }
 }
