@@ -1,0 +1,4 @@
+mod LeadLemmas
+mod HolderLemmas
+mod ExplainedLemmas
+mod ApartLemmas
