@@ -1,5 +1,5 @@
 //! Workers that share jobs among them.
-ghost use Rattle.std.specs.Prelude.{◌≡◌, ◌≤◌, IfOk};
+ghost use Rattle.std.specs.Prelude.{◌≡◌, ◌≤◌, IfOk, min};
 
 use crate::claims::Claims;
 use crate::gate::Gate;
@@ -15,8 +15,9 @@ use trace_types::limits::MAX_WORKERS;
 /// The chunk of each job, in the jobs' order.
 ///
 /// Up to so many workers, 1 to 16, claim one job after another and replay it; with one worker no thread is made. They pass the gate before and
-/// after each job. A job whose worker found no memory is run once more by the caller, who passes no gate. The error comes where
-/// that finds none either, or where there is none to start the workers or to put their chunks in order.
+/// after each job; a gate that never lets one pass holds the call. A job whose worker found no memory is run once more by the
+/// caller, who passes no gate. The error comes if that finds none either, or if there is none to start the workers or to put
+/// their chunks in order.
 pub fn speculate<R: Threads + Sync, G: Gate + Sync>(
     rt: &R,
     alloc: Global,
@@ -54,9 +55,7 @@ fn shared<R: Threads + Sync, G: Gate + Sync>(
 
 // How many workers have something to do.
 fn threads_for(jobs: usize, workers: u32) -> usize
-    ensures most { result ≤ workers }
-    ensures needed { result ≤ jobs }
+    ensures { result ≡ min jobs workers }
 {
-    let workers = workers as usize;
-    if jobs < workers { jobs } else { workers }
+    jobs.min(workers as usize)
 }
