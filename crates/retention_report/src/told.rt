@@ -24,13 +24,17 @@ impl Told {
         ensures { IfOk result (λ t. (ops : List Operation) → IsStoryOf with_lives ops story → IsToldOf with_lives ops t) }
     {
         let Story {
-            outcomes: _,
+            outcomes,
             end,
             dates,
             losses,
             marked,
         } = story;
+        // what the walks don't ask is let go before they take memory of their own
+        drop(outcomes);
         let graph = Graph::of(alloc, &end, &dates)?;
+        drop(end);
+        drop(dates);
         let ending = Ending::of(alloc, graph)?;
         let accounts = Accounts::of(alloc, &ending, &losses)?;
         let lines = lines_of(marked, with_lives)?;
