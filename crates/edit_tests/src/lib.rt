@@ -2,8 +2,6 @@
 #![tactic(auto)]
 
 #[cfg(test)]
-mod anchors;
-#[cfg(test)]
 mod desk;
 #[cfg(test)]
 mod far_edits;

@@ -1,16 +1,15 @@
 -- Segments in a block: without the checkpoints that are given up, and under what is laid over them.
 use Rattle.std.proofs.Common.{◌≡◌, ℕ, zero, suc, ◌+◌, ◌-◌, ◌<◌, ◌≤◌, Bool, true, false, List, [], ◌∷◌, ◌++◌, map, length, take, drop, get_or, set, replicate, refl, ap, sym, subst, ◌∙◌, arith, length-append}
-use Rattle.std.specs.Prelude.{Option, Some, None, IfSome, is_some, option_map, slice_index_or, slice_range}
+use Rattle.std.specs.Prelude.{Option, Some, None, IfSome, is_some, option_map, slice_index_or}
 use Rattle.std.specs.List.{AllByRecursion}
 use Rattle.std.proofs.lemmas.List.{get_or-take, get_or-drop, drop-take, length-take-le, length-drop, length-map, take_all, take-map, drop-map, get_or-map, drop-append-le, map-append}
 use Rattle.std.proofs.Math.Seq.{drop-cons}
-use Rattle.run_engine.proofs.ListingLemmas.{take-shorter, around}
-use Rattle.run_engine.proofs.PieceLemmas.{take-rest}
+use Rattle.run_engine.proofs.ListingLemmas.{take-shorter}
 use Rattle.ownership_model.specs.State.{State, IsSound}
 use Rattle.ownership_model.specs.Patch.{Remains, patched, AreThere, AreBoth}
 use Rattle.ownership_model.proofs.LawsHold.{patches}
 use Rattle.run_engine.specs.SegmentView.{SegmentView}
-use Rattle.run_engine.specs.Segments.{without_mark, first_of, opened}
+use Rattle.run_engine.specs.Segments.{without_mark}
 use Rattle.run_engine.specs.Cleared.{cleared_if}
 use Rattle.run_engine.specs.Exchanged.{exchanged, CanExchange, IsExchangeable, AreExchangeable}
 use Rattle.run_engine.specs.Blocks.{left, laid_over, IsSoundBelow, AreSoundBelow, standing, IsBoth}
@@ -161,7 +160,7 @@ sound-part (Some x) a n ss h = sound-take x n (drop a ss) (sound-drop x a ss h)
 pub sound-without : (x : Option Remains) (i : ℕ) (ss : List SegmentView) → AreSoundBelow x ss → AreSoundBelow x (without_mark ss i)
 sound-without None i ss h = tt
 sound-without (Some x) i [] h = tt
-sound-without (Some x) zero (s ∷ ss) h = ((tt, h.0.1), h.1)
+sound-without (Some x) zero (s ∷ ss) h = (tt, h.1)
 sound-without (Some x) (suc i) (s ∷ ss) h = (h.0, sound-without (Some x) i ss h.1)
 
 pub sound-bare : (x : Option Remains) (ss : List SegmentView) → is_some x ≡ false → AreSoundBelow x ss
@@ -193,14 +192,8 @@ under-then x r y None both can = (refl, tt)
 under-then x r y (Some m) both can = let same = both m can.there in (ap Some same, subst (λ (n : State). IsSound n []) (sym same) can.sound)
 
 laid-then : (x : Option Remains) (r y : Remains) (s : SegmentView) → IsBoth x r y → IsExchangeable r (laid_over x s) → (laid_over (Some y) s ≡ exchanged r (laid_over x s)) × IsSoundBelow y s
-laid-then None r y s both can =
-    let h = bare-then r y s.mark both can.0 in
-    let k = bare-then r y s.anchor both can.1 in
-    ((λ j. record s { mark = h.0 j; anchor = k.0 j }), (h.1, k.1))
-laid-then (Some x) r y s both can =
-    let h = under-then x r y s.mark both can.0 in
-    let k = under-then x r y s.anchor both can.1 in
-    ((λ j. record s { mark = h.0 j; anchor = k.0 j }), (h.1, k.1))
+laid-then None r y s both can = let h = bare-then r y s.mark both can in (ap (λ o. record s { mark = o }) h.0, h.1)
+laid-then (Some x) r y s both can = let h = under-then x r y s.mark both can in (ap (λ o. record s { mark = o }) h.0, h.1)
 
 pub laid-both : (x : Option Remains) (r y : Remains) (ss : List SegmentView) → IsBoth x r y → AreExchangeable r (map (laid_over x) ss) → map (laid_over (Some y)) ss ≡ map (exchanged r) (map (laid_over x) ss)
 laid-both x r y [] both can = refl
@@ -234,45 +227,3 @@ both-laid laid x a b d z new r is here next joint same patch =
     let law : IsBoth (Some x) r new = λ m there.
     ap (patched m) same ∙ sym (patches.both m a b z joint) ∙ (λ j. patched (patched m (here j)) (next j)) ∙ patch (patched m x) there in
     subst (λ l. IsBoth l r new) (sym is) law
-
--- the state at which a segment begins, if it is kept, becomes a checkpoint
-first-map : (f : State → State) (o p : Option State) → option_map f (first_of o p) ≡ first_of (option_map f o) (option_map f p)
-first-map f None p = refl
-first-map f (Some m) p = refl
-
-first-each : (P : State → Type 0) (o p : Option State) → IfSome o P → IfSome p P → IfSome (first_of o p) P
-first-each P None p h k = k
-first-each P (Some m) p h k = h
-
-laid-opened : (x : Option Remains) (s : SegmentView) → map (laid_over x) (opened (s ∷ [])) ≡ opened (laid_over x s ∷ [])
-laid-opened None s = refl
-laid-opened (Some x) s = ap (λ o. record (exchanged x s) { mark = o } ∷ []) (first-map (λ m. patched m x) s.mark s.anchor)
-
-pub sound-opened : (x : Option Remains) (s : SegmentView) → AreSoundBelow x (s ∷ []) → AreSoundBelow x (opened (s ∷ []))
-sound-opened None s h = tt
-sound-opened (Some x) s h = ((first-each (λ m. IsSound (patched m x) []) s.mark s.anchor h.0.0 h.0.1, h.0.1), tt)
-
-one-part : (now : List SegmentView) (i : ℕ) (s : SegmentView) → i < length now → s ≡ get_or now i s → slice_range now i (i + 1) ≡ s ∷ []
-one-part now i s lt is = let n : i + 1 - i ≡ 1 = omega arith in ap (λ k. take k (drop i now)) n ∙ ap (take 1) (around now i s lt is)
-
--- a block that has one segment alone, in which it becomes a checkpoint
-pub laid-alone : (x : Option Remains) (n i : ℕ) (ss now : List SegmentView) (s : SegmentView) → 0 < n → i < length now → laid_over x s ≡ get_or now i (laid_over x s) → ss ≡ opened (s ∷ [])
-    → map (laid_over x) (standing (replicate n false) 0 1 ss) ≡ opened (slice_range now i (i + 1))
-laid-alone x n i ss now s some lt is only =
-    ap (map (laid_over x)) (standing-own n 1 ss (ap length only)) ∙ ap (map (laid_over x)) only ∙ laid-opened x s ∙ ap opened (sym (one-part now i (laid_over x s) lt is))
-
-some-at : (xs : List SegmentView) (i : ℕ) → i < length xs → (s : SegmentView) × (s ≡ get_or xs i s)
-some-at [] i lt = absurd (omega arith)
-some-at (x ∷ xs) zero lt = (x, refl)
-some-at (x ∷ xs) (suc i) lt = some-at xs i (omega arith)
-
--- the segment at an index of all stands at another one in its block
-pub opened-first : (now block : List SegmentView) (i rest : ℕ) → i < length now → rest < length block → ((d : SegmentView) → get_or block rest d ≡ get_or now i d)
-    → opened (slice_range block rest (rest + 1)) ++ slice_range now (i + 1) (length now) ≡ opened (drop i now)
-opened-first now block i rest lt within same =
-    let found = some-at now i lt in
-    let s : SegmentView = found.0 in
-    let more : List SegmentView = slice_range now (i + 1) (length now) in
-    ap (λ ss. opened ss ++ more) (one-part block rest found.0 within (found.1 ∙ sym (same found.0)))
-    ∙ ap (λ ss. opened (found.0 ∷ []) ++ ss) (take-rest (i + 1) now)
-    ∙ ap opened (sym (around now i found.0 lt found.1))

@@ -1,6 +1,6 @@
 -- A replay that goes on beside an old one.
-use Rattle.std.proofs.Common.{◌≡◌, ℕ, ◌+◌, ◌-◌, ◌<◌, ◌≤◌, List, [], ◌∷◌, ◌++◌, length, take, drop, get_or, true, false, ap, sym, subst, ◌∙◌, arith, append_assoc, length-drop, take-append-drop}
-use Rattle.std.specs.Prelude.{Some, None, Option, is_some, IsTrue, Contains}
+use Rattle.std.proofs.Common.{◌≡◌, ℕ, ◌+◌, ◌-◌, ◌<◌, ◌≤◌, List, [], ◌∷◌, ◌++◌, length, take, drop, get_or, true, ap, sym, subst, ◌∙◌, arith, append_assoc, length-drop, take-append-drop}
+use Rattle.std.specs.Prelude.{Some, is_some, IsTrue, Contains}
 use mathlib.Core.Logic.{⊎_elim}
 use Rattle.std.proofs.lemmas.List.{drop-drop}
 use Rattle.std.proofs.lemmas.List.Elements.{Contains-append_cases}
@@ -10,14 +10,14 @@ use Rattle.trace_types.specs.Operation.{Operation}
 use Rattle.run_engine.specs.SegmentView.{SegmentView}
 use Rattle.trace_types.specs.Trace.{has_distinct_numbers}
 use Rattle.ownership_model.specs.Step.{end_from, AreUnused}
-use Rattle.run_engine.specs.Segments.{trace_of, mark_here, marks_from, first_of, kept_of, opened, AreReplayFrom, AreFull, BeginsMarked, IsRunFrom, IsRun, IsReached, all_marks}
+use Rattle.run_engine.specs.Segments.{trace_of, mark_here, marks_from, AreReplayFrom, AreFull, BeginsMarked, IsRunFrom, IsRun, IsReached, all_marks}
 use Rattle.run_engine.specs.HeadAndTail.{ShareEnd}
 use Rattle.run_engine.specs.Bounds.{AgreesAt, StepsAtMost}
 use Rattle.ownership_model.proofs.LawsHold.{appends}
 use Rattle.agreement.specs.Agreement.{Agree}
 use Rattle.run_engine.proofs.SegmentLemmas.{trace_of-append, marks_from-append, AreReplayFrom-append, AreReplayFrom-back, length-trace_of-next}
 use Rattle.run_engine.proofs.ListingLemmas.{around}
-use Rattle.run_engine.proofs.PieceLemmas.{AreFull-append, AreFull-front, AreFull-back, BeginsMarked-append, kept-is, trace_of-opened, AreReplayFrom-opened, AreFull-opened, unused-behind}
+use Rattle.run_engine.proofs.PieceLemmas.{AreFull-append, AreFull-front, AreFull-back, BeginsMarked-append, mark-is, unused-behind}
 use Rattle.run_engine.proofs.PlaceLemmas.{Contains-one, mark_here-place, mark_here-some, marks_from-least, trace_of-parted, trace_of-back, place-within, marks_from-below}
 
 pub ShareEnd-length : (old ops : List Operation) (a b : ℕ) → ShareEnd old ops a b → length old - a ≡ length ops - b
@@ -30,14 +30,6 @@ pub record IsBeside (old : List SegmentView) (ops : List Operation) (a b r befor
   pub order : x ≤ at - a + b
   pub rise : count + r ≤ before + x
   pub later : (p : ℕ) → Contains (all_marks old) p → a ≤ p → AgreesAt (trace_of old) ops a b p → Contains (marks_from at (drop i old) ++ length (trace_of old) ∷ []) p
-
--- where nothing is kept there is no checkpoint
-none-first : (o p : Option State) → None ≡ first_of o p → is_some o ≡ true → ⊥
-none-first None p e h = cc
-none-first (Some m) p e h = let f : false ≡ true = ap is_some e in cc
-
-pub nothing-kept : (s : SegmentView) → None ≡ kept_of s → is_some s.mark ≡ true → ⊥
-nothing-kept s none marked = none-first s.mark s.anchor none marked
 
 pub IsBeside-next : (old : List SegmentView) (ops : List Operation) (a b r before i at x : ℕ) (segments : List SegmentView) (heap : State) (count y : ℕ) (next : List SegmentView) (then : State) (counted : ℕ) (s : SegmentView)
     → IsBeside old ops a b r before i at x segments heap count → i < length old → s ≡ get_or old i s
@@ -83,41 +75,36 @@ bounded old ops a b r before i at x segments heap count counted h shared behind 
       stop = λ p mark le agrees. let least : at ≤ p = least-agreeing old ops a b r before i at x segments heap count h p mark le agrees in omega arith;
     }
 
--- the rest of the old run, from the kept heap of the segment i on
-pub IsRunFrom-back : (old : List SegmentView) (end heap : State) (i : ℕ) (s : SegmentView) → IsRun old end → i < length old → s ≡ get_or old i s → Some heap ≡ kept_of s → IsRunFrom heap (opened (drop i old)) end
-IsRunFrom-back old end heap i s run lt is kept =
-    let before : State = end_from nothing_held (trace_of (take i old)) in
-    let m : heap ≡ before = kept-is old i s heap run.replay lt is kept in
+-- the rest of the old run, from the checkpoint of the segment i on
+pub IsRunFrom-back : (old : List SegmentView) (end mark : State) (i : ℕ) (s : SegmentView) → IsRun old end → i < length old → s ≡ get_or old i s → Some mark ≡ s.mark → IsRunFrom mark (drop i old) end
+IsRunFrom-back old end mark i s run lt is marked =
+    let m : mark ≡ end_from nothing_held (trace_of (take i old)) = mark-is old i s mark run.replay lt is marked in
     let parts : take i old ++ drop i old ≡ old = take-append-drop i old in
     record {
-      replay = subst (λ n. AreReplayFrom n (opened (drop i old))) (sym m)
-          (AreReplayFrom-opened before (drop i old) (AreReplayFrom-back nothing_held (take i old) (drop i old) (subst (AreReplayFrom nothing_held) (sym parts) run.replay)));
-      full = AreFull-opened (drop i old) (AreFull-back (take i old) (drop i old) (subst AreFull (sym parts) run.full));
-      begins = subst (λ ss. BeginsMarked (opened ss)) (sym (around old i s lt is)) (ap is_some (sym kept));
-      state = run.state ∙ ap (end_from nothing_held) (sym (trace_of-parted old i)) ∙ appends.end nothing_held (trace_of (take i old)) (trace_of (drop i old)) ∙ ap (λ n. end_from n (trace_of (drop i old))) (sym m)
-          ∙ ap (end_from heap) (sym (trace_of-opened (drop i old)));
+      replay = subst (λ n. AreReplayFrom n (drop i old)) (sym m) (AreReplayFrom-back nothing_held (take i old) (drop i old) (subst (AreReplayFrom nothing_held) (sym parts) run.replay));
+      full = AreFull-back (take i old) (drop i old) (subst AreFull (sym parts) run.full);
+      begins = subst BeginsMarked (sym (around old i s lt is)) (ap is_some (sym marked));
+      state = run.state ∙ ap (end_from nothing_held) (sym (trace_of-parted old i)) ∙ appends.end nothing_held (trace_of (take i old)) (trace_of (drop i old)) ∙ ap (λ n. end_from n (trace_of (drop i old))) (sym m);
     }
 
 -- the edited trace ends with the operations of that rest
-pub rest-shared : (old : List SegmentView) (ops : List Operation) (a b i at : ℕ) → ShareEnd (trace_of old) ops a b → length (trace_of (take i old)) ≡ at → a ≤ at → trace_of (opened (drop i old)) ≡ drop (at - a + b) ops
+pub rest-shared : (old : List SegmentView) (ops : List Operation) (a b i at : ℕ) → ShareEnd (trace_of old) ops a b → length (trace_of (take i old)) ≡ at → a ≤ at → trace_of (drop i old) ≡ drop (at - a + b) ops
 rest-shared old ops a b i at shared place behind =
     let over : a + (at - a) ≡ at = omega arith in
     let across : b + (at - a) ≡ at - a + b = omega arith in
-    trace_of-opened (drop i old) ∙ trace_of-back old i at place ∙ ap (λ n. drop n (trace_of old)) (sym over) ∙ sym (drop-drop (at - a) a (trace_of old)) ∙ ap (drop (at - a)) shared.same ∙ drop-drop (at - a) b ops ∙ ap (λ n. drop n ops) across
+    trace_of-back old i at place ∙ ap (λ n. drop n (trace_of old)) (sym over) ∙ sym (drop-drop (at - a) a (trace_of old)) ∙ ap (drop (at - a)) shared.same ∙ drop-drop (at - a) b ops ∙ ap (λ n. drop n ops) across
 
 distinct-parted : (old : List SegmentView) (i : ℕ) → IsTrue (has_distinct_numbers (trace_of old)) → IsTrue (has_distinct_numbers (trace_of (take i old) ++ trace_of (drop i old)))
 distinct-parted old i distinct = subst (λ ops. IsTrue (has_distinct_numbers ops)) (sym (trace_of-parted old i)) distinct
 
-pub distinct-back : (old : List SegmentView) (i : ℕ) → IsTrue (has_distinct_numbers (trace_of old)) → IsTrue (has_distinct_numbers (trace_of (opened (drop i old))))
-distinct-back old i distinct =
-    subst (λ ops. IsTrue (has_distinct_numbers ops)) (sym (trace_of-opened (drop i old))) (appends.distinct_rest (trace_of (take i old)) (trace_of (drop i old)) (distinct-parted old i distinct))
+pub distinct-back : (old : List SegmentView) (i : ℕ) → IsTrue (has_distinct_numbers (trace_of old)) → IsTrue (has_distinct_numbers (trace_of (drop i old)))
+distinct-back old i distinct = appends.distinct_rest (trace_of (take i old)) (trace_of (drop i old)) (distinct-parted old i distinct)
 
--- those of the rest of the old run are unused at its kept heap, and where the new replay goes on
-pub old-unused : (old : List SegmentView) (end heap : State) (i : ℕ) (s : SegmentView) → IsRun old end → IsTrue (has_distinct_numbers (trace_of old)) → i < length old → s ≡ get_or old i s → Some heap ≡ kept_of s
-    → AreUnused heap (trace_of (opened (drop i old)))
-old-unused old end heap i s run distinct lt is kept =
-    subst (AreUnused heap) (sym (trace_of-opened (drop i old)))
-    (subst (λ m. AreUnused m (trace_of (drop i old))) (sym (kept-is old i s heap run.replay lt is kept)) (unused-behind (trace_of (take i old)) (trace_of (drop i old)) (distinct-parted old i distinct)))
+-- those of the rest of the old run are unused at its checkpoint, and where the new replay goes on
+pub old-unused : (old : List SegmentView) (end mark : State) (i : ℕ) (s : SegmentView) → IsRun old end → IsTrue (has_distinct_numbers (trace_of old)) → i < length old → s ≡ get_or old i s → Some mark ≡ s.mark
+    → AreUnused mark (trace_of (drop i old))
+old-unused old end mark i s run distinct lt is marked =
+    subst (λ m. AreUnused m (trace_of (drop i old))) (sym (mark-is old i s mark run.replay lt is marked)) (unused-behind (trace_of (take i old)) (trace_of (drop i old)) (distinct-parted old i distinct))
 
 pub new-unused : (ops : List Operation) (x : ℕ) (segments rest : List SegmentView) (heap : State) → IsReached ops x segments heap → IsTrue (has_distinct_numbers ops) → trace_of rest ≡ drop x ops → AreUnused heap (trace_of rest)
 new-unused ops x segments rest heap h distinct back =

@@ -1,6 +1,6 @@
 -- The checkpoints that a replay leaves, and those that are due.
 use Rattle.std.proofs.Common.{◌≡◌, ℕ, ◌+◌, ◌-◌, ◌<◌, ◌≤◌, Bool, true, false, cond, nat_lt, ltb→lt, List, [], ◌∷◌, ◌++◌, length, refl, ap, sym, subst, ◌∙◌, T, arith, append_assoc}
-use Rattle.std.specs.Prelude.{take, ◌&&◌, nat_le, map, filter, fold, IsTrue, Contains}
+use Rattle.std.specs.Prelude.{Some, take, get_or, ◌&&◌, nat_le, map, filter, fold, IsTrue, Contains}
 use Rattle.std.proofs.lemmas.Bool.{le-leb, lt-leb}
 use Rattle.std.proofs.lemmas.List.{append-nil}
 use Rattle.std.proofs.lemmas.List.Elements.{filter-append}
@@ -181,17 +181,17 @@ AreMarksDue-restart guesses segments front end heap ops new head tail i at s t f
     (record { head = head; tail = tail; stop = here.stop; shared = shared; restart = h.greatest; marks = here.marks; to_is = refl }) refl
 
 -- after a stop at the segment i, which begins at `at`
-pub left-at-stop : (guesses : List Chunk) (old : List SegmentView) (ops : List Operation) (kept marks new : List ℕ) (a b i at r x : ℕ) (s t u : Shelf) (f g h : ℕ → Bool) → IsTrue (has_distinct_numbers ops)
-    → length (trace_of (take i old)) ≡ at → a ≤ at
+pub left-at-stop : (guesses : List Chunk) (old : List SegmentView) (ops : List Operation) (kept marks new : List ℕ) (a b i at r x : ℕ) (sg : SegmentView) (m : State) (s t u : Shelf) (f g h : ℕ → Bool) → IsTrue (has_distinct_numbers ops)
+    → i < length old → sg ≡ get_or old i sg → sg.mark ≡ Some m → length (trace_of (take i old)) ≡ at → a ≤ at
     → AgreesAt (trace_of old) ops a b at → ((p : ℕ) → Contains (all_marks old) p → a ≤ p → AgreesAt (trace_of old) ops a b p → at ≤ p)
     → x ≡ at - a + b → IsOnward ops (reusable_in guesses old) r x kept marks s t f g → AreAnswered t u (names_at ops (x ∷ [])) g h → new ≡ marks ++ from-stop old a b at
     → AreMarksLeft (trace_of old) ops kept (reusable_in guesses old) new r a b s u f h
 unfolding AreMarksOf-stop
-left-at-stop guesses old ops kept marks new a b i at r x s t u f g h distinct place behind agrees first there on last whole =
+left-at-stop guesses old ops kept marks new a b i at r x sg m s t u f g h distinct lt is mark place behind agrees first there on last whole =
     let here : IsOnward ops (reusable_in guesses old) r (at - a + b) kept marks s t f g = subst (λ y. IsOnward ops (reusable_in guesses old) r y kept marks s t f g) there on in
     AreMarksLeft-stop (trace_of old) ops (reusable_in guesses old) kept marks (from-stop old a b at) new r a b at (at - a + b) s t u f g h distinct here
     (subst (λ y. AreAnswered t u (names_at ops (y ∷ [])) g h) there last) whole
-    (AreMarksOf-stop guesses old ops kept (kept ++ here.more) a b i at r place behind agrees first (laid-all ops (reusable_in guesses old) kept marks r (at - a + b) s t f g here)) refl
+    (AreMarksOf-stop guesses old ops kept (kept ++ here.more) a b i at r sg lt is m mark place behind agrees first (laid-all ops (reusable_in guesses old) kept marks r (at - a + b) s t f g here)) refl
 
 -- with no stop
 pub left-at-end : (guesses : List Chunk) (old : List SegmentView) (ops : List Operation) (kept marks new : List ℕ) (a b r x : ℕ) (s t : Shelf) (f g : ℕ → Bool) → IsTrue (has_distinct_numbers ops)

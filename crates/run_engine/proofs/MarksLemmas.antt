@@ -1,21 +1,21 @@
 -- The checkpoints of an edited trace.
-use Rattle.std.proofs.Common.{IsTrue, is_some, add-zero, zero, suc, Bool, true, false, cond, nat_lt, le-ltb, lt-ltb}
+use Rattle.std.proofs.Common.{IsTrue, IfSome, is_some, add-zero, zero, suc, Bool, true, false, cond, nat_lt, le-ltb, lt-ltb}
 use Rattle.run_engine.proofs.SegmentLemmas.{trace_of-append}
 use Rattle.std.proofs.Common.{◌≡◌, ℕ, ◌+◌, ◌-◌, ◌<◌, ◌≤◌, List, [], ◌∷◌, ◌++◌, length, take, drop, get_or, refl, ap, sym, subst, ◌∙◌, arith, append_assoc, length-append, take-append-drop}
-use Rattle.std.specs.Prelude.{Some, None, Option, map, filter, Contains, ◌⊎◌}
+use Rattle.std.specs.Prelude.{Some, None, Option, map, filter, Contains}
 use Rattle.std.proofs.lemmas.List.{append-nil, take_more, map-append, length-take, drop-drop}
 use mathlib.Core.Logic.{⊎_elim, inl, inr}
 use Rattle.std.proofs.lemmas.List.Elements.{Contains-append_cases, Contains-append_right, filter-append}
 use Rattle.ownership_model.specs.State.{State}
 use Rattle.trace_types.specs.Operation.{Operation}
 use Rattle.run_engine.specs.SegmentView.{SegmentView}
-use Rattle.run_engine.specs.Segments.{ops_of, trace_of, mark_here, marks_from, all_marks, kept_of, opened, AreFull, BeginsMarked, IsRun, IsReached}
+use Rattle.run_engine.specs.Segments.{ops_of, trace_of, mark_here, marks_from, all_marks, AreFull, BeginsMarked, IsRun, IsReached}
 use Rattle.run_engine.specs.HeadAndTail.{ShareEnd}
 use Rattle.run_engine.specs.Bounds.{AgreesAt}
 use Rattle.op_step.specs.Chunk.{Chunk}
 use Rattle.run_engine.specs.Guesses.{Reusable}
 use Rattle.run_engine.specs.OldRun.{reusable_in}
-use Rattle.run_engine.specs.NewMarks.{IsGap, IsFirstPart, LeadTo, AreLaid, AreMarksOf}
+use Rattle.run_engine.specs.NewMarks.{IsGap, AreNeighbours, LeadTo, AreLaid, AreMarksOf}
 use Rattle.run_engine.proofs.SegmentLemmas.{marks_from-append, length-trace_of-next}
 use Rattle.run_engine.proofs.ListingLemmas.{around}
 use Rattle.run_engine.proofs.PieceLemmas.{AreFull-front, AreFull-back, mark-is}
@@ -23,7 +23,7 @@ use Rattle.std.proofs.Math.Seq.{take-append_seam, drop-append_seam}
 use Rattle.ownership_model.specs.State.{nothing_held}
 use Rattle.ownership_model.specs.Step.{end_from}
 use Rattle.run_engine.specs.Steps.{IsOldStretch, AreRising}
-use Rattle.run_engine.proofs.PlaceLemmas.{marks-around, mark_here-place, all-within, place-within, Contains-one, marks_from-least, marks_from-below}
+use Rattle.run_engine.proofs.PlaceLemmas.{marks-at, mark-there, end-mark, all-within, place-within, Contains-one, marks_from-least, marks_from-below}
 use Rattle.run_engine.proofs.ConvergeLemmas.{ShareEnd-length}
 
 -- a test that no position passes, and one that each passes
@@ -61,10 +61,10 @@ after-least : (at n : ℕ) (segments : List SegmentView) (p : ℕ) → at ≤ n 
 after-least at n segments p fits h =
     ⊎_elim (λ x. marks_from-least at segments p x) (λ x. let e : n ≡ p = Contains-one n p x in omega arith) (Contains-append_cases (marks_from at segments) (n ∷ []) p h)
 
--- those behind where the segment i begins, at `at`
-pub above-stop : (old : List SegmentView) (i at : ℕ) (s : SegmentView) → AreFull old → i < length old → s ≡ get_or old i s → length (trace_of (take i old)) ≡ at
+-- those behind the checkpoint of the segment i, which begins at `at`
+pub above-stop : (old : List SegmentView) (i at : ℕ) (s : SegmentView) (m : State) → AreFull old → i < length old → s ≡ get_or old i s → s.mark ≡ Some m → length (trace_of (take i old)) ≡ at
     → filter (λ p. nat_lt at p) (all_marks old) ≡ marks_from (at + length (ops_of s)) (drop (i + 1) old) ++ length (trace_of old) ∷ []
-above-stop old i at s full lt is place =
+above-stop old i at s m full lt is mark place =
     let n : ℕ = length (trace_of old) in
     let test : ℕ → Bool = λ p. nat_lt at p in
     let later : List ℕ = marks_from (at + length (ops_of s)) (drop (i + 1) old) ++ n ∷ [] in
@@ -73,12 +73,11 @@ above-stop old i at s full lt is place =
     let back : AreFull (s ∷ drop (i + 1) old) = subst AreFull (around old i s lt is) (AreFull-back (take i old) (drop i old) whole) in
     let some : 0 < length (ops_of s) = back.0 in
     let fits : at + length (ops_of s) ≤ n = place-within old (i + 1) (at + length (ops_of s)) (length-trace_of-next old i s lt is ∙ ap (λ x. x + length (ops_of s)) place) in
-    ap (filter test) (marks-around old i at s lt is place)
-    ∙ filter-append test (marks_from 0 (take i old)) (mark_here at s.mark ++ later)
-    ∙ ap (λ ps. ps ++ filter test (mark_here at s.mark ++ later)) (none-pass test (marks_from 0 (take i old))
+    ap (filter test) (marks-at old i at s m lt is mark place)
+    ∙ filter-append test (marks_from 0 (take i old)) (at ∷ later)
+    ∙ ap (λ ps. ps ++ filter test (at ∷ later)) (none-pass test (marks_from 0 (take i old))
     (λ p k. let before : p < 0 + length (trace_of (take i old)) = marks_from-below 0 (take i old) p front k in let le : p ≤ at = omega arith in le-ltb at p le))
-    ∙ filter-append test (mark_here at s.mark) later
-    ∙ ap (λ ps. ps ++ filter test later) (none-pass test (mark_here at s.mark) (λ p k. let e : p ≡ at = mark_here-place at p s.mark k in let le : p ≤ at = omega arith in le-ltb at p le))
+    ∙ ap (λ b. cond b (at ∷ filter test later) (filter test later)) (le-ltb at at (omega arith))
     ∙ all-pass test later (λ p k. let least : at + length (ops_of s) ≤ p = after-least (at + length (ops_of s)) n (drop (i + 1) old) p fits k in let less : at < p = omega arith in lt-ltb at p less)
 
 -- none is behind the end
@@ -89,38 +88,37 @@ above-end old = none-pass (λ p. nat_lt (length (trace_of old)) p) (all_marks ol
 abbrev pub from-stop : List SegmentView → ℕ → ℕ → ℕ → List ℕ
 from-stop old a b at = (at - a + b) ∷ map (λ p. p - a + b) (filter (λ p. nat_lt at p) (all_marks old))
 
--- where the old run goes on at the segment i, which begins at `at`, and the state there is kept
+-- where the old run goes on at the segment i, which begins at `at`
 pub all_marks-stop : (old segments : List SegmentView) (ops : List Operation) (a b i at : ℕ) (s : SegmentView)
-    → AreFull old → ShareEnd (trace_of old) ops a b → i < length old → s ≡ get_or old i s → (m : State) → kept_of s ≡ Some m → length (trace_of (take i old)) ≡ at → a ≤ at
-    → length (trace_of segments) ≡ at - a + b → trace_of (segments ++ opened (drop i old)) ≡ ops → all_marks (segments ++ opened (drop i old)) ≡ marks_from 0 segments ++ from-stop old a b at
-all_marks-stop old segments ops a b i at s full shared lt is m kept place behind long trace =
-    let rest : List SegmentView = opened (drop i old) in
+    → AreFull old → ShareEnd (trace_of old) ops a b → i < length old → s ≡ get_or old i s → (m : State) → s.mark ≡ Some m → length (trace_of (take i old)) ≡ at → a ≤ at
+    → length (trace_of segments) ≡ at - a + b → trace_of (segments ++ drop i old) ≡ ops → all_marks (segments ++ drop i old) ≡ marks_from 0 segments ++ from-stop old a b at
+all_marks-stop old segments ops a b i at s full shared lt is m mark place behind long trace =
     let n : ℕ = length (trace_of old) in
     let later : List ℕ = marks_from (at + length (ops_of s)) (drop (i + 1) old) ++ n ∷ [] in
     let moved : List ℕ → List ℕ = map (λ p. p - a + b) in
-    let list : marks_from at rest ++ n ∷ [] ≡ at ∷ later =
-    ap (λ ss. marks_from at (opened ss) ++ n ∷ []) (around old i s lt is) ∙ ap (λ o. (mark_here at o ++ marks_from (at + length (ops_of s)) (drop (i + 1) old)) ++ n ∷ []) kept in
+    let list : marks_from at (drop i old) ++ n ∷ [] ≡ at ∷ later =
+    ap (λ ss. marks_from at ss ++ n ∷ []) (around old i s lt is) ∙ ap (λ o. (mark_here at o ++ marks_from (at + length (ops_of s)) (drop (i + 1) old)) ++ n ∷ []) mark in
     let zero_front : 0 + length (trace_of segments) ≡ at - a + b = omega arith in
     let fits : at ≤ n = place-within old i at place in
     let across = ShareEnd-length (trace_of old) ops a b shared in
-    let last : length (trace_of (segments ++ rest)) ≡ n - a + b = ap length trace ∙ omega (arith, shared.old_within, shared.within) in
-    ap (λ l. marks_from 0 (segments ++ rest) ++ l ∷ []) last
-    ∙ ap (λ ps. ps ++ (n - a + b) ∷ []) (marks_from-append 0 segments rest ∙ ap (λ p. marks_from 0 segments ++ marks_from p rest) zero_front)
-    ∙ append_assoc (marks_from 0 segments) (marks_from (at - a + b) rest) ((n - a + b) ∷ [])
-    ∙ ap (λ ps. marks_from 0 segments ++ (ps ++ (n - a + b) ∷ [])) (marks_from-moved a b at rest behind)
-    ∙ ap (λ ps. marks_from 0 segments ++ ps) (sym (map-append (λ p. p - a + b) (marks_from at rest) (n ∷ [])) ∙ ap moved list)
-    ∙ ap (λ ps. marks_from 0 segments ++ (at - a + b) ∷ moved ps) (sym (above-stop old i at s full lt is place))
+    let last : length (trace_of (segments ++ drop i old)) ≡ n - a + b = ap length trace ∙ omega (arith, shared.old_within, shared.within) in
+    ap (λ l. marks_from 0 (segments ++ drop i old) ++ l ∷ []) last
+    ∙ ap (λ ps. ps ++ (n - a + b) ∷ []) (marks_from-append 0 segments (drop i old) ∙ ap (λ p. marks_from 0 segments ++ marks_from p (drop i old)) zero_front)
+    ∙ append_assoc (marks_from 0 segments) (marks_from (at - a + b) (drop i old)) ((n - a + b) ∷ [])
+    ∙ ap (λ ps. marks_from 0 segments ++ (ps ++ (n - a + b) ∷ [])) (marks_from-moved a b at (drop i old) behind)
+    ∙ ap (λ ps. marks_from 0 segments ++ ps) (sym (map-append (λ p. p - a + b) (marks_from at (drop i old)) (n ∷ [])) ∙ ap moved list)
+    ∙ ap (λ ps. marks_from 0 segments ++ (at - a + b) ∷ moved ps) (sym (above-stop old i at s m full lt is mark place))
 
 -- after a stop at the segment i, which begins at `at`
-unfoldable pub AreMarksOf-stop : (guesses : List Chunk) (old : List SegmentView) (ops : List Operation) (kept all : List ℕ) (a b i at r : ℕ)
-    → length (trace_of (take i old)) ≡ at → a ≤ at
+unfoldable pub AreMarksOf-stop : (guesses : List Chunk) (old : List SegmentView) (ops : List Operation) (kept all : List ℕ) (a b i at r : ℕ) (s : SegmentView)
+    → i < length old → s ≡ get_or old i s → (m : State) → s.mark ≡ Some m → length (trace_of (take i old)) ≡ at → a ≤ at
     → AgreesAt (trace_of old) ops a b at → ((p : ℕ) → Contains (all_marks old) p → a ≤ p → AgreesAt (trace_of old) ops a b p → at ≤ p)
     → AreLaid (reusable_in guesses old) kept r (at - a + b) all → AreMarksOf (trace_of old) ops kept (reusable_in guesses old) (all ++ from-stop old a b at) r a b at
-AreMarksOf-stop guesses old ops kept all a b i at r place behind agrees first laid =
+AreMarksOf-stop guesses old ops kept all a b i at r s lt is m mark place behind agrees first laid =
     let later : List ℕ = map (λ p. p - a + b) (filter (λ p. nat_lt at p) (all_marks old)) in
     record {
       fresh = laid.fresh;
-      stop_is = record { within = place-within old i at place; behind = behind; agrees = inl agrees; first = first };
+      stop_is = record { mark = mark-there old i at s m lt is mark place; behind = behind; agrees = inl agrees; first = first };
       lead = laid.lead;
       new_is = sym (append_assoc all ((at - a + b) ∷ []) later) ∙ ap (λ ps. ps ++ later) laid.laid ∙ append_assoc kept (r ∷ laid.fresh) later;
     }
@@ -144,7 +142,7 @@ AreMarksOf-end guesses old ops kept all a b r shared first laid =
     let last : length ops ≡ n - a + b = omega (arith, shared.old_within, shared.within) in
     record {
       fresh = laid.fresh;
-      stop_is = record { within = omega arith; behind = shared.old_within; agrees = inr refl; first = first };
+      stop_is = record { mark = end-mark old; behind = shared.old_within; agrees = inr refl; first = first };
       lead = subst (LeadTo (reusable_in guesses old) r laid.fresh) last laid.lead;
       new_is = laid.laid ∙ ap (λ ps. kept ++ r ∷ ps) (sym (append-nil laid.fresh)) ∙ ap (λ ps. kept ++ r ∷ (laid.fresh ++ moved ps)) (sym (above-end old));
     }
@@ -171,68 +169,42 @@ below-restart segments i at full stands =
     ∙ ap (λ ps. marks_from 0 (take i segments) ++ ps) (none-pass test rest (λ p k. le-ltb p at (after-least at n (drop i segments) p fits k)))
     ∙ append-nil (marks_from 0 (take i segments))
 
--- where segments that begin at `at` have their first checkpoint, or where they end, at n
-record HasNext (at : ℕ) (segments : List SegmentView) (n : ℕ) : Type 0 where
-  gap : ℕ
-  after : List ℕ
-  is : marks_from at segments ++ n ∷ [] ≡ (at + gap) ∷ after
-  first : BeginsMarked segments → gap ≡ 0
+abbrev pub first-mark : (at : ℕ) (c : List SegmentView) → BeginsMarked c → List ℕ
+first-mark at [] h = []
+first-mark at (t ∷ c) h = marks_from (at + length (ops_of t)) c ++ (at + length (trace_of (t ∷ c))) ∷ []
 
-next-behind : (at n : ℕ) (s : SegmentView) (segments : List SegmentView) (o : Option State) → s.mark ≡ o → HasNext (at + length (ops_of s)) segments n → HasNext at (s ∷ segments) n
-next-behind at n s segments None e h =
-    let place : at + length (ops_of s) + h.gap ≡ at + (length (ops_of s) + h.gap) = omega arith in
-    record {
-      gap = length (ops_of s) + h.gap;
-      after = h.after;
-      is = ap (λ o. (mark_here at o ++ marks_from (at + length (ops_of s)) segments) ++ n ∷ []) e ∙ h.is ∙ ap (λ p. p ∷ h.after) place;
-      first = λ begins. let none : IsTrue false = subst (λ o. IsTrue (is_some o)) e begins in cc;
-    }
-next-behind at n s segments (Some m) e h = record {
-  gap = 0;
-  after = marks_from (at + length (ops_of s)) segments ++ n ∷ [];
-  is = ap (λ o. (mark_here at o ++ marks_from (at + length (ops_of s)) segments) ++ n ∷ []) e ∙ ap (λ p. p ∷ (marks_from (at + length (ops_of s)) segments ++ n ∷ [])) (sym (add-zero at));
-  first = λ begins. refl;
-}
+mark_here-is : (at : ℕ) (o : Option State) → IsTrue (is_some o) → mark_here at o ≡ at ∷ []
+mark_here-is at None h = cc
+mark_here-is at (Some m) h = refl
 
-has-next : (at n : ℕ) (segments : List SegmentView) → n ≡ at + length (trace_of segments) → HasNext at segments n
-has-next at n [] e = record { gap = 0; after = []; is = ap (λ p. p ∷ []) e; first = λ begins. refl }
-has-next at n (s ∷ segments) e =
-    let later : n ≡ at + length (ops_of s) + length (trace_of segments) = omega (arith, e, length-append (ops_of s) (trace_of segments)) in
-    next-behind at n s segments s.mark refl (has-next (at + length (ops_of s)) n segments later)
+first-mark-is : (at : ℕ) (c : List SegmentView) (h : BeginsMarked c) → marks_from at c ++ (at + length (trace_of c)) ∷ [] ≡ at ∷ first-mark at c h
+first-mark-is at [] h = ap (λ n. n ∷ []) (add-zero at)
+first-mark-is at (t ∷ c) h = ap (λ ps. (ps ++ marks_from (at + length (ops_of t)) c) ++ (at + length (trace_of (t ∷ c))) ∷ []) (mark_here-is at t.mark h)
 
--- a stretch from a checkpoint to the next, or the first of one with more operations, of which there are at least 64
-pub stretch-part : (a b c : List SegmentView) (s : SegmentView) (m : State) (len : ℕ) → s.mark ≡ Some m → ((at : ℕ) → marks_from at b ≡ []) → length (trace_of (s ∷ b)) ≡ len → (BeginsMarked c ⊎ (64 ≤ len))
-    → IsFirstPart (all_marks (a ++ ((s ∷ b) ++ c))) len
-stretch-part a b c s m len mark bare long whole =
+-- a stretch from a checkpoint to the next
+pub stretch-neighbours : (a b c : List SegmentView) (s : SegmentView) (m : State) (len : ℕ) → s.mark ≡ Some m → ((at : ℕ) → marks_from at b ≡ []) → length (trace_of (s ∷ b)) ≡ len → BeginsMarked c
+    → AreNeighbours (all_marks (a ++ ((s ∷ b) ++ c))) len
+stretch-neighbours a b c s m len mark bare long begins =
     let p : ℕ = 0 + length (trace_of a) in
     let n : ℕ = length (trace_of (a ++ ((s ∷ b) ++ c))) in
-    let all : length (trace_of (a ++ ((s ∷ b) ++ c))) ≡ 0 + length (trace_of a) + len + length (trace_of c) =
+    let whole : length (trace_of (a ++ ((s ∷ b) ++ c))) ≡ 0 + length (trace_of a) + len + length (trace_of c) =
     ap length (trace_of-append a ((s ∷ b) ++ c) ∙ ap (λ t. trace_of a ++ t) (trace_of-append (s ∷ b) c))
     ∙ omega (arith, length-append (trace_of a) (trace_of (s ∷ b) ++ trace_of c), length-append (trace_of (s ∷ b)) (trace_of c)) in
     let own : marks_from p (s ∷ b) ≡ p ∷ [] = ap (λ o. mark_here p o ++ marks_from (p + length (ops_of s)) b) mark ∙ ap (λ ps. p ∷ ps) (bare (p + length (ops_of s))) in
-    let next : HasNext (p + len) c n = has-next (p + len) n c all in
-    let place : p + len + next.gap ≡ p + (len + next.gap) = omega arith in
     record {
-      long = len + next.gap;
-      neighbours = record {
-        before = marks_from 0 a;
-        after = next.after;
-        at = p;
-        marks_are = ap (λ ps. ps ++ n ∷ []) (marks_from-append 0 a ((s ∷ b) ++ c) ∙ ap (λ ps. marks_from 0 a ++ ps) (marks_from-append p (s ∷ b) c ∙ ap (λ ps. ps ++ marks_from (p + length (trace_of (s ∷ b))) c) own ∙ ap (λ l. p ∷ marks_from (p + l) c) long))
-            ∙ append_assoc (marks_from 0 a) (p ∷ marks_from (p + len) c) (n ∷ [])
-            ∙ ap (λ ps. marks_from 0 a ++ (p ∷ ps)) (next.is ∙ ap (λ q. q ∷ next.after) place);
-      };
-      within = omega arith;
-      whole = λ few. ⊎_elim
-          (λ (begins : BeginsMarked c). let none : next.gap ≡ 0 = next.first begins in omega arith)
-          (λ (many : 64 ≤ len). omega arith)
-          whole;
+      before = marks_from 0 a;
+      after = first-mark (p + len) c begins;
+      at = p;
+      marks_are = ap (λ ps. ps ++ n ∷ []) (marks_from-append 0 a ((s ∷ b) ++ c) ∙ ap (λ ps. marks_from 0 a ++ ps) (marks_from-append p (s ∷ b) c ∙ ap (λ ps. ps ++ marks_from (p + length (trace_of (s ∷ b))) c) own ∙ ap (λ l. p ∷ marks_from (p + l) c) long))
+          ∙ append_assoc (marks_from 0 a) (p ∷ marks_from (p + len) c) (n ∷ [])
+          ∙ ap (λ l. marks_from 0 a ++ (p ∷ (marks_from (p + len) c ++ l ∷ []))) whole
+          ∙ ap (λ ps. marks_from 0 a ++ (p ∷ ps)) (first-mark-is (p + len) c begins);
     }
 
-pub old-part : (old : List SegmentView) (i k : ℕ) (s : SegmentView) (heap : State) (ops : List Operation) (len : ℕ)
+pub old-neighbours : (old : List SegmentView) (i k : ℕ) (s : SegmentView) (heap : State) (ops : List Operation) (len : ℕ)
     → i < length old → s ≡ get_or old i s → s.mark ≡ Some heap → ((at : ℕ) → marks_from at (take k (drop (i + 1) old)) ≡ [])
-    → len ≤ length ops → trace_of (take (suc k) (drop i old)) ≡ take len ops → (BeginsMarked (drop (i + suc k) old) ⊎ (64 ≤ len)) → IsFirstPart (all_marks old) len
-old-part old i k s heap ops len lt is mark bare fits same whole =
+    → len ≤ length ops → trace_of (take (suc k) (drop i old)) ≡ take len ops → BeginsMarked (drop (i + suc k) old) → AreNeighbours (all_marks old) len
+old-neighbours old i k s heap ops len lt is mark bare fits same begins =
     let b : List SegmentView = take k (drop (i + 1) old) in
     let c : List SegmentView = drop k (drop (i + 1) old) in
     let here : drop i old ≡ s ∷ drop (i + 1) old = around old i s lt is in
@@ -241,7 +213,14 @@ old-part old i k s heap ops len lt is mark bare fits same whole =
     let long : length (trace_of (s ∷ b)) ≡ len = ap (λ ss. length (trace_of ss)) (sym stretch) ∙ ap length same ∙ omega (arith, length-take len ops) in
     let j : i + 1 + k ≡ i + suc k = omega arith in
     let rest : drop k (drop (i + 1) old) ≡ drop (i + suc k) old = drop-drop k (i + 1) old ∙ ap (λ n. drop n old) j in
-    subst (λ ss. IsFirstPart (all_marks ss) len) parts (stretch-part (take i old) b c s heap len mark bare long (subst (λ ss. BeginsMarked ss ⊎ (64 ≤ len)) (sym rest) whole))
+    subst (λ ss. AreNeighbours (all_marks ss) len) parts (stretch-neighbours (take i old) b c s heap len mark bare long (subst BeginsMarked (sym rest) begins))
+
+pub IfSome-begins : (segments : List SegmentView) (j : ℕ) (s : SegmentView) → j < length segments → s ≡ get_or segments j s → IfSome s.mark (λ h. BeginsMarked (drop j segments))
+IfSome-begins segments j s lt is = go s.mark refl
+  where
+    go : (o : Option State) → s.mark ≡ o → IfSome o (λ h. BeginsMarked (drop j segments))
+    go None e = tt
+    go (Some m) e = subst BeginsMarked (sym (around segments j s lt is)) (ap is_some e)
 
 pub marks_from-next : (segments : List SegmentView) (j : ℕ) (s : SegmentView) (at : ℕ) → j < length segments → s ≡ get_or segments j s → at ≡ length (trace_of (take j segments))
     → marks_from 0 (take (j + 1) segments) ≡ marks_from 0 (take j segments) ++ mark_here at s.mark
@@ -260,16 +239,16 @@ pub mark_here-marked : (at : ℕ) (o : Option State) → is_some o ≡ true → 
 mark_here-marked at None e = cc
 mark_here-marked at (Some m) e = refl
 
--- such a stretch is one of the old trace
-stretch-old : (a b c : List SegmentView) (s : SegmentView) (m : State) (ops : List Operation) (len : ℕ) → s.mark ≡ Some m → ((at : ℕ) → marks_from at b ≡ []) → length (trace_of (s ∷ b)) ≡ len → (BeginsMarked c ⊎ (64 ≤ len))
+-- a stretch from a checkpoint to the next is one of the old trace
+stretch-old : (a b c : List SegmentView) (s : SegmentView) (m : State) (ops : List Operation) (len : ℕ) → s.mark ≡ Some m → ((at : ℕ) → marks_from at b ≡ []) → length (trace_of (s ∷ b)) ≡ len → BeginsMarked c
     → m ≡ end_from nothing_held (trace_of a) → trace_of (s ∷ b) ≡ take len ops → IsOldStretch (trace_of (a ++ ((s ∷ b) ++ c))) (all_marks (a ++ ((s ∷ b) ++ c))) m ops len
-unfolding stretch-part
-stretch-old a b c s m ops len mark bare long whole_or is same =
+unfolding stretch-neighbours
+stretch-old a b c s m ops len mark bare long begins is same =
     let rest : List Operation = trace_of ((s ∷ b) ++ c) in
     let place : 0 + length (trace_of a) ≡ length (trace_of a) = omega arith in
     let whole : trace_of (a ++ ((s ∷ b) ++ c)) ≡ trace_of a ++ rest = trace_of-append a ((s ∷ b) ++ c) in
     record {
-      place = stretch-part a b c s m len mark bare long whole_or;
+      place = stretch-neighbours a b c s m len mark bare long begins;
       start_is = is ∙ ap (end_from nothing_held) (sym (ap (take (0 + length (trace_of a))) whole ∙ ap (λ n. take n (trace_of a ++ rest)) place ∙ take-append_seam (trace_of a) rest));
       ops_are = ap (take len) (ap (drop (0 + length (trace_of a))) whole ∙ ap (λ n. drop n (trace_of a ++ rest)) place ∙ drop-append_seam (trace_of a) rest ∙ trace_of-append (s ∷ b) c)
           ∙ ap (λ n. take n (trace_of (s ∷ b) ++ trace_of c)) (sym long) ∙ take-append_seam (trace_of (s ∷ b)) (trace_of c) ∙ same;
@@ -277,8 +256,8 @@ stretch-old a b c s m ops len mark bare long whole_or is same =
 
 pub old-stretch-is : (old : List SegmentView) (end : State) (i k : ℕ) (s : SegmentView) (heap : State) (ops : List Operation) (len : ℕ)
     → IsRun old end → i < length old → s ≡ get_or old i s → s.mark ≡ Some heap → ((at : ℕ) → marks_from at (take k (drop (i + 1) old)) ≡ [])
-    → len ≤ length ops → trace_of (take (suc k) (drop i old)) ≡ take len ops → (BeginsMarked (drop (i + suc k) old) ⊎ (64 ≤ len)) → IsOldStretch (trace_of old) (all_marks old) heap ops len
-old-stretch-is old end i k s heap ops len run lt is mark bare fits same whole =
+    → len ≤ length ops → trace_of (take (suc k) (drop i old)) ≡ take len ops → BeginsMarked (drop (i + suc k) old) → IsOldStretch (trace_of old) (all_marks old) heap ops len
+old-stretch-is old end i k s heap ops len run lt is mark bare fits same begins =
     let b : List SegmentView = take k (drop (i + 1) old) in
     let c : List SegmentView = drop k (drop (i + 1) old) in
     let here : drop i old ≡ s ∷ drop (i + 1) old = around old i s lt is in
@@ -288,7 +267,7 @@ old-stretch-is old end i k s heap ops len run lt is mark bare fits same whole =
     let j : i + 1 + k ≡ i + suc k = omega arith in
     let rest : drop k (drop (i + 1) old) ≡ drop (i + suc k) old = drop-drop k (i + 1) old ∙ ap (λ n. drop n old) j in
     subst (λ ss. IsOldStretch (trace_of ss) (all_marks ss) heap ops len) parts
-    (stretch-old (take i old) b c s heap ops len mark bare long (subst (λ ss. BeginsMarked ss ⊎ (64 ≤ len)) (sym rest) whole) (mark-is old i s heap run.replay lt is (sym mark)) (ap trace_of (sym stretch) ∙ same))
+    (stretch-old (take i old) b c s heap ops len mark bare long (subst BeginsMarked (sym rest) begins) (mark-is old i s heap run.replay lt is (sym mark)) (ap trace_of (sym stretch) ∙ same))
 
 rising-earlier : (a b to : ℕ) (ps : List ℕ) → a ≤ b → AreRising b to ps → AreRising a to ps
 rising-earlier a b to [] le h = tt

@@ -55,28 +55,20 @@ place-within old i at e =
     let whole : length (trace_of old) ≡ length (trace_of (take i old) ++ trace_of (drop i old)) = ap length (ap trace_of (sym (take-append-drop i old)) ∙ trace_of-append (take i old) (drop i old)) in
     omega (arith, length-append (trace_of (take i old)) (trace_of (drop i old)))
 
--- the checkpoints around a segment
-pub marks-around : (old : List SegmentView) (i at : ℕ) (s : SegmentView) → i < length old → s ≡ get_or old i s → length (trace_of (take i old)) ≡ at
-    → all_marks old ≡ marks_from 0 (take i old) ++ (mark_here at s.mark ++ (marks_from (at + length (ops_of s)) (drop (i + 1) old) ++ length (trace_of old) ∷ []))
-marks-around old i at s lt is place =
+-- the checkpoints around the one of a segment
+pub marks-at : (old : List SegmentView) (i at : ℕ) (s : SegmentView) (m : State) → i < length old → s ≡ get_or old i s → s.mark ≡ Some m → length (trace_of (take i old)) ≡ at
+    → all_marks old ≡ marks_from 0 (take i old) ++ (at ∷ (marks_from (at + length (ops_of s)) (drop (i + 1) old) ++ length (trace_of old) ∷ []))
+marks-at old i at s m lt is mark place =
     let n : ℕ = length (trace_of old) in
-    let later : List ℕ = marks_from (at + length (ops_of s)) (drop (i + 1) old) in
     let zero_place : 0 + length (trace_of (take i old)) ≡ at = omega arith in
-    let list : marks_from at (drop i old) ++ n ∷ [] ≡ mark_here at s.mark ++ (later ++ n ∷ []) =
-    ap (λ ss. marks_from at ss ++ n ∷ []) (around old i s lt is) ∙ append_assoc (mark_here at s.mark) later (n ∷ []) in
+    let list : marks_from at (drop i old) ++ n ∷ [] ≡ at ∷ (marks_from (at + length (ops_of s)) (drop (i + 1) old) ++ n ∷ []) =
+    ap (λ ss. marks_from at ss ++ n ∷ []) (around old i s lt is) ∙ ap (λ o. (mark_here at o ++ marks_from (at + length (ops_of s)) (drop (i + 1) old)) ++ n ∷ []) mark in
     ap (λ ss. marks_from 0 ss ++ n ∷ []) (sym (take-append-drop i old)) ∙ ap (λ ps. ps ++ n ∷ []) (marks_from-append 0 (take i old) (drop i old))
     ∙ append_assoc (marks_from 0 (take i old)) (marks_from (0 + length (trace_of (take i old))) (drop i old)) (n ∷ [])
     ∙ ap (λ p. marks_from 0 (take i old) ++ (marks_from p (drop i old) ++ n ∷ [])) zero_place ∙ ap (λ ps. marks_from 0 (take i old) ++ ps) list
 
 Contains-first : (x : ℕ) (xs : List ℕ) → Contains (x ∷ xs) x
 Contains-first x xs = (zero, omega arith, refl)
-
--- so where it has its checkpoint
-pub marks-at : (old : List SegmentView) (i at : ℕ) (s : SegmentView) (m : State) → i < length old → s ≡ get_or old i s → s.mark ≡ Some m → length (trace_of (take i old)) ≡ at
-    → all_marks old ≡ marks_from 0 (take i old) ++ (at ∷ (marks_from (at + length (ops_of s)) (drop (i + 1) old) ++ length (trace_of old) ∷ []))
-marks-at old i at s m lt is mark place =
-    marks-around old i at s lt is place
-    ∙ ap (λ o. marks_from 0 (take i old) ++ (mark_here at o ++ (marks_from (at + length (ops_of s)) (drop (i + 1) old) ++ length (trace_of old) ∷ []))) mark
 
 -- where a segment has its checkpoint, there is one
 pub mark-there : (old : List SegmentView) (i at : ℕ) (s : SegmentView) (m : State) → i < length old → s ≡ get_or old i s → s.mark ≡ Some m → length (trace_of (take i old)) ≡ at → Contains (all_marks old) at

@@ -91,10 +91,10 @@ HaveStepped-next old ops marks some chunks heap r at to len before count counted
     (λ (e : counted ≡ raised count len). omega arith)
     taken
 
-pub AreStepped-stop : (old ops : List Operation) (marks : List ℕ) (chunks : List (ℕ × Chunk)) (a b r x q before after : ℕ) → x ≡ q - a + b → a ≤ q → q ≤ length old → AgreesAt old ops a b q
+pub AreStepped-stop : (old ops : List Operation) (marks : List ℕ) (chunks : List (ℕ × Chunk)) (a b r x q before after : ℕ) → x ≡ q - a + b → Contains marks q → a ≤ q → AgreesAt old ops a b q
     → HaveStepped old ops marks chunks r x before after → AreStepped old ops a b marks chunks r before after
-AreStepped-stop old ops marks chunks a b r x q before after there behind within agrees h ps rising must =
-    h ps (narrowed ps r (length ops) x rising (AllByRecursion-map (MustStep old ops a b marks chunks) (λ p. p < x) (λ p m. let lt : p < q - a + b = m.early q behind within agrees in omega arith) ps must))
+AreStepped-stop old ops marks chunks a b r x q before after there mark behind agrees h ps rising must =
+    h ps (narrowed ps r (length ops) x rising (AllByRecursion-map (MustStep old ops a b marks chunks) (λ p. p < x) (λ p m. let lt : p < q - a + b = m.early q mark behind agrees in omega arith) ps must))
     (AllByRecursion-map (MustStep old ops a b marks chunks) (λ p. IsCovered old ops marks chunks p → ⊥) (λ p m. m.bare) ps must)
 
 pub AreStepped-end : (old ops : List Operation) (marks : List ℕ) (chunks : List (ℕ × Chunk)) (a b r x before after : ℕ) → x ≡ length ops → HaveStepped old ops marks chunks r x before after → AreStepped old ops a b marks chunks r before after

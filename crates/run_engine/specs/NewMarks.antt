@@ -15,17 +15,10 @@ pub record AreNeighbours (marks : List ℕ) (g : ℕ) : Type 0 where
   pub at : ℕ
   pub marks_are : marks ≡ before ++ at ∷ (at + g) ∷ after
 
--- g operations are an old stretch between neighbouring checkpoints, or the first of one that has more than 64
-pub record IsFirstPart (marks : List ℕ) (g : ℕ) : Type 0 where
-  pub long : ℕ
-  pub neighbours : AreNeighbours marks long
-  pub within : g ≤ long
-  pub whole : long ≤ 64 → g ≡ long
-
--- how far a new checkpoint is behind the one before it: up to 64, or as far as an old stretch serves, or as a guess is long
+-- how far a new checkpoint is behind the one before it: up to 64, or as far as an old stretch or a guess is long
 pub record IsGap (old : Reusable) (g : ℕ) : Type 0 where
   pub some : 0 < g
-  pub small : (g ≤ 64) ⊎ (IsFirstPart old.marks g ⊎ IsAsLong old.guesses g)
+  pub small : (g ≤ 64) ⊎ (AreNeighbours old.marks g ⊎ IsAsLong old.guesses g)
 
 -- the positions lead from r to `to`, each a gap behind the one before it
 abbrev pub LeadTo : Reusable → ℕ → List ℕ → ℕ → Type 0
@@ -38,9 +31,9 @@ pub record AreLaid (old : Reusable) (kept : List ℕ) (r at : ℕ) (marks : List
   pub laid : marks ++ at ∷ [] ≡ kept ++ r ∷ fresh
   pub lead : LeadTo old r fresh at
 
--- the stop: a place at or behind a where the states agree, or the end, and not behind the first old checkpoint where they do
+-- the stop: the first old checkpoint at or behind a where the states agree, or the end
 pub record IsStop (trace ops : List Operation) (old : List ℕ) (a b stop : ℕ) : Type 0 where
-  pub within : stop ≤ length trace
+  pub mark : Contains old stop
   pub behind : a ≤ stop
   pub agrees : AgreesAt trace ops a b stop ⊎ (stop ≡ length trace)
   pub first : (p : ℕ) → Contains old p → a ≤ p → AgreesAt trace ops a b p → stop ≤ p

@@ -6,7 +6,7 @@ use Rattle.run_engine.specs.declared.replay.revision.Revision.{Revision}
 use Rattle.op_step.specs.Chunk.{Chunk}
 use Rattle.run_engine.specs.Guesses.{Reusable}
 use Rattle.run_engine.specs.SegmentView.{SegmentView}
-use Rattle.run_engine.specs.Segments.{trace_of, all_marks, opened}
+use Rattle.run_engine.specs.Segments.{trace_of, all_marks}
 
 -- the operations of the old run
 abbrev pub old_trace : Revision → List Operation
@@ -28,6 +28,6 @@ reusable r = reusable_in r.guesses.now r.segments.now
 abbrev pub new_trace : Revision → List Operation
 new_trace r = r.ops.now.ops
 
--- the segments of the rest of an old run, where the heap at which they begin, if it is kept, is a checkpoint
+-- the segments of the rest of an old run
 abbrev pub rest_of : Rest → List SegmentView
-rest_of r = opened (drop r.from r.segments.now)
+rest_of r = drop r.from r.segments.now

@@ -28,10 +28,9 @@ abbrev pub marks_from : ℕ → List SegmentView → List ℕ
 marks_from at [] = []
 marks_from at (s ∷ segments) = mark_here at s.mark ++ marks_from (at + length (ops_of s)) segments
 
--- the segment's checkpoint, if it is kept, is the state m, and so is its anchor, and its outcomes are those from there
+-- the segment's checkpoint, if it is kept, is the state m, and its outcomes are those from there
 pub record IsSegmentFrom (m : State) (s : SegmentView) : Type 0 where
   pub mark : IfSome s.mark (λ n. n ≡ m)
-  pub anchor : IfSome s.anchor (λ n. n ≡ m)
   pub outcomes : s.outcomes ≡ outcomes_from m (ops_of s)
 
 -- the segments are a replay from m
@@ -43,11 +42,6 @@ AreReplayFrom m (s ∷ segments) = IsSegmentFrom m s × AreReplayFrom (end_from 
 abbrev pub outcomes_in : List SegmentView → List Outcome
 outcomes_in [] = []
 outcomes_in (s ∷ segments) = s.outcomes ++ outcomes_in segments
-
--- the first of two, or else the second
-abbrev pub first_of : Option State → Option State → Option State
-first_of None o = o
-first_of (Some m) o = Some m
 
 -- the segments, where the one at i has no checkpoint
 abbrev pub without_mark : List SegmentView → ℕ → List SegmentView
@@ -95,18 +89,9 @@ pub record IsPiece (start : State) (ops : List Operation) (segments : List Segme
   pub state : end ≡ end_from start (take len ops)
   pub marks : (at : ℕ) → marks_from at segments ≡ at ∷ []
 
--- operations that go on from a state, with no checkpoint where they begin, but maybe an anchor
-abbrev pub bare_segment : Option State → State → List Operation → SegmentView
-bare_segment anchor start ops = record { mark = None; anchor = anchor; ops = ops; outcomes = outcomes_from start ops }
-
--- the state where the segment begins, if it is kept, whether as a checkpoint or as an anchor
-abbrev pub kept_of : SegmentView → Option State
-kept_of s = first_of s.mark s.anchor
-
--- the segments, where the state at which they begin, if it is kept, is a checkpoint
-abbrev pub opened : List SegmentView → List SegmentView
-opened [] = []
-opened (s ∷ segments) = record s { mark = kept_of s } ∷ segments
+-- operations that go on from a state, with no checkpoint where they begin
+abbrev pub bare_segment : State → List Operation → SegmentView
+bare_segment start ops = record { mark = None; ops = ops; outcomes = outcomes_from start ops }
 
 -- the positions of all checkpoints: the end is one
 abbrev pub all_marks : List SegmentView → List ℕ

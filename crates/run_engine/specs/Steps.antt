@@ -1,5 +1,5 @@
 -- Which operations of an edited trace are stepped.
-use Rattle.std.specs.Prelude.{◌≡◌, ℕ, ◌+◌, ◌-◌, ◌<◌, ◌≤◌, List, [], ◌∷◌, length, take, drop, ◌⊎◌}
+use Rattle.std.specs.Prelude.{◌≡◌, ℕ, ◌+◌, ◌-◌, ◌<◌, ◌≤◌, List, [], ◌∷◌, length, take, drop, Contains, ◌⊎◌}
 use Rattle.std.specs.List.{AllByRecursion}
 use Rattle.trace_types.specs.Operation.{Operation}
 use Rattle.ownership_model.specs.State.{State, nothing_held}
@@ -9,15 +9,14 @@ use Rattle.run_engine.specs.HeadAndTail.{AreShared}
 use Rattle.run_engine.specs.Marks.{IsGreatest}
 use Rattle.run_engine.specs.Bounds.{AgreesAt}
 use Rattle.op_step.specs.Chunk.{Chunk}
-use Rattle.run_engine.specs.NewMarks.{IsFirstPart}
+use Rattle.run_engine.specs.NewMarks.{AreNeighbours}
 use Rattle.run_engine.specs.Memo.{IsAmong, AreSome}
 
--- an old stretch between neighbouring checkpoints begins with the state and has the first `len` of the operations: all of them are its
--- own, or if it has more than 64 its first ones
+-- an old stretch between neighbouring checkpoints begins with the state, and has the first `len` of the operations
 pub record IsOldStretch (old : List Operation) (marks : List ℕ) (start : State) (ops : List Operation) (len : ℕ) : Type 0 where
-  pub place : IsFirstPart marks len
-  pub start_is : start ≡ end_from nothing_held (take place.neighbours.at old)
-  pub ops_are : take len (drop place.neighbours.at old) ≡ take len ops
+  pub place : AreNeighbours marks len
+  pub start_is : start ≡ end_from nothing_held (take place.at old)
+  pub ops_are : take len (drop place.at old) ≡ take len ops
 
 -- an old stretch begins with the state and has the first `len` of the operations, or one of the chunks does
 abbrev pub IsKnown : List Operation → List ℕ → List (ℕ × Chunk) → State → List Operation → ℕ → Type 0
@@ -51,9 +50,9 @@ HaveSteppedOn old ops marks some at to before after =
     (r start : ℕ) (chunks : List (ℕ × Chunk)) → HaveStepped old ops marks chunks r at start before → AreSome some chunks
     → HaveStepped old ops marks chunks r to start after
 
--- the operation at p of the edited trace is before each place where the states agree, and is not covered
+-- the operation at p of the edited trace is before each place where the replay may stop, and is not covered
 pub record MustStep (old ops : List Operation) (a b : ℕ) (marks : List ℕ) (chunks : List (ℕ × Chunk)) (p : ℕ) : Type 0 where
-  pub early : (q : ℕ) → a ≤ q → q ≤ length old → AgreesAt old ops a b q → p < q - a + b
+  pub early : (q : ℕ) → Contains marks q → a ≤ q → AgreesAt old ops a b q → p < q - a + b
   pub bare : IsCovered old ops marks chunks p → ⊥
 
 -- each such operation from r on was stepped

@@ -50,8 +50,7 @@ use trace_types::trace::Trace;
 /// The replay of a trace, with its outcomes and heaps at some positions, its checkpoints. Contracts see the trace and
 /// the rising positions of the checkpoints, 0 and the end among them.
 ///
-/// The outcomes, the end and each checkpoint are those of the trace's replay. A long run has anchors as well: some heaps spread over it, of which no
-/// call tells, from which an edit's replay goes on and at which it stops. The versions of a run share what they have
+/// The outcomes, the end and each checkpoint are those of the trace's replay. The versions of a run share what they have
 /// in common: an edit copies no operation of a stretch that stays.
 #[derive(Drop)]
 pub struct Run {
@@ -120,7 +119,7 @@ impl Run {
     /// The size of the batch is tried first, which takes no memory. Then the edits are tried in order, each on the result
     /// of those before it. The replay begins again at the greatest checkpoint at or before the first operation that
     /// differs, takes guesses, chunks of the shelf and old stretches where they begin with the same heap and have the same operations, and stops at the
-    /// first old checkpoint or anchor behind the last operation that differs where the heaps agree on all that can be reached. From
+    /// first old checkpoint behind the last operation that differs where the heaps agree on all that can be reached. From
     /// there on the old outcomes stay, and what can't be reached is exchanged in the checkpoints and the end. The meter rises
     /// by the operations stepped, and where memory runs out by at most those up to the stop.
     ///

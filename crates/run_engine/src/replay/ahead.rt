@@ -100,25 +100,16 @@ fn next_cut(
     ensures never_less { meter.old ≤ meter.new }
     ensures rise { meter.new ≤ meter.old + length next.items }
 {
-    let is_anchored = front.anchoring.is_due(front.len);
-    let known = found(
-        alloc,
-        &front.end,
-        &next,
-        front.behind.number(),
-        is_anchored,
-        shelf,
-    )?;
+    let known = found(alloc, &front.end, &next, front.behind.number(), shelf)?;
     if let Some(piece) = known {
         let front = joined(alloc, front, piece)?;
         return Ok(front);
     }
     if is_among(inner_name(ops, front.len), &front.gone) {
-        let anchor = front.anchoring.anchor(&front.end, front.len);
-        let front = replayed_on(alloc, front, next, anchor, meter)?;
+        let front = replayed_on(alloc, front, next, meter)?;
         return Ok(front);
     }
-    let piece = stepped(alloc, &front.end, next, is_anchored, meter)?;
+    let piece = stepped(alloc, &front.end, next, meter)?;
     let front = joined(alloc, front, piece)?;
     Ok(front)
 }

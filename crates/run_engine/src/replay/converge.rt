@@ -1,5 +1,5 @@
 //! A replay beside an old one, as far as the two come together.
-ghost use Rattle.std.specs.Prelude.{◌≡◌, ℕ, List, ◌++◌, ◌+◌, ◌<◌, ◌≤◌, IfOk, IfSome, length, take, slice_range};
+ghost use Rattle.std.specs.Prelude.{◌≡◌, ◌++◌, ◌+◌, ◌<◌, ◌≤◌, IfOk, length, take, slice_range};
 ghost use Rattle.std.specs.Ordering.{nat_cmp};
 ghost use Rattle.std.specs.BTreeSet.{contains};
 ghost use Rattle.run_engine.specs.Segments.{trace_of, marks_from, all_marks, IsRun, IsPiece};
@@ -7,11 +7,10 @@ ghost use Rattle.run_engine.specs.Guesses.{with_guesses};
 ghost use Rattle.run_engine.specs.OldRun.{old_trace, old_marks, new_trace, reusable};
 ghost use Rattle.run_engine.specs.HeadAndTail.{ShareEnd};
 ghost use Rattle.run_engine.specs.Bounds.{StepsAtMost};
-ghost use Rattle.op_step.specs.Chunk.{Chunk};
-ghost use Rattle.run_engine.specs.NewMarks.{IsFirstPart, IsGap};
+ghost use Rattle.run_engine.specs.NewMarks.{IsGap};
 ghost use Rattle.run_engine.specs.Onward.{AreMarksLeft};
 ghost use Rattle.run_engine.specs.Memo.{IsSearched};
-ghost use Rattle.run_engine.specs.Steps.{IsOldStretch, AreTaken, AreStepped};
+ghost use Rattle.run_engine.specs.Steps.{AreTaken, AreStepped};
 ghost use Rattle.run_engine.specs.GoesOn.{MayGoOn, GoesOnBeside};
 ghost use Rattle.run_engine.specs.Placed.{IsPlaced, IsNext};
 ghost use Rattle.run_engine.specs.Divergence.{IsFork};
@@ -46,42 +45,8 @@ struct Leg {
     open: usize,
 }
 
-// An old stretch to go on with, if one serves, and the place behind it, where the replay has the old run's heap.
-fn old_piece(
-    alloc: Global,
-    revision: &Revision,
-    progress: &Progress,
-    to: usize,
-) -> Result<Option<(Next, Fork)>, AllocError>
-    requires may { MayGoOn (new_trace revision.now) progress.now.front to }
-    requires some { progress.now.front.len < to }
-    requires fork { IsFork revision.now progress.now.fork }
-    ensures piece { IfOk result (λ o. IfSome o (λ p.
-        IsPiece progress.now.front.end
-        (slice_range (new_trace revision.now) progress.now.front.len to)
-        p.0.segments p.0.end p.0.len)) }
-    ensures fork { IfOk result (λ o. IfSome o (λ p. IsFork revision.now p.1)) }
-    ensures gap { IfOk result (λ o. IfSome o (λ p. IsFirstPart (old_marks revision.now) p.0.len)) }
-    ensures stretch { IfOk result (λ o. IfSome o (λ p.
-        IsOldStretch (old_trace revision.now) (old_marks revision.now) progress.now.front.end
-        (slice_range (new_trace revision.now) progress.now.front.len to) p.0.len)) }
-    ensures next { (chunks : List (ℕ × Chunk)) →
-        IfOk result (λ o. IfSome o (λ p. IsNext chunks progress.now.front.end p.0)) }
-{
-    let front = &progress.front;
-    let stretch = old_stretch(alloc, revision, &front.end, front.len, to, progress.fork)?;
-    match stretch {
-        None => Ok(None),
-        Some((piece, base)) => {
-            let edited = front.len + piece.len;
-            Ok(Some((piece, Fork { edited, base })))
-        }
-    }
-}
-
 // What a replay goes on with: a guess, a chunk that the shelf has of the operations up to the next cut, an old stretch, or else those
-// operations, which are stepped; and the last place that is known then where the replay has the old run's heap. Where it stands at that
-// place, the old stretch comes before a chunk: it may have more operations, and no heap is compared.
+// operations, which are stepped; and the last place that is known then where the replay has the old run's heap.
 fn next_piece(
     alloc: Global,
     revision: &Revision,
@@ -116,34 +81,18 @@ fn next_piece(
     if let Some(piece) = guess {
         return Ok((piece, fork));
     }
-    let is_near = front.anchoring.are_wanted() && fork.edited == front.len;
-    if is_near {
-        let first = old_piece(alloc, revision, progress, to)?;
-        if let Some(piece) = first {
-            return Ok(piece);
-        }
-    }
-    let is_anchored = front.anchoring.is_due(front.len);
     let len = (to - front.len).min(STRIDE);
     let next = revision.ops.copies(alloc, front.len, front.len + len)?;
-    let known = found(
-        alloc,
-        &front.end,
-        &next,
-        front.behind.number(),
-        is_anchored,
-        shelf,
-    )?;
+    let known = found(alloc, &front.end, &next, front.behind.number(), shelf)?;
     if let Some(piece) = known {
         return Ok((piece, fork));
     }
-    if !is_near {
-        let stretch = old_piece(alloc, revision, progress, to)?;
-        if let Some(piece) = stretch {
-            return Ok(piece);
-        }
+    let stretch = old_stretch(alloc, revision, &front.end, front.len, to, fork)?;
+    if let Some((piece, base)) = stretch {
+        let edited = front.len + piece.len;
+        return Ok((piece, Fork { edited, base }));
     }
-    let piece = stepped(alloc, &front.end, next, is_anchored, meter)?;
+    let piece = stepped(alloc, &front.end, next, meter)?;
     Ok((piece, fork))
 }
 
@@ -272,12 +221,10 @@ fn spliced(
         fresh: front.fresh,
         behind: Behind::Nothing,
         gone: front.gone,
-        anchoring: front.anchoring,
     })
 }
 
-/// Goes on with the replay to its end, or to the first heap that the old run has kept at or behind the seam, as a checkpoint or as an anchor,
-/// with which its own agrees.
+/// Goes on with the replay to its end, or to the first old checkpoint at or behind the seam where the heaps agree.
 ///
 /// From the seam on an old stretch could begin at an old checkpoint alone, and at each that is passed the heap is another: none serves.
 pub fn converge(
@@ -319,7 +266,7 @@ pub fn converge(
     for i in first..old.len() {
         let segment = old.at(i);
         if at >= seam.base {
-            if let Some(mark) = segment.kept() {
+            if let Some(mark) = segment.mark() {
                 let leg = Leg {
                     to: at - seam.base + seam.edited,
                     open: seam.edited,

@@ -42,7 +42,7 @@ pub fn guessed(
 {
     for guess in revision.guesses {
         if serves(guess, heap, revision.ops, at, to) {
-            let mut piece = Next::of(alloc, guess, false)?;
+            let mut piece = Next::of(alloc, guess)?;
             piece.origin = Origin::Old;
             return Ok(Some(piece));
         }

@@ -8,7 +8,6 @@ ghost use Rattle.run_engine.specs.RunView.{load_view};
 ghost use Rattle.run_engine.specs.GivenUp.{given_up, name_at, names_at, IsTouched};
 ghost use Rattle.run_engine.specs.Loaded.{is_gone, kept_below, loaded_view};
 
-use crate::replay::anchors::Anchoring;
 use crate::replay::fresh::Fresh;
 use crate::replay::origin::{Behind, Origin};
 use crate::replay::piece::{Piece, STRIDE, joined, replayed_on, stepped};
@@ -21,7 +20,7 @@ use std::collections::BTreeSet;
 use trace_types::ops::Op;
 use trace_types::trace::Trace;
 
-/// Replays operations, with checkpoints at the multiples of 64, but for those that are given up, and with anchors if there are many.
+/// Replays operations, with checkpoints at the multiples of 64, but for those that are given up.
 pub fn loaded(
     alloc: Global,
     ops: &[Op],
@@ -43,18 +42,15 @@ pub fn loaded(
         fresh: Fresh::none(alloc),
         behind: Behind::Nothing,
         gone: BTreeSet::new(alloc),
-        anchoring: Anchoring::loaded(ops.len()),
     };
     while front.len < ops.len() {
         let at = front.len;
         let to = at + (ops.len() - at).min(STRIDE);
         let copies = copy_ops(alloc, &ops[at..to])?;
         if is_gone(gone, at) {
-            let anchor = front.anchoring.anchor(&front.end, at);
-            front = replayed_on(alloc, front, copies, anchor, meter)?;
+            front = replayed_on(alloc, front, copies, meter)?;
         } else {
-            let is_anchored = front.anchoring.is_due(at);
-            let mut piece = stepped(alloc, &front.end, copies, is_anchored, meter)?;
+            let mut piece = stepped(alloc, &front.end, copies, meter)?;
             // of a whole trace no chunk is remembered, and one that stayed would keep its heaps
             piece.origin = Origin::Old;
             front = joined(alloc, front, piece)?;

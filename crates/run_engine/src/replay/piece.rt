@@ -13,7 +13,6 @@ ghost use Rattle.run_engine.specs.Origins.{stepped_chunk, behind_of, shelf_numbe
 ghost use Rattle.run_engine.specs.Placed.{IsPlaced, IsNext};
 ghost use Rattle.run_engine.specs.declared.replay.origin.Behind.TheVariants.{Stepped};
 
-use crate::replay::anchors::Anchoring;
 use crate::replay::fresh::Fresh;
 use crate::replay::origin::{Behind, Origin};
 use crate::segments::blocks::Segments;
@@ -29,7 +28,7 @@ use trace_types::ops::Op;
 pub const STRIDE: usize = 64;
 
 /// A piece of a replay: its segments, the heap after them, how many operations they have, the chunks that were stepped for it, what is known
-/// to end with that heap, the names of checkpoints that the shelf has answered so far, and where the next anchor is due.
+/// to end with that heap, and the names of checkpoints that the shelf has answered so far.
 #[derive(Drop)]
 pub struct Piece {
     pub segments: Segments,
@@ -38,37 +37,32 @@ pub struct Piece {
     pub fresh: Fresh,
     pub behind: Behind,
     pub gone: BTreeSet<u32>,
-    pub anchoring: Anchoring,
 }
 
-/// What a replay goes on with: its segments, the heap after them, how many operations they have, where they come from, and whether the old run
-/// has an anchor where they end.
+/// What a replay goes on with: its segments, the heap after them, how many operations they have, and where they come from.
 #[derive(Drop)]
 pub struct Next {
     pub segments: Segments,
     pub end: Heap,
     pub len: usize,
     pub origin: Origin,
-    pub to_anchor: bool,
 }
 
 impl Next {
-    /// A chunk to go on with, with an anchor where it begins if that is wanted. Whether it was stepped, or which of the shelf's it is, is for
-    /// the caller to say.
-    pub fn of(alloc: Global, chunk: &ChunkRun, is_anchored: bool) -> Result<Self, AllocError>
+    /// A chunk to go on with. Whether it was stepped, or which of the shelf's it is, is for the caller to say.
+    pub fn of(alloc: Global, chunk: &ChunkRun) -> Result<Self, AllocError>
         requires { 0 < length chunk.now.ops }
         ensures piece { IfOk result
             (λ p. IsPiece chunk.now.start chunk.now.ops p.segments p.end p.len) }
         ensures whole { IfOk result (λ p. p.len ≡ length chunk.now.ops) }
         ensures end { IfOk result (λ p. p.end ≡ end_from chunk.now.start chunk.now.ops) }
     {
-        let segments = Segments::empty(alloc).push(alloc, Segment::of(alloc, chunk, is_anchored)?)?;
+        let segments = Segments::empty(alloc).push(alloc, Segment::of(alloc, chunk)?)?;
         Ok(Next {
             segments,
             end: chunk.end().share()?,
             len: chunk.ops().len(),
             origin: Origin::Old,
-            to_anchor: false,
         })
     }
 }
@@ -90,25 +84,21 @@ pub fn joined(alloc: Global, front: Piece, next: Next) -> Result<Piece, AllocErr
     let segments = front.segments.append(alloc, next.segments)?;
     let mut fresh = front.fresh;
     let behind = fresh.go_on(front.behind, next.origin)?;
-    let len = front.len + next.len;
-    let anchoring = front.anchoring.behind(front.len).anew(len, next.to_anchor);
     Ok(Piece {
         segments,
         end: next.end,
-        len,
+        len: front.len + next.len,
         fresh,
         behind,
         gone: front.gone,
-        anchoring,
     })
 }
 
-/// Steps all the operations, to go on with their chunk, with an anchor where they begin if that is wanted.
+/// Steps all the operations, to go on with their chunk.
 pub fn stepped(
     alloc: Global,
     heap: &Heap,
     ops: Vec<Op>,
-    is_anchored: bool,
     meter: &mut Meter,
 ) -> Result<Next, AllocError>
     requires some { 0 < length ops.items }
@@ -122,19 +112,18 @@ pub fn stepped(
     ensures next { (chunks : List (ℕ × Chunk)) → IfOk result (IsNext chunks heap.now) }
 {
     let chunk = run_of(alloc, heap, ops, meter)?;
-    let mut piece = Next::of(alloc, &chunk, is_anchored)?;
+    let mut piece = Next::of(alloc, &chunk)?;
     piece.origin = Origin::Stepped(chunk);
     Ok(piece)
 }
 
 /// A chunk that the shelf has, which begins with this heap and has these operations, to go on with. The heap may be known to be that at
-/// which the shelf's chunk with a number ends. It gets an anchor where it begins if that is wanted.
+/// which the shelf's chunk with a number ends.
 pub fn found(
     alloc: Global,
     heap: &Heap,
     ops: &[Op],
     before: Option<u64>,
-    is_anchored: bool,
     shelf: &mut MarkShelf,
 ) -> Result<Option<Next>, AllocError>
     requires some { 0 < length ops.now }
@@ -152,25 +141,24 @@ pub fn found(
     let Some(found) = shelf.find_behind(heap, ops, before) else {
         return Ok(None);
     };
-    let mut piece = Next::of(alloc, &found.chunk, is_anchored)?;
+    let mut piece = Next::of(alloc, &found.chunk)?;
     piece.origin = Origin::Shelf(found.number);
     Ok(Some(piece))
 }
 
 /// Goes on behind a front by operations, all of which are stepped on the front's own heap: they have no checkpoint where they begin, and
-/// no chunk, but an anchor if one is given.
+/// no chunk.
 pub fn replayed_on(
     alloc: Global,
     front: Piece,
     ops: Vec<Op>,
-    anchor: Option<Heap>,
     meter: &mut Meter,
 ) -> Result<Piece, AllocError>
     requires fits { front.len + length ops.items < 2 ^ 64 }
     requires distinct { IsTrue (has_distinct_numbers ops.items) }
     requires unused { AreUnused front.end ops.items }
     ensures segments { IfOk result
-        (λ p. p.segments ≡ front.segments ++ bare_segment anchor front.end ops.items ∷ []) }
+        (λ p. p.segments ≡ front.segments ++ bare_segment front.end ops.items ∷ []) }
     ensures end { IfOk result (λ p. p.end ≡ end_from front.end ops.items) }
     ensures len { IfOk result (λ p. p.len ≡ front.len + length ops.items) }
     ensures gone { IfOk result (λ p. p.gone ≡ front.gone) }
@@ -180,10 +168,9 @@ pub fn replayed_on(
     ensures rise { meter.new ≤ meter.old + length ops.items }
 {
     let len = front.len + ops.len();
-    let anchoring = front.anchoring.behind(front.len);
     front.end.show_sound();
     let (outcomes, end) = replay_from(alloc, front.end, &ops, meter)?;
-    let bare = Segment::bare(alloc, anchor, ops, outcomes)?;
+    let bare = Segment::bare(alloc, ops, outcomes)?;
     let segments = front.segments.push(alloc, bare)?;
     Ok(Piece {
         segments,
@@ -192,6 +179,5 @@ pub fn replayed_on(
         fresh: front.fresh,
         behind: Behind::Nothing,
         gone: front.gone,
-        anchoring,
     })
 }

@@ -7,7 +7,7 @@ ghost use Rattle.ownership_model.specs.Agrees.{HaveSameRoots};
 ghost use Rattle.agreement.specs.Agreement.{Agree};
 ghost use Rattle.run_engine.specs.Divergence.{IsFork, DifferWithin, IsDivergence, HasCompared};
 ghost use Rattle.run_engine.specs.OldRun.{old_trace, new_trace, rest_of};
-ghost use Rattle.run_engine.specs.Segments.{trace_of, marks_from, opened, IsReached, IsRunFrom};
+ghost use Rattle.run_engine.specs.Segments.{trace_of, marks_from, IsReached, IsRunFrom};
 
 use crate::replay::divergence::Divergence;
 use crate::replay::progress::Progress;
@@ -17,7 +17,7 @@ use agreement::{Checkpoint, Meeting, patch};
 use object_heap::Heap;
 use std::alloc::{AllocError, Global};
 
-/// The rest of an old run: its segments from an index on, where the heap at which they begin, if it is kept, is a checkpoint, and its end.
+/// The rest of an old run: its segments from an index on, and its end.
 #[derive(Drop)]
 pub struct Rest<'a> {
     pub segments: &'a Segments,
@@ -25,7 +25,7 @@ pub struct Rest<'a> {
     pub end: &'a Heap,
 }
 
-/// A heap that the old run has kept, as a checkpoint or as an anchor: that of the segment at an index, which begins behind so many operations.
+/// An old checkpoint: that of the segment at an index, which begins behind so many operations.
 #[derive(Drop)]
 pub struct OldMark<'a> {
     pub index: usize,
@@ -33,8 +33,8 @@ pub struct OldMark<'a> {
     pub mark: Checkpoint<'a>,
 }
 
-/// The rest of the old run from one of its kept heaps on, and its end, as they follow the front of a replay, where its heap agrees with
-/// that one.
+/// The rest of the old run from one of its checkpoints on, and its end, as they follow the front of a replay, where its heap agrees with
+/// the checkpoint.
 ///
 /// While the trail to a difference, or handles, cells or scopes tell them apart, no outcome is gone over: the divergence stays where it
 /// stands. Else it catches up over all that was passed since, and they are compared.
@@ -52,21 +52,21 @@ pub fn rejoined_at(
     requires place { length (trace_of (take old.now.index revision.now.segments.now)) ≡ old.now.at }
     requires mark { old.now.mark
         ≡ end_from nothing_held (take old.now.at (old_trace revision.now)) }
-    requires run { IsRunFrom old.now.mark (opened (drop old.now.index revision.now.segments.now))
+    requires run { IsRunFrom old.now.mark (drop old.now.index revision.now.segments.now)
         revision.now.end.now }
     requires distinct { IsTrue (has_distinct_numbers
-        (trace_of (opened (drop old.now.index revision.now.segments.now)))) }
+        (trace_of (drop old.now.index revision.now.segments.now))) }
     requires unused { AreUnused progress.now.front.end
-        (trace_of (opened (drop old.now.index revision.now.segments.now))) }
+        (trace_of (drop old.now.index revision.now.segments.now)) }
     requires old_unused { AreUnused old.now.mark
-        (trace_of (opened (drop old.now.index revision.now.segments.now))) }
+        (trace_of (drop old.now.index revision.now.segments.now)) }
     requires known { IsDivergence revision.now divergence.old }
     ensures answer { IfOk result (λ o. IsTrue (is_some o) ↔ Agree progress.now.front.end old.now.mark) }
     ensures run { IfOk result (λ o. IfSome o (λ r. IsRunFrom progress.now.front.end r.0 r.1)) }
     ensures trace { IfOk result (λ o. IfSome o (λ r.
-        trace_of r.0 ≡ trace_of (opened (drop old.now.index revision.now.segments.now)))) }
+        trace_of r.0 ≡ trace_of (drop old.now.index revision.now.segments.now))) }
     ensures marks { IfOk result (λ o. IfSome o (λ r. (at : ℕ) →
-        marks_from at r.0 ≡ marks_from at (opened (drop old.now.index revision.now.segments.now)))) }
+        marks_from at r.0 ≡ marks_from at (drop old.now.index revision.now.segments.now))) }
     ensures known { OnOk result (IsDivergence revision.now divergence.new) }
 {
     let kept = old.mark.heap(alloc)?;
@@ -110,31 +110,18 @@ pub fn rejoined(
         (λ o. IfSome o (λ r. (at : ℕ) → marks_from at r.0 ≡ marks_from at (rest_of rest.now))) }
     ensures known { OnOk result (HasCompared divergence.old divergence.new heap.now kept.now) }
 {
+    let old = rest.segments;
     match divergence.meet(alloc, heap, kept)? {
         Meeting::Apart => Ok(None),
         Meeting::Same => {
-            let behind = behind(alloc, rest)?;
+            let behind = old.stretch(alloc, rest.from, old.len())?;
             Ok(Some((behind, rest.end.share()?)))
         }
         Meeting::Alike(remains) => {
             let end = patch(alloc, rest.end, &remains)?;
-            let behind = behind(alloc, rest)?;
+            let behind = old.stretch(alloc, rest.from, old.len())?;
             let exchanged = behind.exchanged(alloc, &remains)?;
             Ok(Some((exchanged, end)))
         }
     }
-}
-
-// The segments of the rest. Where the heap at which they begin is a checkpoint already, all are shared as they stand.
-fn behind(alloc: Global, rest: &Rest) -> Result<Segments, AllocError>
-    requires { rest.now.from ≤ length rest.now.segments.now }
-    ensures { IfOk result (λ s. s ≡ rest_of rest.now) }
-{
-    let old = rest.segments;
-    if rest.from == old.len() || old.at(rest.from).is_marked() {
-        let behind = old.stretch(alloc, rest.from, old.len())?;
-        return Ok(behind);
-    }
-    let opened = old.opened_from(alloc, rest.from)?;
-    Ok(opened)
 }

@@ -13,7 +13,6 @@ ghost use Rattle.run_engine.specs.Placed.{IsPlaced};
 
 use crate::editing::head_and_tail::{head, tail};
 use crate::editing::listing::Listing;
-use crate::replay::anchors::Anchoring;
 use crate::replay::converge::{Seam, converge};
 use crate::replay::fresh::Fresh;
 use crate::replay::origin::Behind;
@@ -32,8 +31,6 @@ struct Restart {
     index: usize,
     at: usize,
     heap: Heap,
-    // whether there is an anchor as well
-    is_anchored: bool,
 }
 
 // The greatest kept checkpoint at or before the head. The end of the old run is one.
@@ -47,20 +44,17 @@ fn greatest_mark(alloc: Global, revision: &Revision, head: usize) -> Result<Rest
             index: old.len(),
             at: len,
             heap: revision.end.share()?,
-            is_anchored: false,
         });
     }
     let (last, _) = old.last_from(head);
     let mut i = last + 1;
     while i > 0 {
         i -= 1;
-        let segment = old.at(i);
-        if let Some(mark) = segment.mark() {
+        if let Some(mark) = old.at(i).mark() {
             return Ok(Restart {
                 index: i,
                 at: old.position(i),
                 heap: mark.heap(alloc)?,
-                is_anchored: segment.is_anchored(),
             });
         }
     }
@@ -69,7 +63,6 @@ fn greatest_mark(alloc: Global, revision: &Revision, head: usize) -> Result<Rest
         index: 0,
         at: 0,
         heap: Heap::empty(),
-        is_anchored: false,
     })
 }
 
@@ -91,7 +84,6 @@ fn front(alloc: Global, revision: &Revision, head: usize) -> Result<Piece, Alloc
         fresh: Fresh::none(alloc),
         behind: Behind::Nothing,
         gone: BTreeSet::new(alloc),
-        anchoring: Anchoring::edited(revision.ops.len(), restart.at, restart.is_anchored),
     })
 }
 

@@ -3,7 +3,7 @@ ghost use Rattle.std.specs.Prelude.{◌≡◌, ◌+◌, ◌++◌, ◌∷◌, [],
 ghost use Rattle.trace_types.specs.Trace.{place_of};
 ghost use Rattle.run_engine.specs.Cleared.{cleared_if};
 ghost use Rattle.run_engine.specs.Blocks.{standing};
-ghost use Rattle.run_engine.specs.Segments.{ops_of, trace_of, without_mark, has_mark, opened, IsLastFrom};
+ghost use Rattle.run_engine.specs.Segments.{ops_of, trace_of, without_mark, has_mark, IsLastFrom};
 ghost use Rattle.run_engine.specs.Exchanged.{exchanged, AreExchangeable};
 
 use crate::segments::bounds::Bounds;
@@ -168,30 +168,6 @@ impl Block {
             gone,
             laid,
             is_worn: self.is_worn,
-        })
-    }
-
-    /// The segment at an index in a block of its own, where the heap at which it begins, if it is kept, is a checkpoint. It is shared.
-    pub fn opened(&self, alloc: Global, index: usize) -> Result<Self, AllocError>
-        requires { index < length self.now }
-        ensures { IfOk result (λ b. b ≡ opened (slice_range self.now index (index + 1))) }
-    {
-        let place = self.from + index;
-        let segment = left_at(&self.segments[place], self.gone.has(place))?;
-        let mut one = Vec::new(alloc);
-        one.push(segment.opened()?)?;
-        let segments = Arc::new(alloc, one)?;
-        let gone = Gone::none();
-        let laid = shared(&self.laid)?;
-        Ok(Block {
-            segments,
-            from: 0,
-            len: 1,
-            ops: self.ops_between(index, index + 1),
-            bounds: self.bounds,
-            gone,
-            laid,
-            is_worn: false,
         })
     }
 

@@ -1,7 +1,7 @@
 //! The segments of a run, in blocks.
-ghost use Rattle.std.specs.Prelude.{◌≡◌, ◌++◌, ◌∷◌, [], ◌<◌, ◌≤◌, length, map, take, drop, IfOk, slice_index_or, slice_range};
+ghost use Rattle.std.specs.Prelude.{◌≡◌, ◌++◌, ◌∷◌, [], ◌<◌, ◌≤◌, length, map, take, IfOk, slice_index_or, slice_range};
 ghost use Rattle.trace_types.specs.Trace.{place_of};
-ghost use Rattle.run_engine.specs.Segments.{trace_of, without_mark, has_mark, opened, IsLastFrom};
+ghost use Rattle.run_engine.specs.Segments.{trace_of, without_mark, has_mark, IsLastFrom};
 ghost use Rattle.run_engine.specs.Exchanged.{exchanged, AreExchangeable};
 
 use crate::segments::block::Block;
@@ -241,19 +241,6 @@ impl Segments {
             all = all.with_part(block, low, high)?;
             at += len;
         }
-        Ok(all)
-    }
-
-    /// The segments from an index on, which are shared, where the heap at which they begin, if it is kept, is a checkpoint.
-    pub fn opened_from(&self, alloc: Global, from: usize) -> Result<Self, AllocError>
-        requires { from < length self.now }
-        ensures { IfOk result (λ s. s ≡ opened (drop from self.now)) }
-    {
-        let (i, rest) = find(&self.blocks, &self.starts, from);
-        let block = self.blocks[i].opened(alloc, rest)?;
-        let first = Segments::empty(alloc).with_block(block)?;
-        let more = self.stretch(alloc, from + 1, self.len)?;
-        let all = first.append(alloc, more)?;
         Ok(all)
     }
 

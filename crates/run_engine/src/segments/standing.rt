@@ -3,7 +3,6 @@ ghost use Rattle.std.specs.Prelude.{◌≡◌, length, is_some, [], ◌∷◌};
 ghost use Rattle.std.specs.Option.{option_copied};
 ghost use Rattle.run_engine.specs.Cleared.{cleared_if, last_name};
 ghost use Rattle.run_engine.specs.Blocks.{laid_over, AreSoundBelow};
-ghost use Rattle.run_engine.specs.Segments.{kept_of};
 
 use crate::segments::segment::Segment;
 use agreement::{Checkpoint, Exchange};
@@ -103,41 +102,6 @@ impl<'a> Standing<'a> {
         match self.laid {
             None => Some(Checkpoint::of(heap)),
             Some(exchange) => Some(Checkpoint::under(heap, exchange)),
-        }
-    }
-
-    /// Whether there is an anchor where it begins.
-    pub fn is_anchored(&self) -> bool
-        ensures { result ≡ is_some self.now.anchor }
-    {
-        self.segment.anchor().is_some()
-    }
-
-    // The anchor where it begins, if there is one.
-    fn anchor(&self) -> Option<Checkpoint<'a>>
-        ensures { result ≡ self.now.anchor }
-    {
-        let heap = self.segment.anchor()?;
-        match self.laid {
-            None => Some(Checkpoint::of(heap)),
-            Some(exchange) => Some(Checkpoint::under(heap, exchange)),
-        }
-    }
-
-    /// Whether the heap is kept where it begins, as a checkpoint or as an anchor.
-    pub fn is_kept(&self) -> bool
-        ensures { result ≡ is_some (kept_of self.now) }
-    {
-        self.is_marked() || self.is_anchored()
-    }
-
-    /// The heap where it begins, if it is kept, as a checkpoint or as an anchor.
-    pub fn kept(&self) -> Option<Checkpoint<'a>>
-        ensures { result ≡ kept_of self.now }
-    {
-        match self.mark() {
-            None => self.anchor(),
-            Some(mark) => Some(mark),
         }
     }
 }

@@ -8,13 +8,13 @@ use Rattle.agreement.specs.Agreement.{Agree}
 use Rattle.trace_types.specs.Operation.{Operation}
 use Rattle.ownership_model.specs.Step.{end_from}
 use Rattle.run_engine.specs.SegmentView.{SegmentView}
-use Rattle.run_engine.specs.Segments.{trace_of, marks_from, opened, IsRunFrom}
+use Rattle.run_engine.specs.Segments.{trace_of, marks_from, IsRunFrom}
 use Rattle.run_engine.specs.HeadAndTail.{ShareEnd}
 use Rattle.std.proofs.Math.Seq.{take-length}
 use Rattle.run_engine.proofs.SegmentLemmas.{length-trace_of-next, trace_of-append}
-use Rattle.run_engine.proofs.PieceLemmas.{kept-is}
-use Rattle.run_engine.proofs.PlaceLemmas.{place-within, trace_of-front}
-use Rattle.run_engine.proofs.ConvergeLemmas.{IsBeside-first, IsBeside-next, least-agreeing, bounded, ShareEnd-length, IsRunFrom-back, rest-shared, distinct-back, old-unused, new-unused, nothing-kept, AgreesAt-here, AgreesAt-there, IsSpliced, IsSpliced-rest, IsSpliced-end}
+use Rattle.run_engine.proofs.PieceLemmas.{mark-is}
+use Rattle.run_engine.proofs.PlaceLemmas.{mark-there, place-within, trace_of-front}
+use Rattle.run_engine.proofs.ConvergeLemmas.{IsBeside-first, IsBeside-next, least-agreeing, bounded, ShareEnd-length, IsRunFrom-back, rest-shared, distinct-back, old-unused, new-unused, AgreesAt-here, AgreesAt-there, IsSpliced, IsSpliced-rest, IsSpliced-end}
 use Rattle.run_engine.proofs.replay.converge.converge.Goals.{then-at-seam+in-Some+in_ok-progress+in_ok-found+in_default-found, then-at-seam+in_default, else-at-seam}
 use Rattle.run_engine.proofs.MarksLemmas.{all_marks-stop, all_marks-rest, IsReached-length}
 use Rattle.run_engine.proofs.LeftLemmas.{left-at-stop, left-at-end}
@@ -76,7 +76,7 @@ rejoined_at-requires-clause-place c = c.loop-i.invariant.place.place
 
 pub rejoined_at-requires-clause-mark : goal.rejoined_at-requires-clause-mark
 rejoined_at-requires-clause-mark c =
-    kept-is c.args.revision.now.segments.now c.loop-i.i c.at-segment.result c.in-Some.mark c.args.revision.now.holds.kept.run.replay (omega (arith, c.loop-i-test.true, c.len-i-end.ensures)) c.at-segment.ensures c.in-Some.ensures
+    mark-is c.args.revision.now.segments.now c.loop-i.i c.at-segment.result c.in-Some.mark c.args.revision.now.holds.kept.run.replay (omega (arith, c.loop-i-test.true, c.len-i-end.ensures)) c.at-segment.ensures c.in-Some.ensures
     ∙ ap (end_from nothing_held) (trace_of-front c.args.revision.now.segments.now c.loop-i.i c.loop-i.at c.loop-i.invariant.place.place)
 
 pub rejoined_at-requires-clause-run : goal.rejoined_at-requires-clause-run
@@ -91,16 +91,16 @@ rejoined_at-requires-clause-old_unused c =
     (old-unused c.args.revision.now.segments.now c.args.revision.now.end.now c.in-Some.mark c.loop-i.i c.at-segment.result c.args.revision.now.holds.kept.run c.args.revision.now.holds.kept.trace.distinct (omega (arith, c.loop-i-test.true, c.len-i-end.ensures)) c.at-segment.ensures c.in-Some.ensures)
 
 -- the edited trace ends with the operations of the rest of the old run
-back : (old : List SegmentView) (ops : List Operation) (a b i at x : ℕ) → ShareEnd (trace_of old) ops a b → length (trace_of (take i old)) ≡ at → a ≤ at → x ≡ at - a + b → trace_of (opened (drop i old)) ≡ drop x ops
+back : (old : List SegmentView) (ops : List Operation) (a b i at x : ℕ) → ShareEnd (trace_of old) ops a b → length (trace_of (take i old)) ≡ at → a ≤ at → x ≡ at - a + b → trace_of (drop i old) ≡ drop x ops
 back old ops a b i at x shared place behind there = rest-shared old ops a b i at shared place behind ∙ ap (λ n. drop n ops) (sym there)
 
 pub rejoined_at-requires-clause-unused : goal.rejoined_at-requires-clause-unused
 rejoined_at-requires-clause-unused c =
-    (new-unused c.args.revision.now.ops.now.ops c.in_ok-progress.progress.front.len c.in_ok-progress.progress.front.segments (opened (drop c.loop-i.i c.args.revision.now.segments.now)) c.in_ok-progress.progress.front.end c.in_ok-progress.ensures.beside.reached c.args.revision.now.holds.trace.distinct
+    (new-unused c.args.revision.now.ops.now.ops c.in_ok-progress.progress.front.len c.in_ok-progress.progress.front.segments (drop c.loop-i.i c.args.revision.now.segments.now) c.in_ok-progress.progress.front.end c.in_ok-progress.ensures.beside.reached c.args.revision.now.holds.trace.distinct
     (back c.args.revision.now.segments.now c.args.revision.now.ops.now.ops c.args.seam.base c.args.seam.edited c.loop-i.i c.loop-i.at c.in_ok-progress.progress.front.len c.requires.shared c.loop-i.invariant.place.place c.if-at-seam.true c.in_ok-progress.ensures.there))
 
 -- where the old run goes on it has the operations that are left
-rest-is : (c : goal.Joined-divergence-14) → trace_of c.in-Some-found.rest ≡ trace_of (opened (drop c.loop-i.i c.args.revision.now.segments.now))
+rest-is : (c : goal.Joined-divergence-14) → trace_of c.in-Some-found.rest ≡ trace_of (drop c.loop-i.i c.args.revision.now.segments.now)
 rest-is c = rw c.in-Some-found.is at c.in_ok-found.ensures.trace
 
 spliced : (c : goal.Joined-divergence-14) → IsSpliced c.args.revision.now.ops.now.ops (c.in_ok-progress.progress.front.segments ++ c.in-Some-found.rest) c.in-Some-found.end
@@ -113,7 +113,7 @@ spliced c =
 -- the heaps agree where the replay stops
 agreed : (c : goal.Joined-divergence-14) → AgreesAt (trace_of c.args.revision.now.segments.now) c.args.revision.now.ops.now.ops c.args.seam.base c.args.seam.edited c.loop-i.at
 agreed c =
-    let m : c.in-Some.mark ≡ end_from nothing_held (trace_of (take c.loop-i.i c.args.revision.now.segments.now)) = kept-is c.args.revision.now.segments.now c.loop-i.i c.at-segment.result c.in-Some.mark c.args.revision.now.holds.kept.run.replay (omega (arith, c.loop-i-test.true, c.len-i-end.ensures)) c.at-segment.ensures c.in-Some.ensures in
+    let m : c.in-Some.mark ≡ end_from nothing_held (trace_of (take c.loop-i.i c.args.revision.now.segments.now)) = mark-is c.args.revision.now.segments.now c.loop-i.i c.at-segment.result c.in-Some.mark c.args.revision.now.holds.kept.run.replay (omega (arith, c.loop-i-test.true, c.len-i-end.ensures)) c.at-segment.ensures c.in-Some.ensures in
     let there : c.in_ok-progress.progress.front.len ≡ c.loop-i.at - c.args.seam.base + c.args.seam.edited = c.in_ok-progress.ensures.there in
     let agree : Agree c.in_ok-progress.progress.front.end c.in-Some.mark = c.in_ok-found.ensures.answer.0 (ap is_some c.in-Some-found.is) in
     AgreesAt-here (trace_of c.args.revision.now.segments.now) c.args.revision.now.ops.now.ops c.args.seam.base c.args.seam.edited c.loop-i.at c.in_ok-progress.progress.front.end c.in-Some.mark
@@ -129,16 +129,15 @@ pub returns-in-Some-found-clause-marks : goal.returns-in-Some-found-clause-marks
 returns-in-Some-found-clause-marks c =
     let old : List SegmentView = c.args.revision.now.segments.now in
     let front : List SegmentView = c.in_ok-progress.progress.front.segments in
-    let rest : List SegmentView = opened (drop c.loop-i.i old) in
     let there : c.in_ok-progress.progress.front.len ≡ c.loop-i.at - c.args.seam.base + c.args.seam.edited = c.in_ok-progress.ensures.there in
-    let marks : (at : ℕ) → marks_from at c.in-Some-found.rest ≡ marks_from at rest = rw c.in-Some-found.is at c.in_ok-found.ensures.marks in
-    let alike : all_marks (front ++ c.in-Some-found.rest) ≡ all_marks (front ++ rest) =
-    all_marks-rest front c.in-Some-found.rest rest (rest-is c) marks in
-    let trace : trace_of (front ++ rest) ≡ c.args.revision.now.ops.now.ops =
-    trace_of-append front rest ∙ ap (λ t. trace_of front ++ t) (sym (rest-is c)) ∙ sym (trace_of-append front c.in-Some-found.rest) ∙ (spliced c).trace in
+    let marks : (at : ℕ) → marks_from at c.in-Some-found.rest ≡ marks_from at (drop c.loop-i.i c.args.revision.now.segments.now) = rw c.in-Some-found.is at c.in_ok-found.ensures.marks in
+    let alike : all_marks (front ++ c.in-Some-found.rest) ≡ all_marks (front ++ drop c.loop-i.i old) =
+    all_marks-rest front c.in-Some-found.rest (drop c.loop-i.i old) (rest-is c) marks in
+    let trace : trace_of (front ++ drop c.loop-i.i old) ≡ c.args.revision.now.ops.now.ops =
+    trace_of-append front (drop c.loop-i.i old) ∙ ap (λ t. trace_of front ++ t) (sym (rest-is c)) ∙ sym (trace_of-append front c.in-Some-found.rest) ∙ (spliced c).trace in
     rw (c.in_ok-spliced.ensures.segments, c.in_ok-spliced.ensures.gone)
-    (left-at-stop c.args.revision.now.guesses.now c.args.revision.now.segments.now c.args.revision.now.ops.now.ops (marks_from 0 c.args.front.segments) (marks_from 0 c.in_ok-progress.progress.front.segments) _ c.args.seam.base c.args.seam.edited c.loop-i.i c.loop-i.at c.args.front.len c.in_ok-progress.progress.front.len _ _ _ _ _ _
-    c.args.revision.now.holds.trace.distinct c.loop-i.invariant.place.place c.if-at-seam.true (agreed c) (least-agreeing _ _ _ _ _ _ _ _ _ _ _ _ c.loop-i.invariant.place) there
+    (left-at-stop c.args.revision.now.guesses.now c.args.revision.now.segments.now c.args.revision.now.ops.now.ops (marks_from 0 c.args.front.segments) (marks_from 0 c.in_ok-progress.progress.front.segments) _ c.args.seam.base c.args.seam.edited c.loop-i.i c.loop-i.at c.args.front.len c.in_ok-progress.progress.front.len c.at-segment.result c.in-Some.mark _ _ _ _ _ _
+    c.args.revision.now.holds.trace.distinct (omega (arith, c.loop-i-test.true, c.len-i-end.ensures)) c.at-segment.ensures (sym c.in-Some.ensures) c.loop-i.invariant.place.place c.if-at-seam.true (agreed c) (least-agreeing _ _ _ _ _ _ _ _ _ _ _ _ c.loop-i.invariant.place) there
     (GoesOn-next _ _ _ _ _ _ _ _ _ _ _ _ c.loop-i.invariant.beside c.in_ok-progress.ensures.beside).onward c.in_ok-touch_at.ensures.answered
     (alike ∙ all_marks-stop c.args.revision.now.segments.now c.in_ok-progress.progress.front.segments c.args.revision.now.ops.now.ops c.args.seam.base c.args.seam.edited c.loop-i.i c.loop-i.at c.at-segment.result c.args.revision.now.holds.kept.run.full c.requires.shared (omega (arith, c.loop-i-test.true, c.len-i-end.ensures)) c.at-segment.ensures c.in-Some.mark (sym c.in-Some.ensures)
     c.loop-i.invariant.place.place c.if-at-seam.true (IsReached-length _ _ _ _ c.in_ok-progress.ensures.beside.reached ∙ there) trace))
@@ -146,7 +145,8 @@ returns-in-Some-found-clause-marks c =
 pub returns-in-Some-found-clause-stepped : goal.returns-in-Some-found-clause-stepped
 returns-in-Some-found-clause-stepped c =
     AreStepped-stop (trace_of c.args.revision.now.segments.now) c.args.revision.now.ops.now.ops (all_marks c.args.revision.now.segments.now) (with_guesses c.args.revision.now.guesses.now c.args.shelf.now.chunks) c.args.seam.base c.args.seam.edited c.args.front.len c.in_ok-progress.progress.front.len c.loop-i.at c.args.meter.now _ c.in_ok-progress.ensures.there
-    c.if-at-seam.true (place-within c.args.revision.now.segments.now c.loop-i.i c.loop-i.at c.loop-i.invariant.place.place) (agreed c) (GoesOn-steps _ _ _ _ _ _ _ _ _ (GoesOn-next _ _ _ _ _ _ _ _ _ _ _ _ c.loop-i.invariant.beside c.in_ok-progress.ensures.beside))
+    (mark-there c.args.revision.now.segments.now c.loop-i.i c.loop-i.at c.at-segment.result c.in-Some.mark (omega (arith, c.loop-i-test.true, c.len-i-end.ensures)) c.at-segment.ensures (sym c.in-Some.ensures) c.loop-i.invariant.place.place)
+    c.if-at-seam.true (agreed c) (GoesOn-steps _ _ _ _ _ _ _ _ _ (GoesOn-next _ _ _ _ _ _ _ _ _ _ _ _ c.loop-i.invariant.beside c.in_ok-progress.ensures.beside))
 
 place-end : (old : List SegmentView) (i at : ℕ) → length old ≤ i → i ≤ length old → length (trace_of (take i old)) ≡ at → at ≡ length (trace_of old)
 place-end old i at ge le e = let n : i ≡ length old = omega arith in sym e ∙ ap (λ j. length (trace_of (take j old))) n ∙ ap (λ ss. length (trace_of ss)) (take-length old)
@@ -199,7 +199,7 @@ loop-i-preserved c =
     let old = c.args.revision.now.segments.now in
     elim c.if-at-seam.branch [
       | then-at-seam+in-Some+in_ok-progress+in_ok-found+in_default-found w ↦
-          let m : w.in-Some.mark ≡ end_from nothing_held (trace_of (take c.loop-i.i c.args.revision.now.segments.now)) = kept-is c.args.revision.now.segments.now c.loop-i.i c.at-segment.result w.in-Some.mark c.args.revision.now.holds.kept.run.replay (omega (arith, c.loop-i-test.true, c.len-i-end.ensures)) c.at-segment.ensures w.in-Some.ensures in
+          let m : w.in-Some.mark ≡ end_from nothing_held (trace_of (take c.loop-i.i c.args.revision.now.segments.now)) = mark-is c.args.revision.now.segments.now c.loop-i.i c.at-segment.result w.in-Some.mark c.args.revision.now.holds.kept.run.replay (omega (arith, c.loop-i-test.true, c.len-i-end.ensures)) c.at-segment.ensures w.in-Some.ensures in
           let there : w.in_ok-progress.progress.front.len ≡ c.loop-i.at - c.args.seam.base + c.args.seam.edited = w.in_ok-progress.ensures.there in
           let front = w.in_ok-progress.ensures.beside.reached in
           let rise = w.advance.ensures.rise in
@@ -223,7 +223,7 @@ loop-i-preserved c =
           (record {
             place = IsBeside-next c.args.revision.now.segments.now c.args.revision.now.ops.now.ops c.args.seam.base c.args.seam.edited c.args.front.len c.args.meter.now c.loop-i.i c.loop-i.at c.loop-i.progress.front.len c.loop-i.progress.front.segments c.loop-i.progress.front.end c.loop-i.meter
                 c.loop-i.progress.front.len c.loop-i.progress.front.segments c.loop-i.progress.front.end c.loop-i.meter c.at-segment.result c.loop-i.invariant.place (omega (arith, c.loop-i-test.true, c.len-i-end.ensures)) c.at-segment.ensures c.loop-i.invariant.place.front c.loop-i.invariant.place.order c.loop-i.invariant.place.rise
-                (λ marked behind agrees. nothing-kept c.at-segment.result w.in_default.ensures marked);
+                (λ marked behind agrees. let f : is_some c.at-segment.result.mark ≡ false = ap is_some (sym w.in_default.ensures) in cc);
             beside = c.loop-i.invariant.beside;
             fork = c.loop-i.invariant.fork;
             placed = c.loop-i.invariant.placed;

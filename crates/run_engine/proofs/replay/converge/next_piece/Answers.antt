@@ -1,10 +1,11 @@
-use Rattle.std.proofs.Common.{◌≡◌, ◌+◌, ◌-◌, length, take, drop, refl, sym, subst, arith}
+use Rattle.std.proofs.Common.{◌≡◌, ◌+◌, ◌-◌, length, take, drop, refl, sym, subst, ◌∙◌, arith}
 use Rattle.std.specs.Prelude.{slice_range}
 use mathlib.Core.Logic.{inl, inr}
 use Rattle.run_engine.specs.Memo.{IsAmong}
+use Rattle.run_engine.specs.Guesses.{with_guesses}
 use Rattle.run_engine.proofs.MemoLemmas.{IsSearched-none}
 use Rattle.run_engine.proofs.GuessLemmas.{IsAmong-guess, IsAmong-chunk}
-use Rattle.run_engine.proofs.PieceLemmas.{IsPiece-of-more, take-next, distinct-slice_range, unused-slice_range}
+use Rattle.run_engine.proofs.PieceLemmas.{IsReached-next, IsPiece-of-more, take-next, distinct-slice_range, unused-slice_range}
 use Rattle.run_engine.proofs.replay.converge.next_piece.Goals as goal
 
 pub stepped-requires-clause-distinct : goal.stepped-requires-clause-distinct
@@ -40,15 +41,12 @@ returns-clause-piece c =
 pub returns-in-Some-stretch-clause-next : goal.returns-in-Some-stretch-clause-next
 returns-in-Some-stretch-clause-next c = rw c.in-Some-stretch.is at (c.in_ok-stretch.ensures.next c.found.new.shelf.chunks)
 
--- an old stretch before any chunk
-pub returns-in-Some-first-clause-taken : goal.returns-in-Some-first-clause-taken
-returns-in-Some-first-clause-taken c = inl (inl (rw c.in-Some-first.is at c.in_ok-first.ensures.stretch), refl)
-
-pub returns-in-Some-first-clause-next : goal.returns-in-Some-first-clause-next
-returns-in-Some-first-clause-next c = rw c.in-Some-first.is at (c.in_ok-first.ensures.next c.args.shelf.now.chunks)
-
-pub returns-in-Some-first-clause-searched : goal.returns-in-Some-first-clause-searched
-returns-in-Some-first-clause-searched c = IsSearched-none c.args.shelf.now
+pub returns-in-Some-stretch-clause-fork : goal.returns-in-Some-stretch-clause-fork
+returns-in-Some-stretch-clause-fork c =
+    let piece = rw c.in-Some-stretch.is at c.in_ok-stretch.ensures.piece in
+    sym (IsReached-next c.args.revision.now.ops.now.ops c.args.progress.now.front.len c.args.to c.in-Some-stretch.piece.len c.args.progress.now.front.segments c.in-Some-stretch.piece.segments c.args.progress.now.front.end c.in-Some-stretch.piece.end
+    c.requires.may.reached c.requires.may.order c.requires.may.within piece).state
+    ∙ rw c.in-Some-stretch.is at c.in_ok-stretch.ensures.base
 
 -- a guess
 pub returns-in-Some-clause-taken : goal.returns-in-Some-clause-taken

@@ -1,4 +1,5 @@
 use Rattle.std.proofs.Common.{refl, sym}
+use Rattle.run_engine.specs.Guessed.{Serves}
 use Rattle.run_engine.proofs.GuessLemmas.{guess-there}
 use Rattle.run_engine.proofs.replay.guess.guessed.Goals as goal
 

@@ -23,8 +23,8 @@ loop-front-preserved-then-is_gone c =
     let on = c.in_ok-front.ensures in
     let goes : is_gone c.args.gone.now c.loop-front.front.len ≡ true = sym c.is_gone.ensures ∙ c.if-is_gone.true in
     rw (on.segments, on.end, on.len, on.count)
-    (IsLoaded-gone c.args.ops.now c.in_ok-copies.copies.items c.args.gone.now c.args.meter.now c.loop-front.front.len _ c.loop-front.meter c.loop-front.front.segments c.loop-front.front.end c.anchor-anchor.result
-    c.loop-front.invariant c.loop-front-test.true (omega arith) c.anchor-anchor.ensures c.in_ok-copies.ensures goes)
+    (IsLoaded-gone c.args.ops.now c.in_ok-copies.copies.items c.args.gone.now c.args.meter.now c.loop-front.front.len _ c.loop-front.meter c.loop-front.front.segments c.loop-front.front.end
+    c.loop-front.invariant c.loop-front-test.true (omega arith) c.in_ok-copies.ensures goes)
 
 pub loop-front-preserved : goal.loop-front-preserved
 loop-front-preserved c =
