@@ -10,8 +10,8 @@ use Rattle.trace_types.specs.Operation.{Operation}
 use Rattle.trace_types.specs.Trace.{place_of, is_taken, has_distinct_numbers}
 use Rattle.run_engine.specs.Segments.{without}
 use Rattle.run_engine.specs.GivenUp.{given_up, name_at}
-use Rattle.run_engine.specs.Cleared.{is_named}
-use Rattle.run_engine.specs.Onward.{among}
+use Rattle.run_engine.specs.inner.Cleared.{is_named}
+use Rattle.run_engine.specs.inner.Onward.{among}
 use Rattle.run_engine.proofs.EditLemmas.{right}
 use Rattle.run_engine.proofs.NumberLemmas.{alone, within}
 use Rattle.run_engine.proofs.GoneLemmas.{given-up-at}

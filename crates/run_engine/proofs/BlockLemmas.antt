@@ -10,9 +10,9 @@ use Rattle.ownership_model.specs.Patch.{Remains, patched, AreThere, AreBoth}
 use Rattle.ownership_model.proofs.LawsHold.{patches}
 use Rattle.run_engine.specs.SegmentView.{SegmentView}
 use Rattle.run_engine.specs.Segments.{without_mark}
-use Rattle.run_engine.specs.Cleared.{cleared_if}
-use Rattle.run_engine.specs.Exchanged.{exchanged, CanExchange, IsExchangeable, AreExchangeable}
-use Rattle.run_engine.specs.Blocks.{left, laid_over, IsSoundBelow, AreSoundBelow, standing, IsBoth}
+use Rattle.run_engine.specs.inner.Cleared.{cleared_if}
+use Rattle.run_engine.specs.inner.Exchanged.{exchanged, CanExchange, IsExchangeable, AreExchangeable}
+use Rattle.run_engine.specs.inner.Blocks.{left, laid_over, IsSoundBelow, AreSoundBelow, standing, IsBoth}
 
 pub length-left : (gone : List Bool) (ss : List SegmentView) → length (left gone ss) ≡ length ss
 length-left [] ss = refl

@@ -5,8 +5,8 @@ use Rattle.std.proofs.lemmas.List.{get_or_append_left, get_or-append-add, append
 use Rattle.ownership_model.specs.Patch.{Remains}
 use Rattle.run_engine.specs.SegmentView.{SegmentView}
 use Rattle.run_engine.specs.Segments.{without_mark}
-use Rattle.run_engine.specs.Parts.{joined, starts_from}
-use Rattle.run_engine.specs.Exchanged.{exchanged, AreExchangeable}
+use Rattle.run_engine.specs.inner.Parts.{joined, starts_from}
+use Rattle.run_engine.specs.inner.Exchanged.{exchanged, AreExchangeable}
 use Rattle.run_engine.proofs.PartLemmas.{joined-next, joined-around}
 
 -- the segment at an index
@@ -26,10 +26,10 @@ length-without [] i = refl
 length-without (s ∷ ss) zero = refl
 length-without (s ∷ ss) (suc i) = ap suc (length-without ss i)
 
-without-front : (ss more : List SegmentView) (i : ℕ) → i < length ss → without_mark (ss ++ more) i ≡ without_mark ss i ++ more
-without-front [] more i lt = absurd (omega arith)
-without-front (s ∷ ss) more zero lt = refl
-without-front (s ∷ ss) more (suc i) lt = ap (λ all. s ∷ all) (without-front ss more i (omega arith))
+without-prefix : (ss more : List SegmentView) (i : ℕ) → i < length ss → without_mark (ss ++ more) i ≡ without_mark ss i ++ more
+without-prefix [] more i lt = absurd (omega arith)
+without-prefix (s ∷ ss) more zero lt = refl
+without-prefix (s ∷ ss) more (suc i) lt = ap (λ all. s ∷ all) (without-prefix ss more i (omega arith))
 
 without-behind : (ss more : List SegmentView) (n i : ℕ) → length ss + i ≡ n → without_mark (ss ++ more) n ≡ ss ++ without_mark more i
 without-behind [] more n i at = ap (without_mark more) (omega arith)
@@ -42,7 +42,7 @@ pub joined-without : (blocks : List (List SegmentView)) (i rest index : ℕ) (b 
 joined-without [] i rest index b lt is place inside = absurd (omega arith)
 joined-without (p ∷ blocks) zero rest index b lt is place inside =
     let n : rest ≡ index = omega (arith, place) in
-    sym (without-front b (joined blocks) rest inside) ∙ (λ j. without_mark (is j ++ joined blocks) (n j))
+    sym (without-prefix b (joined blocks) rest inside) ∙ (λ j. without_mark (is j ++ joined blocks) (n j))
 joined-without (p ∷ blocks) (suc i) rest index b lt is place inside =
     let long = length-append p (joined (take i blocks)) in
     let n : length p + (length (joined (take i blocks)) + rest) ≡ index = omega (arith, place) in
@@ -125,14 +125,14 @@ pub stretch-next : (blocks : List (List SegmentView)) (i from to at low high : �
     → low ≡ min (from - at) (length b) → high ≡ min (to - at) (length b) → part ≡ slice_range b low high
     → slice_range (joined (take i blocks)) from to ++ part ≡ slice_range (joined (take (i + 1) blocks)) from to
 stretch-next blocks i from to at low high b part le lt is place low-is high-is part-is =
-    let front : List SegmentView = joined (take i blocks) in
-    ap (λ p. slice_range front from to ++ p) (part-is ∙ (λ j. slice_range b (low-is j) (high-is j)) ∙ stretch-within b (from - at) (to - at) (omega arith)
+    let prefix : List SegmentView = joined (take i blocks) in
+    ap (λ p. slice_range prefix from to ++ p) (part-is ∙ (λ j. slice_range b (low-is j) (high-is j)) ∙ stretch-within b (from - at) (to - at) (omega arith)
     ∙ ap (λ n. slice_range b (from - n) (to - n)) place)
-    ∙ sym (stretch-append front b from to le) ∙ ap (λ all. slice_range all from to) (sym (joined-next blocks i b lt is))
+    ∙ sym (stretch-append prefix b from to le) ∙ ap (λ all. slice_range all from to) (sym (joined-next blocks i b lt is))
 
-exchangeable-front : (x : Remains) (ss more : List SegmentView) → AreExchangeable x (ss ++ more) → AreExchangeable x ss
-exchangeable-front x [] more h = tt
-exchangeable-front x (s ∷ ss) more h = (h.0, exchangeable-front x ss more h.1)
+exchangeable-prefix : (x : Remains) (ss more : List SegmentView) → AreExchangeable x (ss ++ more) → AreExchangeable x ss
+exchangeable-prefix x [] more h = tt
+exchangeable-prefix x (s ∷ ss) more h = (h.0, exchangeable-prefix x ss more h.1)
 
 exchangeable-behind : (x : Remains) (ss more : List SegmentView) → AreExchangeable x (ss ++ more) → AreExchangeable x more
 exchangeable-behind x [] more h = h
@@ -141,7 +141,7 @@ exchangeable-behind x (s ∷ ss) more h = exchangeable-behind x ss more h.1
 -- in each block the remains can be exchanged
 pub exchangeable-block : (x : Remains) (blocks : List (List SegmentView)) (i : ℕ) (b : List SegmentView) → i < length blocks → b ≡ get_or blocks i b → AreExchangeable x (joined blocks) → AreExchangeable x b
 exchangeable-block x blocks i b lt is h =
-    exchangeable-front x b (joined (drop (i + 1) blocks)) (exchangeable-behind x (joined (take i blocks)) (b ++ joined (drop (i + 1) blocks)) (subst (AreExchangeable x) (joined-around blocks i b lt is) h))
+    exchangeable-prefix x b (joined (drop (i + 1) blocks)) (exchangeable-behind x (joined (take i blocks)) (b ++ joined (drop (i + 1) blocks)) (subst (AreExchangeable x) (joined-around blocks i b lt is) h))
 
 pub exchanged-next : (x : Remains) (blocks : List (List SegmentView)) (i : ℕ) (b : List SegmentView) → i < length blocks → b ≡ get_or blocks i b
     → map (exchanged x) (joined (take i blocks)) ++ map (exchanged x) b ≡ map (exchanged x) (joined (take (i + 1) blocks))

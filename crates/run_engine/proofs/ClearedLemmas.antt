@@ -12,7 +12,7 @@ use Rattle.trace_types.specs.Operation.{Operation}
 use Rattle.run_engine.specs.SegmentView.{SegmentView}
 use Rattle.run_engine.specs.Segments.{ops_of, trace_of, mark_here, marks_from, all_marks, without_mark, IsSegmentFrom, AreReplayFrom, AreFull, BeginsMarked, IsKept}
 use Rattle.run_engine.specs.GivenUp.{name_at}
-use Rattle.run_engine.specs.Cleared.{is_named, cleared_if, last_name, cleared}
+use Rattle.run_engine.specs.inner.Cleared.{is_named, cleared_if, last_name, cleared}
 use Rattle.run_engine.proofs.NameLemmas.{last-name}
 use Rattle.run_engine.proofs.BlocksLemmas.{length-without}
 
@@ -78,24 +78,24 @@ filter-here : (test : ℕ → Bool) (b : Bool) (at : ℕ) (o : Option State) →
 filter-here test b at None is = refl
 filter-here test b at (Some m) is = ap (λ c. cond c (at ∷ []) []) is
 
--- the checkpoints that are left of segments behind a front
-marks_from-cleared : (named : ℕ → Bool) (trace front : List Operation) (before : Option ℕ) (at : ℕ) (segments : List SegmentView) → AreFull segments → trace ≡ front ++ trace_of segments → at ≡ length front
+-- the checkpoints that are left of segments behind a prefix
+marks_from-cleared : (named : ℕ → Bool) (trace prefix : List Operation) (before : Option ℕ) (at : ℕ) (segments : List SegmentView) → AreFull segments → trace ≡ prefix ++ trace_of segments → at ≡ length prefix
     → before ≡ name_at trace at → marks_from at (cleared named before segments) ≡ filter (λ p. not (goes named trace p)) (marks_from at segments)
-marks_from-cleared named trace front before at [] full whole place name = refl
-marks_from-cleared named trace front before at (s ∷ segments) full whole place name =
+marks_from-cleared named trace prefix before at [] full whole place name = refl
+marks_from-cleared named trace prefix before at (s ∷ segments) full whole place name =
     let some : 0 < length (ops_of s) = full.0 in
     let keep : ℕ → Bool = λ p. not (goes named trace p) in
     let gone : Bool = is_named named before in
     let next : ℕ = at + length (ops_of s) in
-    let long : length trace ≡ length front + length (ops_of s ++ trace_of segments) = ap length whole ∙ length-append front (ops_of s ++ trace_of segments) in
+    let long : length trace ≡ length prefix + length (ops_of s ++ trace_of segments) = ap length whole ∙ length-append prefix (ops_of s ++ trace_of segments) in
     let inner : at < length trace = omega (arith, length-append (ops_of s) (trace_of segments)) in
     let here : not (is_named named before) ≡ not (goes named trace at) =
     ap (λ o. not (is_named named o)) name ∙ ap (λ b. not (b && is_named named (name_at trace at))) (sym (lt-ltb at (length trace) inner)) in
     let behind : last_name (ops_of s) ≡ name_at trace (at + length (ops_of s)) =
-    sym (ap (λ ops. name_at ops (at + length (ops_of s))) whole ∙ ap (λ n. name_at (front ++ (ops_of s ++ trace_of segments)) (n + length (ops_of s))) place ∙ last-name front (ops_of s) (trace_of segments) some) in
+    sym (ap (λ ops. name_at ops (at + length (ops_of s))) whole ∙ ap (λ n. name_at (prefix ++ (ops_of s ++ trace_of segments)) (n + length (ops_of s))) place ∙ last-name prefix (ops_of s) (trace_of segments) some) in
     let later : marks_from next (cleared named (last_name (ops_of s)) segments) ≡ filter keep (marks_from next segments) =
-    marks_from-cleared named trace (front ++ ops_of s) (last_name (ops_of s)) next segments full.1 (whole ∙ sym (append_assoc front (ops_of s) (trace_of segments)))
-    (ap (λ n. n + length (ops_of s)) place ∙ sym (length-append front (ops_of s))) behind in
+    marks_from-cleared named trace (prefix ++ ops_of s) (last_name (ops_of s)) next segments full.1 (whole ∙ sym (append_assoc prefix (ops_of s) (trace_of segments)))
+    (ap (λ n. n + length (ops_of s)) place ∙ sym (length-append prefix (ops_of s))) behind in
     ap (λ ops. mark_here at (cleared_if gone s).mark ++ marks_from (at + length ops) (cleared named (last_name (ops_of s)) segments)) (ops_of-cleared_if gone s)
     ∙ ap (λ ps. mark_here at (cleared_if gone s).mark ++ ps) later
     ∙ ap (λ ps. ps ++ filter keep (marks_from next segments)) (mark_here-cleared at gone s ∙ left-here gone at s.mark ∙ filter-here keep (not gone) at s.mark here)

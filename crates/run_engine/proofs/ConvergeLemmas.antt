@@ -17,7 +17,7 @@ use Rattle.ownership_model.proofs.LawsHold.{appends}
 use Rattle.agreement.specs.Agreement.{Agree}
 use Rattle.run_engine.proofs.SegmentLemmas.{trace_of-append, marks_from-append, AreReplayFrom-append, AreReplayFrom-back, length-trace_of-next}
 use Rattle.run_engine.proofs.ListingLemmas.{around}
-use Rattle.run_engine.proofs.PieceLemmas.{AreFull-append, AreFull-front, AreFull-back, BeginsMarked-append, mark-is, unused-behind}
+use Rattle.run_engine.proofs.PieceLemmas.{AreFull-append, AreFull-prefix, AreFull-back, BeginsMarked-append, mark-is, unused-behind}
 use Rattle.run_engine.proofs.PlaceLemmas.{Contains-one, mark_here-place, mark_here-some, marks_from-least, trace_of-parted, trace_of-back, place-within, marks_from-below}
 
 pub ShareEnd-length : (old ops : List Operation) (a b : ℕ) → ShareEnd old ops a b → length old - a ≡ length ops - b
@@ -26,7 +26,7 @@ ShareEnd-length old ops a b h = sym (length-drop a old) ∙ ap length h.same ∙
 -- a loop over the old segments: it stands at the one at i, which begins at `at`; the replay of the edited trace stands at x
 pub record IsBeside (old : List SegmentView) (ops : List Operation) (a b r before i at x : ℕ) (segments : List SegmentView) (heap : State) (count : ℕ) : Type 0 where
   pub place : length (trace_of (take i old)) ≡ at
-  pub front : IsReached ops x segments heap
+  pub prefix : IsReached ops x segments heap
   pub order : x ≤ at - a + b
   pub rise : count + r ≤ before + x
   pub later : (p : ℕ) → Contains (all_marks old) p → a ≤ p → AgreesAt (trace_of old) ops a b p → Contains (marks_from at (drop i old) ++ length (trace_of old) ∷ []) p
@@ -36,14 +36,14 @@ pub IsBeside-next : (old : List SegmentView) (ops : List Operation) (a b r befor
     → IsReached ops y next then → y ≤ at - a + b → counted + r ≤ before + y
     → (is_some s.mark ≡ true → a ≤ at → AgreesAt (trace_of old) ops a b at → ⊥)
     → IsBeside old ops a b r before (i + 1) (at + length s.ops) y next then counted
-IsBeside-next old ops a b r before i at x segments heap count y next then counted s h lt is front order rise differs =
+IsBeside-next old ops a b r before i at x segments heap count y next then counted s h lt is prefix order rise differs =
     let n : ℕ = length (trace_of old) in
     let rest : List ℕ = marks_from (at + length s.ops) (drop (i + 1) old) ++ n ∷ [] in
     let list : marks_from at (drop i old) ++ n ∷ [] ≡ mark_here at s.mark ++ rest =
     ap (λ ss. marks_from at ss ++ n ∷ []) (around old i s lt is) ∙ append_assoc (mark_here at s.mark) (marks_from (at + length s.ops) (drop (i + 1) old)) (n ∷ []) in
     record {
       place = length-trace_of-next old i s lt is ∙ ap (λ m. m + length s.ops) h.place;
-      front = front;
+      prefix = prefix;
       order = omega arith;
       rise = rise;
       later = λ p mark behind agrees. ⊎_elim
@@ -123,7 +123,7 @@ pub record IsSpliced (ops : List Operation) (segments : List SegmentView) (end :
   pub run : IsRun segments end
   pub trace : trace_of segments ≡ ops
 
--- the rest of a run goes on from the front
+-- the rest of a run goes on from the prefix
 pub IsSpliced-rest : (ops : List Operation) (x : ℕ) (segments rest : List SegmentView) (heap end : State) → IsReached ops x segments heap → trace_of rest ≡ drop x ops → IsRunFrom heap rest end → IsSpliced ops (segments ++ rest) end
 IsSpliced-rest ops x segments rest heap end h back run =
     let here : heap ≡ end_from nothing_held (trace_of segments) = h.state ∙ ap (end_from nothing_held) (sym h.trace) in
@@ -158,12 +158,12 @@ IsBeside-first old ops a b r before i at segments heap full within place early h
     ∙ ap (λ p. marks_from 0 (take i old) ++ (marks_from p (drop i old) ++ n ∷ [])) from in
     record {
       place = place;
-      front = h;
+      prefix = h;
       order = omega arith;
       rise = omega arith;
       later = λ p mark behind agrees. ⊎_elim
-          (λ front.
-          let less : p < 0 + length (trace_of (take i old)) = marks_from-below 0 (take i old) p (AreFull-front (take i old) (drop i old) (subst AreFull (sym parts) full)) front in
+          (λ prefix.
+          let less : p < 0 + length (trace_of (take i old)) = marks_from-below 0 (take i old) p (AreFull-prefix (take i old) (drop i old) (subst AreFull (sym parts) full)) prefix in
           absurd (omega arith))
           (λ later. later)
           (Contains-append_cases (marks_from 0 (take i old)) (marks_from at (drop i old) ++ n ∷ []) p (subst (λ ps. Contains ps p) list mark));

@@ -13,15 +13,15 @@ use Rattle.ownership_model.specs.Touched.{touched_in, AgreeOutside}
 use Rattle.ownership_model.proofs.LawsHold.{appends, touched}
 use Rattle.run_engine.specs.SegmentView.{SegmentView}
 use Rattle.run_engine.specs.Segments.{ops_of, trace_of, AreReplayFrom, IsReached}
-use Rattle.run_engine.specs.OldRun.{old_trace, new_trace}
+use Rattle.run_engine.specs.inner.OldRun.{old_trace, new_trace}
 use Rattle.run_engine.specs.declared.replay.divergence.Divergence.{Divergence}
 use Rattle.run_engine.specs.declared.replay.progress.Fork.{Fork}
 use Rattle.run_engine.specs.declared.replay.revision.Revision.{Revision}
-use Rattle.run_engine.specs.Divergence.{IsFork, DifferWithin, IsDivergence, HasFollowed, HasCompared}
+use Rattle.run_engine.specs.inner.Divergence.{IsFork, DifferWithin, IsDivergence, HasFollowed, HasCompared}
 use Rattle.run_engine.proofs.ListingLemmas.{take-shorter}
 use Rattle.run_engine.proofs.SegmentLemmas.{trace_of-next}
 use Rattle.run_engine.proofs.PieceLemmas.{segment-at}
-use Rattle.run_engine.proofs.PlaceLemmas.{trace_of-front, place-within}
+use Rattle.run_engine.proofs.PlaceLemmas.{trace_of-prefix, place-within}
 
 -- the same from the other side
 outside-sym : (os : List ℕ) (m n : State) → AgreeOutside os m n → AgreeOutside os n m
@@ -42,7 +42,7 @@ outside-next os m other ops outcomes h is q none =
 -- where a segment begins at the position
 pub HasFollowed-none : (segments : List SegmentView) (first at from : ℕ) (os : List ℕ) → length (trace_of (take first segments)) ≡ at → at ≡ from → HasFollowed segments from first os os
 HasFollowed-none segments first at from os place e =
-    let there : trace_of (take first segments) ≡ take from (trace_of segments) = trace_of-front segments first at place ∙ ap (λ n. take n (trace_of segments)) e in
+    let there : trace_of (take first segments) ≡ take from (trace_of segments) = trace_of-prefix segments first at place ∙ ap (λ n. take n (trace_of segments)) e in
     let fits : at ≤ length (trace_of segments) = place-within segments first at place in
     record {
       within = omega arith;
@@ -76,7 +76,7 @@ caught-up ops old segments edited base x index at os more all heap h reached new
     subst (λ t. AgreeOutside more (end_from nothing_held t) base_state) end
     (new.outside base_state (subst (λ t. AgreeOutside os (end_from nothing_held t) base_state) (sym begin) h)) in
     outside-sym all (end_from nothing_held (take at (trace_of old))) (end_from nothing_held (take x ops))
-    (subst (λ t. AgreeOutside all (end_from nothing_held t) (end_from nothing_held (take x ops))) (trace_of-front old index at place)
+    (subst (λ t. AgreeOutside all (end_from nothing_held t) (end_from nothing_held (take x ops))) (trace_of-prefix old index at place)
     (then.outside (end_from nothing_held (take x ops)) (outside-sym more (end_from nothing_held (take x ops)) base_state here)))
 
 -- where both stand at one heap nothing differs
@@ -91,7 +91,7 @@ pub record StandAt (r : Revision) (d : Divergence) (heap mark : State) : Type 0 
   pub heap_is : heap ≡ end_from nothing_held (take d.edited (new_trace r))
   pub mark_is : mark ≡ end_from nothing_held (take d.base (old_trace r))
 
--- so it is behind the front, and at an old checkpoint
+-- so it is at the end of the prefix, and at an old checkpoint
 pub stand-there : (r : Revision) (d : Divergence) (x at : ℕ) (segments : List SegmentView) (heap mark : State) → IsReached (new_trace r) x segments heap
     → mark ≡ end_from nothing_held (take at (old_trace r)) → d.edited ≡ x → d.base ≡ at → StandAt r d heap mark
 stand-there r d x at segments heap mark reached is edited base = record {

@@ -6,12 +6,12 @@ use Rattle.ownership_model.specs.Step.{end_from}
 use Rattle.op_step.specs.Chunk.{Chunk}
 use Rattle.mark_shelf.specs.Joints.{EndsWith}
 use Rattle.run_engine.specs.declared.replay.fresh.FreshChunk.{FreshChunk}
-use Rattle.run_engine.specs.FreshChunks.{end_after, AreLinked}
+use Rattle.run_engine.specs.inner.FreshChunks.{end_after, AreLinked}
 use Rattle.run_engine.specs.Memo.{AreSome}
 use Rattle.run_engine.specs.declared.replay.origin.Origin.{Origin}
 use Rattle.run_engine.specs.declared.replay.origin.Origin.TheVariants.{Old, Stepped, Shelf}
 use Rattle.run_engine.specs.declared.replay.origin.Behind.TheVariants as behind
-use Rattle.run_engine.specs.Origins.{stepped_chunk, behind_of, end_behind}
+use Rattle.run_engine.specs.inner.Origins.{stepped_chunk, behind_of, end_behind}
 
 -- behind one chunk more, that is where it ends
 pub end_after-push : (before : Option State) (fs : List FreshChunk) (f : FreshChunk) → end_after before (fs ++ f ∷ []) ≡ Some (end_from f.chunk.start f.chunk.ops)
@@ -33,7 +33,7 @@ pub AreBehind-next : (chunks : List (ℕ × Chunk)) (last : Option ℕ) (state :
 AreBehind-next chunks last state [] h ends = tt
 AreBehind-next chunks last state (f ∷ fs) h ends = (λ t. subst (λ s. IfSome last (λ k. EndsWith chunks k s)) (h.0 t) ends, h.1)
 
--- a chunk that was stepped where the front stands begins where the last of the others ends
+-- a chunk that was stepped where the prefix ends begins where the last of the others ends
 pub begins-there : (stepped : Option Chunk) (fresh : Option State) (state : State) → IfSome stepped (λ c. c.start ≡ state) → IfSome fresh (λ s. s ≡ state) → IfSome stepped (λ c. IfSome fresh (λ s. s ≡ c.start))
 begins-there None fresh state h k = tt
 begins-there (Some c) None state h k = tt

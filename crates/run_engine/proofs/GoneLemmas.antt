@@ -14,7 +14,7 @@ use Rattle.run_engine.specs.RunView.{RunView}
 use Rattle.run_engine.specs.Segments.{without}
 use Rattle.run_engine.specs.Marks.{multiples_below, load_marks}
 use Rattle.run_engine.specs.GivenUp.{given_up, name_at, names_at, IsTouched}
-use Rattle.run_engine.specs.Loaded.{is_gone, kept_below, loaded_view}
+use Rattle.run_engine.specs.inner.Loaded.{is_gone, kept_below, loaded_view}
 use Rattle.run_engine.proofs.LoadLemmas.{multiples_below-next, range-append}
 use Rattle.run_engine.proofs.TouchLemmas.{IsTouched-append}
 use Rattle.run_engine.proofs.NameLemmas.{due-name}

@@ -1,5 +1,5 @@
 -- Guesses beside the chunks of a shelf.
-use Rattle.std.proofs.Common.{◌≡◌, ℕ, ◌+◌, ◌-◌, ◌<◌, ◌≤◌, zero, suc, List, [], ◌∷◌, ◌++◌, length, take, drop, get_or, refl, ap, sym, subst, ◌∙◌, arith}
+use Rattle.std.proofs.Common.{◌≡◌, ℕ, ◌+◌, ◌-◌, ◌<◌, ◌≤◌, zero, suc, List, [], ◌∷◌, ◌++◌, length, take, drop, get_or, ap, sym, subst, ◌∙◌, arith}
 use Rattle.std.specs.Prelude.{map, Contains, slice_range}
 use mathlib.Core.Logic.{⊎_elim}
 use Rattle.std.proofs.Math.Seq.{take-add}
@@ -9,7 +9,7 @@ use Rattle.trace_types.specs.Operation.{Operation}
 use Rattle.ownership_model.specs.State.{State}
 use Rattle.op_step.specs.Chunk.{Chunk}
 use Rattle.run_engine.specs.Guesses.{with_guesses, IsGuessed}
-use Rattle.run_engine.specs.Guessed.{Serves}
+use Rattle.run_engine.specs.inner.Guessed.{Serves}
 use Rattle.run_engine.specs.Memo.{IsAmong, AreSome}
 use Rattle.run_engine.proofs.ListingLemmas.{take-shorter}
 

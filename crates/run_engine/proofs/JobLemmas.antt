@@ -1,8 +1,8 @@
 -- The stretches that edits change.
-use Rattle.std.proofs.Common.{◌≡◌, ◌≢◌, ℕ, zero, suc, ◌+◌, ◌-◌, ◌<◌, ◌≤◌, Bool, true, false, List, [], ◌∷◌, ◌++◌, length, take, drop, get_or, min, max, refl, ap, sym, subst, ◌∙◌, arith, append_assoc}
+use Rattle.std.proofs.Common.{◌≡◌, ℕ, zero, suc, ◌+◌, ◌-◌, ◌<◌, ◌≤◌, true, false, List, [], ◌∷◌, ◌++◌, length, take, drop, get_or, min, max, refl, ap, sym, subst, ◌∙◌, arith, append_assoc}
 use Rattle.std.specs.FinMap.{get}
-use Rattle.std.specs.Prelude.{Option, Some, None, is_some, IsTrue, Contains, Result, Ok, Err, fold, option_to_list, slice_range}
-use mathlib.Core.Logic.{⊎_elim, inl, inr}
+use Rattle.std.specs.Prelude.{Option, None, is_some, Contains, option_to_list, slice_range}
+use mathlib.Core.Logic.{⊎_elim}
 use Rattle.std.proofs.lemmas.Bool.{cases_lt}
 use Rattle.std.proofs.lemmas.List.{drop_all, length-drop, take_all, take_more}
 use Rattle.std.proofs.lemmas.List.Elements.{Contains-append_cases}
@@ -11,11 +11,11 @@ use Rattle.ownership_model.specs.State.{State, nothing_held}
 use Rattle.ownership_model.specs.Step.{end_from, AreUnused}
 use Rattle.op_step.specs.Chunk.{Chunk}
 use Rattle.run_engine.specs.SegmentView.{SegmentView}
-use Rattle.run_engine.specs.Segments.{ops_of, trace_of, mark_here, marks_from, all_marks, has_mark, AreFull, IsNoMark}
+use Rattle.run_engine.specs.Segments.{trace_of, marks_from, all_marks, has_mark, AreFull, IsNoMark}
 use Rattle.run_engine.specs.HeadAndTail.{AreAlike}
 use Rattle.run_engine.specs.declared.jobs.changed.Place.{Place}
 use Rattle.run_engine.specs.Jobs.{stretch_end, stretch_ops, BeginWith, AreJobsAt}
-use Rattle.run_engine.specs.Shifts.{IsPlace, GivesJob}
+use Rattle.run_engine.specs.inner.Shifts.{IsPlace, GivesJob}
 use Rattle.run_engine.proofs.PlaceLemmas.{Contains-one}
 use Rattle.run_engine.proofs.ListingLemmas.{around}
 use Rattle.run_engine.proofs.GiveUpLemmas.{contains-has_mark, place-inner}

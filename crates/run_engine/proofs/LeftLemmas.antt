@@ -10,12 +10,12 @@ use Rattle.trace_types.specs.Trace.{has_distinct_numbers}
 use Rattle.mark_shelf.specs.Shelf.{Shelf}
 use Rattle.op_step.specs.Chunk.{Chunk}
 use Rattle.run_engine.specs.Guesses.{Reusable}
-use Rattle.run_engine.specs.OldRun.{reusable_in}
+use Rattle.run_engine.specs.inner.OldRun.{reusable_in}
 use Rattle.run_engine.specs.RunView.{RunView}
 use Rattle.run_engine.specs.NewMarks.{LeadTo, AreLaid, AreMarksOf, AreMarksAfter}
 use Rattle.run_engine.specs.Memo.{HasSameMarks}
 use Rattle.run_engine.specs.GivenUp.{AreTouches, given_up, names_at, between, AreMarksKept}
-use Rattle.run_engine.specs.Onward.{AreNames, LeaveSame, AreMarksTouched, AreAnswered, IsOnward, AreMarksLeft, AreMarksDue}
+use Rattle.run_engine.specs.inner.Onward.{AreNames, LeaveSame, AreMarksTouched, AreAnswered, IsOnward, AreMarksLeft, AreMarksDue}
 use Rattle.run_engine.specs.SegmentView.{SegmentView}
 use Rattle.run_engine.specs.Segments.{trace_of, marks_from, all_marks, IsRun, IsRestart}
 use Rattle.run_engine.specs.HeadAndTail.{ShareEnd, AreShared}
@@ -23,9 +23,9 @@ use Rattle.run_engine.specs.Bounds.{AgreesAt}
 use Rattle.run_engine.proofs.MarksLemmas.{AreLaid-none, below-restart, from-stop, AreMarksOf-stop, AreMarksOf-end}
 use Rattle.run_engine.proofs.OnwardLemmas.{names_at-append, names_at-end, AreAnswered-none, AreAnswered-next, LeaveSame-append}
 
-same-front : (kept a b : List ℕ) → kept ++ a ≡ kept ++ b → a ≡ b
-same-front [] a b h = h
-same-front (p ∷ kept) a b h = let rest : kept ++ a ≡ kept ++ b = cc in same-front kept a b rest
+same-prefix : (kept a b : List ℕ) → kept ++ a ≡ kept ++ b → a ≡ b
+same-prefix [] a b h = h
+same-prefix (p ∷ kept) a b h = let rest : kept ++ a ≡ kept ++ b = cc in same-prefix kept a b rest
 
 -- what a replay has laid as far as a position
 pub laid-all : (trace : List Operation) (old : Reusable) (kept marks : List ℕ) (r at : ℕ) (s t : Shelf) (f g : ℕ → Bool) → (h : IsOnward trace old r at kept marks s t f g) → AreLaid old kept r at (kept ++ h.more)
@@ -34,13 +34,13 @@ laid-all trace old kept marks r at s t f g h = h.way.lead kept r kept (AreLaid-n
 -- the names of the cuts, and of the place where it stands, are those of the restart and the new checkpoints
 names-laid : (trace : List Operation) (kept more fresh : List ℕ) (r at : ℕ) → (kept ++ more) ++ at ∷ [] ≡ kept ++ r ∷ fresh → names_at trace (r ∷ fresh) ≡ names_at trace more ++ names_at trace (at ∷ [])
 names-laid trace kept more fresh r at h =
-    ap (names_at trace) (sym (same-front kept (more ++ at ∷ []) (r ∷ fresh) (sym (append_assoc kept more (at ∷ [])) ∙ h))) ∙ names_at-append trace more (at ∷ [])
+    ap (names_at trace) (sym (same-prefix kept (more ++ at ∷ []) (r ∷ fresh) (sym (append_assoc kept more (at ∷ [])) ∙ h))) ∙ names_at-append trace more (at ∷ [])
 
 -- after a stop, whose name was touched
 pub AreMarksLeft-stop : (trace ops : List Operation) (old : Reusable) (kept marks later new : List ℕ) (r a b stop at : ℕ) (s t u : Shelf) (f g h : ℕ → Bool) → IsTrue (has_distinct_numbers ops)
     → (on : IsOnward ops old r at kept marks s t f g) → AreAnswered t u (names_at ops (at ∷ [])) g h → new ≡ marks ++ later
     → (of : AreMarksOf trace ops kept old ((kept ++ on.more) ++ later) r a b stop) → of.fresh ≡ (laid-all ops old kept marks r at s t f g on).fresh
-    → AreMarksLeft trace ops kept old new r a b s u f h
+    → AreMarksLeft (record { trace = trace; ops = ops; kept = kept; old = old; new = new; from = r; base = a; edited = b }) s u f h
 AreMarksLeft-stop trace ops old kept marks later new r a b stop at s t u f g h distinct on last is of fresh =
     let laid = laid-all ops old kept marks r at s t f g on in
     record {
@@ -150,7 +150,7 @@ AreMarksKept-due guesses old run new shelf mid after gone due same trace marks =
 }
 
 pub AreMarksDue-after : (guesses : List Chunk) (old new : RunView) (kept : List ℕ) (from to a b : ℕ) (s t : Shelf) (f g : ℕ → Bool) → AreNames f []
-    → (left : AreMarksLeft old.trace new.trace kept (record { marks = old.marks; guesses = guesses }) new.marks from a b s t f g)
+    → (left : AreMarksLeft (record { trace = old.trace; ops = new.trace; kept = kept; old = (record { marks = old.marks; guesses = guesses }); new = new.marks; from = from; base = a; edited = b }) s t f g)
     → (after : AreMarksAfter guesses old (record { trace = new.trace; marks = left.all }) from to) → after.marks.fresh ≡ left.marks.fresh → AreMarksDue guesses old new s t g
 AreMarksDue-after guesses old new kept from to a b s t f g none left after fresh =
     let names : List ℕ = left.answered.answers in
@@ -167,16 +167,16 @@ AreMarksDue-after guesses old new kept from to a b s t f g none left after fresh
     }
 
 -- the replay of an edited trace, from where it begins again
-pub AreMarksDue-restart : (guesses : List Chunk) (segments front : List SegmentView) (end heap : State) (ops : List Operation) (new : List ℕ) (head tail i at : ℕ) (s t : Shelf) (f g : ℕ → Bool)
-    → IsRun segments end → IsRestart segments head i at heap → front ≡ take i segments → AreShared (trace_of segments) ops head tail → AreNames f []
-    → AreMarksLeft (trace_of segments) ops (marks_from 0 front) (reusable_in guesses segments) new at (length (trace_of segments) - tail) (length ops - tail) s t f g
+pub AreMarksDue-restart : (guesses : List Chunk) (segments prefix : List SegmentView) (end heap : State) (ops : List Operation) (new : List ℕ) (head tail i at : ℕ) (s t : Shelf) (f g : ℕ → Bool)
+    → IsRun segments end → IsRestart segments head i at heap → prefix ≡ take i segments → AreShared (trace_of segments) ops head tail → AreNames f []
+    → AreMarksLeft (record { trace = trace_of segments; ops = ops; kept = marks_from 0 prefix; old = reusable_in guesses segments; new = new; from = at; base = length (trace_of segments) - tail; edited = length ops - tail }) s t f g
     → AreMarksDue guesses (record { trace = trace_of segments; marks = all_marks segments }) (record { trace = ops; marks = new }) s t g
-AreMarksDue-restart guesses segments front end heap ops new head tail i at s t f g run h is shared none left =
+AreMarksDue-restart guesses segments prefix end heap ops new head tail i at s t f g run h is shared none left =
     let a : ℕ = length (trace_of segments) - tail in
     let b : ℕ = length ops - tail in
     let kept : List ℕ = filter (λ p. nat_lt p at) (all_marks segments) in
-    let here : AreMarksLeft (trace_of segments) ops kept (reusable_in guesses segments) new at a b s t f g =
-    subst (λ ms. AreMarksLeft (trace_of segments) ops ms (reusable_in guesses segments) new at a b s t f g) (ap (marks_from 0) is ∙ sym (below-restart segments i at run.full h.place)) left in
+    let here : AreMarksLeft (record { trace = trace_of segments; ops = ops; kept = kept; old = reusable_in guesses segments; new = new; from = at; base = a; edited = b }) s t f g =
+    subst (λ ms. AreMarksLeft (record { trace = trace_of segments; ops = ops; kept = ms; old = reusable_in guesses segments; new = new; from = at; base = a; edited = b }) s t f g) (ap (marks_from 0) is ∙ sym (below-restart segments i at run.full h.place)) left in
     AreMarksDue-after guesses (record { trace = trace_of segments; marks = all_marks segments }) (record { trace = ops; marks = new }) kept at (here.stop - a + b) a b s t f g none here
     (record { head = head; tail = tail; stop = here.stop; shared = shared; restart = h.greatest; marks = here.marks; to_is = refl }) refl
 
@@ -185,7 +185,7 @@ pub left-at-stop : (guesses : List Chunk) (old : List SegmentView) (ops : List O
     → i < length old → sg ≡ get_or old i sg → sg.mark ≡ Some m → length (trace_of (take i old)) ≡ at → a ≤ at
     → AgreesAt (trace_of old) ops a b at → ((p : ℕ) → Contains (all_marks old) p → a ≤ p → AgreesAt (trace_of old) ops a b p → at ≤ p)
     → x ≡ at - a + b → IsOnward ops (reusable_in guesses old) r x kept marks s t f g → AreAnswered t u (names_at ops (x ∷ [])) g h → new ≡ marks ++ from-stop old a b at
-    → AreMarksLeft (trace_of old) ops kept (reusable_in guesses old) new r a b s u f h
+    → AreMarksLeft (record { trace = trace_of old; ops = ops; kept = kept; old = reusable_in guesses old; new = new; from = r; base = a; edited = b }) s u f h
 unfolding AreMarksOf-stop
 left-at-stop guesses old ops kept marks new a b i at r x sg m s t u f g h distinct lt is mark place behind agrees first there on last whole =
     let here : IsOnward ops (reusable_in guesses old) r (at - a + b) kept marks s t f g = subst (λ y. IsOnward ops (reusable_in guesses old) r y kept marks s t f g) there on in
@@ -197,7 +197,7 @@ left-at-stop guesses old ops kept marks new a b i at r x sg m s t u f g h distin
 pub left-at-end : (guesses : List Chunk) (old : List SegmentView) (ops : List Operation) (kept marks new : List ℕ) (a b r x : ℕ) (s t : Shelf) (f g : ℕ → Bool) → IsTrue (has_distinct_numbers ops)
     → ShareEnd (trace_of old) ops a b → ((p : ℕ) → Contains (all_marks old) p → a ≤ p → AgreesAt (trace_of old) ops a b p → length (trace_of old) ≤ p)
     → x ≡ length ops → IsOnward ops (reusable_in guesses old) r x kept marks s t f g → new ≡ marks ++ length ops ∷ []
-    → AreMarksLeft (trace_of old) ops kept (reusable_in guesses old) new r a b s t f g
+    → AreMarksLeft (record { trace = trace_of old; ops = ops; kept = kept; old = reusable_in guesses old; new = new; from = r; base = a; edited = b }) s t f g
 unfolding AreMarksOf-end
 left-at-end guesses old ops kept marks new a b r x s t f g distinct shared first there on whole =
     let here : IsOnward ops (reusable_in guesses old) r (length ops) kept marks s t f g = subst (λ y. IsOnward ops (reusable_in guesses old) r y kept marks s t f g) there on in

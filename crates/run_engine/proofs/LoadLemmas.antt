@@ -12,7 +12,7 @@ use Rattle.op_step.specs.Meter.{raised}
 use Rattle.run_engine.specs.SegmentView.{SegmentView}
 use Rattle.run_engine.specs.Segments.{trace_of, marks_from, bare_segment, IsReached, IsPiece}
 use Rattle.run_engine.specs.Marks.{multiples_below}
-use Rattle.run_engine.specs.Loaded.{is_gone, kept_below}
+use Rattle.run_engine.specs.inner.Loaded.{is_gone, kept_below}
 use Rattle.run_engine.proofs.PieceLemmas.{IsReached-next, IsReached-bare, marks_from-bare, marks_from-piece}
 
 pub range-append : (a n m : ℕ) → range_with_len a (n + m) ≡ range_with_len a n ++ range_with_len (a + n) m
@@ -44,7 +44,7 @@ multiples_below-next at (suc n) z pos small =
 
 -- a loaded run as far as the operation `at`
 pub record IsLoaded (ops : List Operation) (gone : List Bool) (before at : ℕ) (segments : List SegmentView) (end : State) (count : ℕ) : Type 0 where
-  pub front : IsReached ops at segments end
+  pub prefix : IsReached ops at segments end
   pub aligned : at < length ops → at % 64 ≡ 0
   pub marks : marks_from 0 segments ≡ kept_below gone at
   pub count_is : count ≡ raised before at
@@ -65,15 +65,15 @@ pub IsLoaded-kept : (ops : List Operation) (gone : List Bool) (before at to len 
     → IsLoaded ops gone before at segments heap count → at < length ops → to ≡ at + min (length ops - at) 64 → IsPiece heap (slice_range ops at to) more end len → len ≡ length (slice_range ops at to)
     → is_gone gone at ≡ false → IsLoaded ops gone before (at + len) (segments ++ more) end (raised count len)
 IsLoaded-kept ops gone before at to len count segments more heap end h lt there piece whole stays =
-    let within = h.front.within in
+    let within = h.prefix.within in
     let pos : 0 < len = piece.some in
     let is = h.count_is in
     let rest = length-drop at ops in
     let long : len ≡ to - at = omega (arith, length-take (to - at) (drop at ops)) in
     record {
-      front = IsReached-next ops at to len segments more heap end h.front (omega arith) (omega arith) piece;
+      prefix = IsReached-next ops at to len segments more heap end h.prefix (omega arith) (omega arith) piece;
       aligned = λ lt2. let z : at % 64 ≡ 0 = h.aligned lt in let c : len ≡ 64 = omega arith in omega arith;
-      marks = marks_from-piece ops (slice_range ops at to) at len segments more heap end h.front piece ∙ ap (λ ps. ps ++ at ∷ []) h.marks
+      marks = marks_from-piece ops (slice_range ops at to) at len segments more heap end h.prefix piece ∙ ap (λ ps. ps ++ at ∷ []) h.marks
           ∙ sym (kept-next gone at (at + len) false (multiples_below-next at len (h.aligned lt) pos (omega arith)) stays);
       count_is = omega arith;
     }
@@ -84,12 +84,12 @@ pub IsLoaded-gone : (ops next : List Operation) (gone : List Bool) (before at to
     → IsLoaded ops gone before (at + length next) (segments ++ bare_segment heap next ∷ []) (end_from heap next) (raised count (length next))
 IsLoaded-gone ops next gone before at to count segments heap h lt there is goes =
     let counted = h.count_is in
-    let within = h.front.within in
+    let within = h.prefix.within in
     let long : length next ≡ to - at = ap length is ∙ omega (arith, length-take (to - at) (drop at ops), length-drop at ops) in
     let cut : to ≡ at + length next = omega arith in
     let pos : 0 < length next = omega arith in
     record {
-      front = IsReached-bare ops next at segments heap h.front (gone-behind gone at goes) (omega arith) pos (is ∙ ap (slice_range ops at) cut);
+      prefix = IsReached-bare ops next at segments heap h.prefix (gone-behind gone at goes) (omega arith) pos (is ∙ ap (slice_range ops at) cut);
       aligned = λ lt2. let z : at % 64 ≡ 0 = h.aligned lt in let c : length next ≡ 64 = omega arith in omega arith;
       marks = marks_from-bare 0 segments heap next ∙ h.marks
           ∙ sym (kept-next gone at (at + length next) true (multiples_below-next at (length next) (h.aligned lt) pos (omega arith)) goes ∙ append-nil (kept_below gone at));
@@ -97,7 +97,7 @@ IsLoaded-gone ops next gone before at to count segments heap h lt there is goes 
     }
 
 pub IsLoaded-none : (ops : List Operation) (gone : List Bool) (before : ℕ) → IsLoaded ops gone before 0 [] nothing_held before
-IsLoaded-none ops gone before = record { front = record { within = omega arith; trace = refl; replay = tt; full = tt; begins = tt; state = refl }; aligned = λ _. refl; marks = refl; count_is = omega arith }
+IsLoaded-none ops gone before = record { prefix = record { within = omega arith; trace = refl; replay = tt; full = tt; begins = tt; state = refl }; aligned = λ _. refl; marks = refl; count_is = omega arith }
 
 get-none : (n : ℕ) → get_or [] n false ≡ false
 get-none zero = refl

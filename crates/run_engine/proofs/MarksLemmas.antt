@@ -14,11 +14,11 @@ use Rattle.run_engine.specs.HeadAndTail.{ShareEnd}
 use Rattle.run_engine.specs.Bounds.{AgreesAt}
 use Rattle.op_step.specs.Chunk.{Chunk}
 use Rattle.run_engine.specs.Guesses.{Reusable}
-use Rattle.run_engine.specs.OldRun.{reusable_in}
+use Rattle.run_engine.specs.inner.OldRun.{reusable_in}
 use Rattle.run_engine.specs.NewMarks.{IsGap, AreNeighbours, LeadTo, AreLaid, AreMarksOf}
 use Rattle.run_engine.proofs.SegmentLemmas.{marks_from-append, length-trace_of-next}
 use Rattle.run_engine.proofs.ListingLemmas.{around}
-use Rattle.run_engine.proofs.PieceLemmas.{AreFull-front, AreFull-back, mark-is}
+use Rattle.run_engine.proofs.PieceLemmas.{AreFull-prefix, AreFull-back, mark-is}
 use Rattle.std.proofs.Math.Seq.{take-append_seam, drop-append_seam}
 use Rattle.ownership_model.specs.State.{nothing_held}
 use Rattle.ownership_model.specs.Step.{end_from}
@@ -69,14 +69,14 @@ above-stop old i at s m full lt is mark place =
     let test : ℕ → Bool = λ p. nat_lt at p in
     let later : List ℕ = marks_from (at + length (ops_of s)) (drop (i + 1) old) ++ n ∷ [] in
     let whole : AreFull (take i old ++ drop i old) = subst AreFull (sym (take-append-drop i old)) full in
-    let front : AreFull (take i old) = AreFull-front (take i old) (drop i old) whole in
+    let prefix : AreFull (take i old) = AreFull-prefix (take i old) (drop i old) whole in
     let back : AreFull (s ∷ drop (i + 1) old) = subst AreFull (around old i s lt is) (AreFull-back (take i old) (drop i old) whole) in
     let some : 0 < length (ops_of s) = back.0 in
     let fits : at + length (ops_of s) ≤ n = place-within old (i + 1) (at + length (ops_of s)) (length-trace_of-next old i s lt is ∙ ap (λ x. x + length (ops_of s)) place) in
     ap (filter test) (marks-at old i at s m lt is mark place)
     ∙ filter-append test (marks_from 0 (take i old)) (at ∷ later)
     ∙ ap (λ ps. ps ++ filter test (at ∷ later)) (none-pass test (marks_from 0 (take i old))
-    (λ p k. let before : p < 0 + length (trace_of (take i old)) = marks_from-below 0 (take i old) p front k in let le : p ≤ at = omega arith in le-ltb at p le))
+    (λ p k. let before : p < 0 + length (trace_of (take i old)) = marks_from-below 0 (take i old) p prefix k in let le : p ≤ at = omega arith in le-ltb at p le))
     ∙ ap (λ b. cond b (at ∷ filter test later) (filter test later)) (le-ltb at at (omega arith))
     ∙ all-pass test later (λ p k. let least : at + length (ops_of s) ≤ p = after-least (at + length (ops_of s)) n (drop (i + 1) old) p fits k in let less : at < p = omega arith in lt-ltb at p less)
 
@@ -98,12 +98,12 @@ all_marks-stop old segments ops a b i at s full shared lt is m mark place behind
     let moved : List ℕ → List ℕ = map (λ p. p - a + b) in
     let list : marks_from at (drop i old) ++ n ∷ [] ≡ at ∷ later =
     ap (λ ss. marks_from at ss ++ n ∷ []) (around old i s lt is) ∙ ap (λ o. (mark_here at o ++ marks_from (at + length (ops_of s)) (drop (i + 1) old)) ++ n ∷ []) mark in
-    let zero_front : 0 + length (trace_of segments) ≡ at - a + b = omega arith in
+    let zero_prefix : 0 + length (trace_of segments) ≡ at - a + b = omega arith in
     let fits : at ≤ n = place-within old i at place in
     let across = ShareEnd-length (trace_of old) ops a b shared in
     let last : length (trace_of (segments ++ drop i old)) ≡ n - a + b = ap length trace ∙ omega (arith, shared.old_within, shared.within) in
     ap (λ l. marks_from 0 (segments ++ drop i old) ++ l ∷ []) last
-    ∙ ap (λ ps. ps ++ (n - a + b) ∷ []) (marks_from-append 0 segments (drop i old) ∙ ap (λ p. marks_from 0 segments ++ marks_from p (drop i old)) zero_front)
+    ∙ ap (λ ps. ps ++ (n - a + b) ∷ []) (marks_from-append 0 segments (drop i old) ∙ ap (λ p. marks_from 0 segments ++ marks_from p (drop i old)) zero_prefix)
     ∙ append_assoc (marks_from 0 segments) (marks_from (at - a + b) (drop i old)) ((n - a + b) ∷ [])
     ∙ ap (λ ps. marks_from 0 segments ++ (ps ++ (n - a + b) ∷ [])) (marks_from-moved a b at (drop i old) behind)
     ∙ ap (λ ps. marks_from 0 segments ++ ps) (sym (map-append (λ p. p - a + b) (marks_from at (drop i old)) (n ∷ [])) ∙ ap moved list)
@@ -123,7 +123,7 @@ AreMarksOf-stop guesses old ops kept all a b i at r s lt is m mark place behind 
       new_is = sym (append_assoc all ((at - a + b) ∷ []) later) ∙ ap (λ ps. ps ++ later) laid.laid ∙ append_assoc kept (r ∷ laid.fresh) later;
     }
 
--- segments with the operations and checkpoints of others, behind a front
+-- segments with the operations and checkpoints of others, behind a prefix
 pub all_marks-rest : (segments a b : List SegmentView) → trace_of a ≡ trace_of b → ((at : ℕ) → marks_from at a ≡ marks_from at b) → all_marks (segments ++ a) ≡ all_marks (segments ++ b)
 all_marks-rest segments a b trace marks =
     let whole : trace_of (segments ++ a) ≡ trace_of (segments ++ b) = trace_of-append segments a ∙ ap (λ t. trace_of segments ++ t) trace ∙ sym (trace_of-append segments b) in
@@ -157,7 +157,7 @@ below-restart segments i at full stands =
     let test : ℕ → Bool = λ p. nat_lt p at in
     let place : 0 + length (trace_of (take i segments)) ≡ at = omega (arith, stands) in
     let fits : at ≤ n = place-within segments i at stands in
-    let front : AreFull (take i segments) = AreFull-front (take i segments) (drop i segments) (subst AreFull (sym (take-append-drop i segments)) full) in
+    let prefix : AreFull (take i segments) = AreFull-prefix (take i segments) (drop i segments) (subst AreFull (sym (take-append-drop i segments)) full) in
     let rest : List ℕ = marks_from at (drop i segments) ++ n ∷ [] in
     ap (filter test)
     (ap (λ ss. marks_from 0 ss ++ n ∷ []) (sym (take-append-drop i segments)) ∙ ap (λ ps. ps ++ n ∷ []) (marks_from-append 0 (take i segments) (drop i segments))
@@ -165,7 +165,7 @@ below-restart segments i at full stands =
     ∙ ap (λ p. marks_from 0 (take i segments) ++ (marks_from p (drop i segments) ++ n ∷ [])) place)
     ∙ filter-append test (marks_from 0 (take i segments)) rest
     ∙ ap (λ ps. ps ++ filter test rest) (all-pass test (marks_from 0 (take i segments))
-    (λ p k. let before : p < 0 + length (trace_of (take i segments)) = marks_from-below 0 (take i segments) p front k in let less : p < at = omega arith in lt-ltb p at less))
+    (λ p k. let before : p < 0 + length (trace_of (take i segments)) = marks_from-below 0 (take i segments) p prefix k in let less : p < at = omega arith in lt-ltb p at less))
     ∙ ap (λ ps. marks_from 0 (take i segments) ++ ps) (none-pass test rest (λ p k. le-ltb p at (after-least at n (drop i segments) p fits k)))
     ∙ append-nil (marks_from 0 (take i segments))
 

@@ -6,9 +6,9 @@ use Rattle.trace_types.specs.Operation.{Operation}
 use Rattle.trace_types.specs.declared.limits.TheConstants.{MAX_OPS}
 use Rattle.ownership_model.specs.Patch.{Remains}
 use Rattle.run_engine.specs.SegmentView.{SegmentView}
-use Rattle.run_engine.specs.Parts.{AreBetween, joined}
+use Rattle.run_engine.specs.inner.Parts.{AreBetween, joined}
 use Rattle.run_engine.specs.Segments.{ops_of, trace_of, IsLastFrom}
-use Rattle.run_engine.specs.Blocks.{left, laid_over, standing, AreMeasured}
+use Rattle.run_engine.specs.inner.Blocks.{left, laid_over, standing, AreMeasured}
 use Rattle.run_engine.proofs.SegmentLemmas.{trace_of-append}
 use Rattle.run_engine.proofs.PlaceLemmas.{trace_of-parted}
 use Rattle.run_engine.proofs.StartLemmas.{joined-ops}
@@ -26,8 +26,8 @@ pub same-part : (a b : List SegmentView) (n m : ℕ) → map ops_of a ≡ map op
 same-part a b n m same =
     sym (take-map ops_of n (drop m a)) ∙ ap (take n) (sym (drop-map ops_of m a)) ∙ ap (λ all. take n (drop m all)) same ∙ ap (take n) (drop-map ops_of m b) ∙ take-map ops_of n (drop m b)
 
-same-front : (a b : List SegmentView) (n : ℕ) → map ops_of a ≡ map ops_of b → trace_of (take n a) ≡ trace_of (take n b)
-same-front a b n same = same-trace (take n a) (take n b) (same-part a b n 0 same)
+same-prefix : (a b : List SegmentView) (n : ℕ) → map ops_of a ≡ map ops_of b → trace_of (take n a) ≡ trace_of (take n b)
+same-prefix a b n same = same-trace (take n a) (take n b) (same-part a b n 0 same)
 
 pub same-last : (a b : List SegmentView) (position i at : ℕ) → map ops_of a ≡ map ops_of b → IsLastFrom a position i at → IsLastFrom b position i at
 same-last a b position i at same h =
@@ -35,12 +35,12 @@ same-last a b position i at same h =
     let within = h.within in
     record {
       within = omega arith;
-      place = ap length (sym (same-front a b i same)) ∙ h.place;
+      place = ap length (sym (same-prefix a b i same)) ∙ h.place;
       before = h.before;
       inside = λ lt.
           let there = h.inside (subst (λ (t : List Operation). position < length t) (sym (same-trace a b same)) lt) in
           let less = there.0 in
-          (omega arith, subst (λ (t : List Operation). position < length t) (same-front a b (i + 1) same) there.1);
+          (omega arith, subst (λ (t : List Operation). position < length t) (same-prefix a b (i + 1) same) there.1);
     }
 
 -- what is laid over segments, and which of their checkpoints are given up, leaves their operations
@@ -70,9 +70,9 @@ standing-trace x y gone new from len ss =
     ∙ sym (all-laid y (standing new from len ss) ∙ same-part (left new ss) ss len from (all-left new ss)))
 
 -- numbers within bounds
-between-front : (least greatest : ℕ) (a b : List Operation) → AreBetween least greatest (a ++ b) → AreBetween least greatest a
-between-front least greatest [] b h = tt
-between-front least greatest (o ∷ a) b h = (h.0, h.1, between-front least greatest a b h.2)
+between-prefix : (least greatest : ℕ) (a b : List Operation) → AreBetween least greatest (a ++ b) → AreBetween least greatest a
+between-prefix least greatest [] b h = tt
+between-prefix least greatest (o ∷ a) b h = (h.0, h.1, between-prefix least greatest a b h.2)
 
 between-back : (least greatest : ℕ) (a b : List Operation) → AreBetween least greatest (a ++ b) → AreBetween least greatest b
 between-back least greatest [] b h = h
@@ -92,7 +92,7 @@ between-both least greatest l g low high (o ∷ ops) more a b c d h k =
 
 between-part : (least greatest n m : ℕ) (ss : List SegmentView) → AreBetween least greatest (trace_of ss) → AreBetween least greatest (trace_of (take n (drop m ss)))
 between-part least greatest n m ss h =
-    between-front least greatest (trace_of (take n (drop m ss))) (trace_of (drop n (drop m ss)))
+    between-prefix least greatest (trace_of (take n (drop m ss))) (trace_of (drop n (drop m ss)))
     (subst (AreBetween least greatest) (sym (trace_of-parted (drop m ss) n))
     (between-back least greatest (trace_of (take m ss)) (trace_of (drop m ss)) (subst (AreBetween least greatest) (sym (trace_of-parted ss m)) h)))
 

@@ -12,17 +12,17 @@ slice_get-behind : (xs ys : List Operation) (j : ℕ) → slice_get (xs ++ ys) (
 slice_get-behind [] ys j = ap (slice_get ys) (zero-add j)
 slice_get-behind (x ∷ xs) ys j = let next : suc (length xs) + j ≡ suc (length xs + j) = omega arith in ap (slice_get (x ∷ (xs ++ ys))) next ∙ slice_get-behind xs ys j
 
-slice_get-front : (xs ys : List Operation) (j : ℕ) → j < length xs → slice_get (xs ++ ys) j ≡ slice_get xs j
-slice_get-front [] ys j h = absurd (omega arith)
-slice_get-front (x ∷ xs) ys zero h = refl
-slice_get-front (x ∷ xs) ys (suc j) h = slice_get-front xs ys j (omega arith)
+slice_get-prefix : (xs ys : List Operation) (j : ℕ) → j < length xs → slice_get (xs ++ ys) j ≡ slice_get xs j
+slice_get-prefix [] ys j h = absurd (omega arith)
+slice_get-prefix (x ∷ xs) ys zero h = refl
+slice_get-prefix (x ∷ xs) ys (suc j) h = slice_get-prefix xs ys j (omega arith)
 
 -- the last operation of a part names the checkpoint behind it
 pub last-name : (xs ys zs : List Operation) → 0 < length ys → name_at (xs ++ (ys ++ zs)) (length xs + length ys) ≡ option_map (λ (op : Operation). op.id) (slice_get ys (length ys - 1))
 last-name xs ys zs some =
     let place : length xs + length ys - 1 ≡ length xs + (length ys - 1) = omega arith in
     name_at-behind (xs ++ (ys ++ zs)) (length xs + length ys) (omega arith)
-    ∙ ap (option_map (λ (op : Operation). op.id)) (ap (slice_get (xs ++ (ys ++ zs))) place ∙ slice_get-behind xs (ys ++ zs) (length ys - 1) ∙ slice_get-front ys zs (length ys - 1) (omega arith))
+    ∙ ap (option_map (λ (op : Operation). op.id)) (ap (slice_get (xs ++ (ys ++ zs))) place ∙ slice_get-behind xs (ys ++ zs) (length ys - 1) ∙ slice_get-prefix ys zs (length ys - 1) (omega arith))
 
 one-name : (h : ℕ → Option ℕ) (p : ℕ) (o : Option ℕ) → h p ≡ o → filter_map h (p ∷ []) ≡ option_to_list o
 one-name h p None is = rw is refl

@@ -8,7 +8,7 @@ use mathlib.Core.Logic.{◌⊎◌, inl, inr, ⊎_elim}
 use Rattle.std.proofs.lemmas.List.{length-take, length-take-le, length-drop}
 use Rattle.trace_types.specs.Operation.{Operation}
 use Rattle.trace_types.specs.Trace.{place_of, is_taken, has_distinct_numbers}
-use Rattle.run_engine.specs.Parts.{AreBetween}
+use Rattle.run_engine.specs.inner.Parts.{AreBetween}
 use Rattle.run_engine.proofs.EditLemmas.{left, right}
 
 or_left : (a b : Bool) → (a || b) ≡ false → a ≡ false
@@ -138,18 +138,18 @@ part-some id from len q base d fits e =
     let sum : 0 + length a + q ≡ from + q = omega arith in
     let there : position_from (λ o. o.id == id) (0 + length a) r ≡ Some (from + q) =
     place-here id (0 + length a) q (take len (drop from base)) (drop len (drop from base)) e ∙ ap Some sum in
-    ap (place_of id) whole ∙ by_front (place_of id a) refl (subst (λ ops. IsTrue (has_distinct_numbers ops)) whole d) there
+    ap (place_of id) whole ∙ by_prefix (place_of id a) refl (subst (λ ops. IsTrue (has_distinct_numbers ops)) whole d) there
   where
-    by_front : (o : Option ℕ) → place_of id (take from base) ≡ o → IsTrue (has_distinct_numbers (take from base ++ (take len (drop from base) ++ drop len (drop from base))))
+    by_prefix : (o : Option ℕ) → place_of id (take from base) ≡ o → IsTrue (has_distinct_numbers (take from base ++ (take len (drop from base) ++ drop len (drop from base))))
         → position_from (λ o. o.id == id) (0 + length (take from base)) (take len (drop from base) ++ drop len (drop from base)) ≡ Some (from + q)
         → place_of id (take from base ++ (take len (drop from base) ++ drop len (drop from base))) ≡ Some (from + q)
-    by_front None is d there = place-next id 0 (take from base) (take len (drop from base) ++ drop len (drop from base)) is ∙ there
-    by_front (Some p) is d there =
+    by_prefix None is d there = place-next id 0 (take from base) (take len (drop from base) ++ drop len (drop from base)) is ∙ there
+    by_prefix (Some p) is d there =
         let none = disjoint id 0 (0 + length (take from base)) p (take from base) (take len (drop from base) ++ drop len (drop from base)) d is in
         absurd cc
 
 pub part-none : (id from len p : ℕ) (base : List Operation) → from + len ≤ length base → place_of id (take len (drop from base)) ≡ None → place_of id base ≡ Some p → (p < from) ⊎ (from + len ≤ p)
-part-none id from len p base fits e at = by_front (place_of id (take from base)) refl
+part-none id from len p base fits e at = by_prefix (place_of id (take from base)) refl
   where
     a : List Operation
     a = take from base
@@ -160,13 +160,13 @@ part-none id from len p base fits e at = by_front (place_of id (take from base))
     r : List Operation
     r = drop len (drop from base)
 
-    by_front : (o : Option ℕ) → place_of id (take from base) ≡ o → (p < from) ⊎ (from + len ≤ p)
-    by_front (Some q) is =
+    by_prefix : (o : Option ℕ) → place_of id (take from base) ≡ o → (p < from) ⊎ (from + len ≤ p)
+    by_prefix (Some q) is =
         let there : Some p ≡ Some (0 + q) = sym at ∙ ap (place_of id) (around-part base from len) ∙ place-here id 0 q (take from base) (take len (drop from base) ++ drop len (drop from base)) is in
         let same : p ≡ 0 + q = cc in
         let less : q < length (take from base) = place_within id q (take from base) is in
         inl (omega (arith, length-take from base))
-    by_front None is =
+    by_prefix None is =
         let there : position_from (λ o. o.id == id) (0 + length (take from base) + length (take len (drop from base))) (drop len (drop from base)) ≡ Some p =
         sym (place-next id (0 + length (take from base)) (take len (drop from base)) (drop len (drop from base)) e)
         ∙ sym (place-next id 0 (take from base) (take len (drop from base) ++ drop len (drop from base)) is)

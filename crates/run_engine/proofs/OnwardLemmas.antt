@@ -7,13 +7,13 @@ use Rattle.std.proofs.lemmas.List.Elements.{filter-append, filter_map-append}
 use Rattle.trace_types.specs.Operation.{Operation}
 use Rattle.trace_types.specs.Trace.{has_distinct_numbers}
 use Rattle.mark_shelf.specs.Shelf.{Shelf, Touches, touched, dropped, in_front}
-use Rattle.run_engine.specs.Cleared.{is_named}
+use Rattle.run_engine.specs.inner.Cleared.{is_named}
 use Rattle.run_engine.specs.Marks.{multiples_below}
 use Rattle.run_engine.specs.Memo.{IsSearched, AreSome}
 use Rattle.run_engine.specs.Guesses.{Reusable}
 use Rattle.run_engine.specs.NewMarks.{IsGap, AreLaid}
 use Rattle.run_engine.specs.GivenUp.{given_up, name_at, names_at}
-use Rattle.run_engine.specs.Onward.{among, AreNames, AreMore, LeaveSame, cuts, AreMarksTouched, AreAnswered, IsWay, IsOnward}
+use Rattle.run_engine.specs.inner.Onward.{among, AreNames, AreMore, LeaveSame, cuts, AreMarksTouched, AreAnswered, IsWay, IsOnward}
 use Rattle.run_engine.proofs.TouchLemmas.{AreTouches-append}
 use Rattle.run_engine.proofs.AnsweredLemmas.{given_up-all}
 use Rattle.run_engine.proofs.ClearedLemmas.{goes}

@@ -4,7 +4,7 @@ use Rattle.std.proofs.lemmas.List.{append-nil, take_more, take_at, drop-append-l
 use Rattle.std.proofs.lemmas.List.Concat.{flat_map-append}
 use Rattle.std.proofs.Math.Seq.{drop-append-add}
 use Rattle.trace_types.specs.Operation.{Operation}
-use Rattle.run_engine.specs.Parts.{AreBetween, joined}
+use Rattle.run_engine.specs.inner.Parts.{AreBetween, joined}
 use Rattle.run_engine.proofs.ListingLemmas.{around}
 
 pub joined-append : {X : Type 0} → (a b : List (List X)) → joined (a ++ b) ≡ joined a ++ joined b

@@ -13,15 +13,15 @@ use Rattle.run_engine.specs.Segments.{ops_of, trace_of, mark_here, marks_from, b
 use Rattle.trace_types.specs.Trace.{has_distinct_numbers}
 use Rattle.ownership_model.proofs.LawsHold.{appends, soundness}
 use Rattle.run_engine.proofs.ListingLemmas.{around, take-shorter}
-use Rattle.run_engine.proofs.SegmentLemmas.{trace_of-append, marks_from-append, AreReplayFrom-append, AreReplayFrom-front, AreReplayFrom-back}
+use Rattle.run_engine.proofs.SegmentLemmas.{trace_of-append, marks_from-append, AreReplayFrom-append, AreReplayFrom-prefix, AreReplayFrom-back}
 
 pub AreFull-append : (a b : List SegmentView) → AreFull a → AreFull b → AreFull (a ++ b)
 AreFull-append [] b h k = k
 AreFull-append (s ∷ a) b h k = (h.0, AreFull-append a b h.1 k)
 
-pub AreFull-front : (a b : List SegmentView) → AreFull (a ++ b) → AreFull a
-AreFull-front [] b h = tt
-AreFull-front (s ∷ a) b h = (h.0, AreFull-front a b h.1)
+pub AreFull-prefix : (a b : List SegmentView) → AreFull (a ++ b) → AreFull a
+AreFull-prefix [] b h = tt
+AreFull-prefix (s ∷ a) b h = (h.0, AreFull-prefix a b h.1)
 
 pub AreFull-back : (a b : List SegmentView) → AreFull (a ++ b) → AreFull b
 AreFull-back [] b h = h
@@ -31,9 +31,9 @@ pub BeginsMarked-append : (a b : List SegmentView) → BeginsMarked a → Begins
 BeginsMarked-append [] b h k = k
 BeginsMarked-append (s ∷ a) b h k = h
 
-pub BeginsMarked-front : (a b : List SegmentView) → BeginsMarked (a ++ b) → BeginsMarked a
-BeginsMarked-front [] b h = tt
-BeginsMarked-front (s ∷ a) b h = h
+pub BeginsMarked-prefix : (a b : List SegmentView) → BeginsMarked (a ++ b) → BeginsMarked a
+BeginsMarked-prefix [] b h = tt
+BeginsMarked-prefix (s ∷ a) b h = h
 
 -- a kept checkpoint is the state
 pub mark-some : (m n : State) (o : Option State) → o ≡ Some n → IfSome o (λ h. h ≡ m) → n ≡ m
@@ -49,8 +49,8 @@ pub stretch-piece : (a b c : List SegmentView) (s : SegmentView) (end heap after
 stretch-piece a b c s end heap after ops len run mark bare same fits is =
     let m = end_from nothing_held (trace_of a) in
     let e : heap ≡ m = mark-state a (b ++ c) s heap run.replay mark in
-    let here : AreReplayFrom m (s ∷ b) = AreReplayFrom-front m (s ∷ b) c (AreReplayFrom-back nothing_held a ((s ∷ b) ++ c) run.replay) in
-    let full : AreFull (s ∷ b) = AreFull-front (s ∷ b) c (AreFull-back a ((s ∷ b) ++ c) run.full) in
+    let here : AreReplayFrom m (s ∷ b) = AreReplayFrom-prefix m (s ∷ b) c (AreReplayFrom-back nothing_held a ((s ∷ b) ++ c) run.replay) in
+    let full : AreFull (s ∷ b) = AreFull-prefix (s ∷ b) c (AreFull-back a ((s ∷ b) ++ c) run.full) in
     let long : length (ops_of s ++ trace_of b) ≡ length (take len ops) = ap length same in
     record {
       some = omega (arith, full.0, long, length-append (ops_of s) (trace_of b), length-take len ops);
@@ -113,9 +113,9 @@ old-piece old end i k s heap after ops len run lt is mark bare fits same state =
     let here : drop i old ≡ s ∷ drop (i + 1) old = around old i s lt is in
     let stretch : take (suc k) (drop i old) ≡ s ∷ b = ap (take (suc k)) here in
     let parts : take i old ++ ((s ∷ b) ++ c) ≡ old = ap (λ xs. take i old ++ (s ∷ xs)) (take-append-drop k (drop (i + 1) old)) ∙ ap (λ xs. take i old ++ xs) (sym here) ∙ take-append-drop i old in
-    let front : take (i + suc k) old ≡ take i old ++ (s ∷ b) = take-add i (suc k) old ∙ ap (λ xs. take i old ++ xs) stretch in
+    let prefix : take (i + suc k) old ≡ take i old ++ (s ∷ b) = take-add i (suc k) old ∙ ap (λ xs. take i old ++ xs) stretch in
     subst (λ ss. IsPiece heap ops ss after len) (sym stretch)
-    (stretch-piece (take i old) b c s end heap after ops len (subst (λ ss. IsRun ss end) (sym parts) run) mark bare (ap trace_of (sym stretch) ∙ same) fits (state ∙ ap (λ ss. end_from nothing_held (trace_of ss)) front))
+    (stretch-piece (take i old) b c s end heap after ops len (subst (λ ss. IsRun ss end) (sym parts) run) mark bare (ap trace_of (sym stretch) ∙ same) fits (state ∙ ap (λ ss. end_from nothing_held (trace_of ss)) prefix))
 
 -- what stands inside a part
 pub slice_range-inside : (ops : List Operation) (at to len n : ℕ) → len + n ≤ to - at → take n (drop len (slice_range ops at to)) ≡ take n (drop (at + len) ops)

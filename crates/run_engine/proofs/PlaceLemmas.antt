@@ -38,8 +38,8 @@ pub trace_of-parted : (old : List SegmentView) (i : ℕ) → trace_of (take i ol
 trace_of-parted old i = sym (trace_of-append (take i old) (drop i old)) ∙ ap trace_of (take-append-drop i old)
 
 -- the trace around a segment's place
-pub trace_of-front : (old : List SegmentView) (i at : ℕ) → length (trace_of (take i old)) ≡ at → trace_of (take i old) ≡ take at (trace_of old)
-trace_of-front old i at e =
+pub trace_of-prefix : (old : List SegmentView) (i at : ℕ) → length (trace_of (take i old)) ≡ at → trace_of (take i old) ≡ take at (trace_of old)
+trace_of-prefix old i at e =
     sym (take-append_seam (trace_of (take i old)) (trace_of (drop i old)))
     ∙ ap (λ n. take n (trace_of (take i old) ++ trace_of (drop i old))) e
     ∙ ap (take at) (trace_of-parted old i)

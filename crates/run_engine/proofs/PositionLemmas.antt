@@ -6,7 +6,7 @@ use Rattle.std.proofs.Math.Seq.{take-append-add}
 use Rattle.std.proofs.lemmas.List.{take-append-le}
 use Rattle.trace_types.specs.Operation.{Operation}
 use Rattle.run_engine.specs.SegmentView.{SegmentView}
-use Rattle.run_engine.specs.Parts.{joined, starts_from, IsPartAt}
+use Rattle.run_engine.specs.inner.Parts.{joined, starts_from, IsPartAt}
 use Rattle.run_engine.specs.Segments.{trace_of, IsLastFrom}
 use Rattle.run_engine.proofs.SegmentLemmas.{trace_of-append}
 use Rattle.run_engine.proofs.PartLemmas.{joined-next, joined-around, joined-few}
@@ -18,14 +18,14 @@ pub joined-traces : (blocks : List (List SegmentView)) → joined (map trace_of 
 joined-traces [] = refl
 joined-traces (b ∷ blocks) = ap (λ (ops : List Operation). trace_of b ++ ops) (joined-traces blocks) ∙ sym (trace_of-append b (joined blocks))
 
-pub front-traces : (blocks : List (List SegmentView)) (i : ℕ) → joined (take i (map trace_of blocks)) ≡ trace_of (joined (take i blocks))
-front-traces blocks i = ap joined (take-map trace_of i blocks) ∙ joined-traces (take i blocks)
+pub prefix-traces : (blocks : List (List SegmentView)) (i : ℕ) → joined (take i (map trace_of blocks)) ≡ trace_of (joined (take i blocks))
+prefix-traces blocks i = ap joined (take-map trace_of i blocks) ∙ joined-traces (take i blocks)
 
 pub traces-next : (blocks : List (List SegmentView)) (i : ℕ) (b : List SegmentView) → i < length blocks → b ≡ get_or blocks i b → trace_of (joined (take (i + 1) blocks)) ≡ trace_of (joined (take i blocks)) ++ trace_of b
 traces-next blocks i b lt is = ap trace_of (joined-next blocks i b lt is) ∙ trace_of-append (joined (take i blocks)) b
 
-pub front-few : (blocks : List (List SegmentView)) (i : ℕ) → length (trace_of (joined (take i blocks))) ≤ length (trace_of (joined blocks))
-front-few blocks i = omega (arith, joined-few (map trace_of blocks) i, ap length (front-traces blocks i), ap length (joined-traces blocks))
+pub prefix-few : (blocks : List (List SegmentView)) (i : ℕ) → length (trace_of (joined (take i blocks))) ≤ length (trace_of (joined blocks))
+prefix-few blocks i = omega (arith, joined-few (map trace_of blocks) i, ap length (prefix-traces blocks i), ap length (joined-traces blocks))
 
 -- a block more
 pub positions-more : (blocks : List (List SegmentView)) (b : List SegmentView) → starts_from 0 (map trace_of (blocks ++ b ∷ [])) ≡ starts_from 0 (map trace_of blocks) ++ length (trace_of (joined blocks)) ∷ []
@@ -47,7 +47,7 @@ traces-set (p ∷ blocks) (suc i) b new lt is same = ap (λ all. trace_of p ∷ 
 pub position-is : (blocks : List (List SegmentView)) (positions : List ℕ) (i d : ℕ) → positions ≡ starts_from 0 (map trace_of blocks) → i < length blocks → get_or positions i d ≡ length (trace_of (joined (take i blocks)))
 position-is blocks positions i d is lt =
     let there : get_or positions i d ≡ 0 + length (joined (take i (map trace_of blocks))) = ap (λ ss. get_or ss i d) is ∙ start-is 0 (map trace_of blocks) i d (omega (arith, length-map blocks trace_of)) in
-    omega (arith, ap length (front-traces blocks i))
+    omega (arith, ap length (prefix-traces blocks i))
 
 pub start-of : (blocks : List (List SegmentView)) (starts : List ℕ) (i d : ℕ) → starts ≡ starts_from 0 blocks → i < length blocks → get_or starts i d ≡ length (joined (take i blocks))
 start-of blocks starts i d is lt =
@@ -57,14 +57,14 @@ start-of blocks starts i d is lt =
 pub position-there : (blocks : List (List SegmentView)) (i rest index : ℕ) (b : List SegmentView) → i < length blocks → b ≡ get_or blocks i b → length (joined (take i blocks)) + rest ≡ index → rest ≤ length b
     → length (trace_of (take index (joined blocks))) ≡ length (trace_of (joined (take i blocks))) + length (trace_of (slice_range b 0 rest))
 position-there blocks i rest index b lt is place le =
-    let front : List SegmentView = joined (take i blocks) in
+    let prefix : List SegmentView = joined (take i blocks) in
     let behind : List SegmentView = joined (drop (i + 1) blocks) in
     let n : rest ≡ rest - 0 = omega arith in
     ap (λ all. length (trace_of (take index all))) (joined-around blocks i b lt is)
-    ∙ ap (λ (k : ℕ). length (trace_of (take k (front ++ (b ++ behind))))) (sym place)
-    ∙ ap (λ all. length (trace_of all)) (take-append-add front (b ++ behind) rest ∙ ap (λ (xs : List SegmentView). front ++ xs) (take-append-le rest b behind le))
-    ∙ ap length (trace_of-append front (take rest b)) ∙ length-append (trace_of front) (trace_of (take rest b))
-    ∙ ap (λ k. length (trace_of front) + length (trace_of (take k b))) n
+    ∙ ap (λ (k : ℕ). length (trace_of (take k (prefix ++ (b ++ behind))))) (sym place)
+    ∙ ap (λ all. length (trace_of all)) (take-append-add prefix (b ++ behind) rest ∙ ap (λ (xs : List SegmentView). prefix ++ xs) (take-append-le rest b behind le))
+    ∙ ap length (trace_of-append prefix (take rest b)) ∙ length-append (trace_of prefix) (trace_of (take rest b))
+    ∙ ap (λ k. length (trace_of prefix) + length (trace_of (take k b))) n
 
 -- the block that has a position
 module _ (blocks : List (List SegmentView)) (position i : ℕ) (part : IsPartAt (map trace_of blocks) position i) where
@@ -72,16 +72,16 @@ module _ (blocks : List (List SegmentView)) (position i : ℕ) (part : IsPartAt 
   block-there = let lt = part.within in omega (arith, length-map blocks trace_of)
 
   pub block-before : length (trace_of (joined (take i blocks))) ≤ position
-  block-before = let le = part.before in omega (arith, ap length (front-traces blocks i))
+  block-before = let le = part.before in omega (arith, ap length (prefix-traces blocks i))
 
   block-inside : position < length (trace_of (joined blocks)) → position < length (trace_of (joined (take (i + 1) blocks)))
-  block-inside lt = let more = part.inside (omega (arith, ap length (joined-traces blocks))) in omega (arith, ap length (front-traces blocks (i + 1)))
+  block-inside lt = let more = part.inside (omega (arith, ap length (joined-traces blocks))) in omega (arith, ap length (prefix-traces blocks (i + 1)))
 
   -- the segment of the block
   pub last-joined : (b : List SegmentView) (start at k begun index place : ℕ) → b ≡ get_or blocks i b → start ≡ length (joined (take i blocks)) → at ≡ length (trace_of (joined (take i blocks))) → index ≡ start + k → place ≡ at + begun
       → IsLastFrom b (position - at) k begun → IsLastFrom (joined blocks) position index place
   last-joined b start at k begun index place is start-is at-is index-is place-is h =
-      let front : List SegmentView = joined (take i blocks) in
+      let prefix : List SegmentView = joined (take i blocks) in
       let rest : List SegmentView = joined (drop (i + 1) blocks) in
       let whole : joined blocks ≡ joined (take i blocks) ++ (b ++ joined (drop (i + 1) blocks)) = joined-around blocks i b block-there is in
       let le = h.within in
@@ -92,10 +92,10 @@ module _ (blocks : List (List SegmentView)) (position i : ℕ) (part : IsPartAt 
       let more = length-append b (joined (drop (i + 1) blocks)) in
       let cut : (n m : ℕ) → n ≡ start + m → m ≤ length b → trace_of (take n (joined blocks)) ≡ trace_of (joined (take i blocks)) ++ trace_of (take m b) =
       λ n m n-is small. ap (λ all. trace_of (take n all)) whole
-      ∙ ap (λ (k : ℕ). trace_of (take k (front ++ (b ++ rest)))) (n-is ∙ ap (λ (k : ℕ). k + m) start-is)
-      ∙ ap trace_of (take-append-add front (b ++ rest) m ∙ ap (λ (xs : List SegmentView). front ++ xs) (take-append-le m b rest small))
-      ∙ trace_of-append front (take m b) in
-      let size : length (trace_of (take index (joined blocks))) ≡ length (trace_of (joined (take i blocks))) + length (trace_of (take k b)) = ap length (cut index k index-is le) ∙ length-append (trace_of front) (trace_of (take k b)) in
+      ∙ ap (λ (k : ℕ). trace_of (take k (prefix ++ (b ++ rest)))) (n-is ∙ ap (λ (k : ℕ). k + m) start-is)
+      ∙ ap trace_of (take-append-add prefix (b ++ rest) m ∙ ap (λ (xs : List SegmentView). prefix ++ xs) (take-append-le m b rest small))
+      ∙ trace_of-append prefix (take m b) in
+      let size : length (trace_of (take index (joined blocks))) ≡ length (trace_of (joined (take i blocks))) + length (trace_of (take k b)) = ap length (cut index k index-is le) ∙ length-append (trace_of prefix) (trace_of (take k b)) in
       record {
         within = omega (arith, ap length whole);
         place = omega arith;
@@ -107,6 +107,6 @@ module _ (blocks : List (List SegmentView)) (position i : ℕ) (part : IsPartAt 
             let less = inner.0 in
             let far = inner.1 in
             let after : length (trace_of (take (index + 1) (joined blocks))) ≡ length (trace_of (joined (take i blocks))) + length (trace_of (take (k + 1) b)) =
-            ap length (cut (index + 1) (k + 1) (omega arith) (omega arith)) ∙ length-append (trace_of front) (trace_of (take (k + 1) b)) in
+            ap length (cut (index + 1) (k + 1) (omega arith) (omega arith)) ∙ length-append (trace_of prefix) (trace_of (take (k + 1) b)) in
             (omega (arith, ap length whole), omega arith);
       }

@@ -14,7 +14,7 @@ use Rattle.agreement.specs.Agreement.{Agree}
 use Rattle.agreement.specs.Meeting.{AgreeBut, apart_from}
 use Rattle.run_engine.specs.SegmentView.{SegmentView}
 use Rattle.run_engine.specs.Segments.{ops_of, trace_of, mark_here, marks_from, AreReplayFrom, AreFull, BeginsMarked, IsRunFrom}
-use Rattle.run_engine.specs.Exchanged.{exchanged, CanExchange, IsExchangeable, AreExchangeable}
+use Rattle.run_engine.specs.inner.Exchanged.{exchanged, CanExchange, IsExchangeable, AreExchangeable}
 
 -- equal states agree
 pub Agree-same : (new old : State) → new ≡ old → Agree new old
@@ -34,8 +34,8 @@ pub record GoOnAlike (new old : State) (x : Remains) (ops : List Operation) : Ty
   pub unused : AreUnused new ops
   pub old_unused : AreUnused old ops
 
-front-alike : (new old : State) (x : Remains) (ops more : List Operation) → GoOnAlike new old x (ops ++ more) → GoOnAlike new old x ops
-front-alike new old x ops more h = record {
+prefix-alike : (new old : State) (x : Remains) (ops more : List Operation) → GoOnAlike new old x (ops ++ more) → GoOnAlike new old x ops
+prefix-alike new old x ops more h = record {
   agree = h.agree;
   distinct = appends.distinct_front ops more h.distinct;
   unused = appends.unused_front new ops more h.unused;
@@ -66,7 +66,7 @@ each P Q (Some m) f h = f m h
 exchangeable-behind : (new old : State) (x : Remains) (p : List Operation) (later : List SegmentView) → GoOnAlike new old x (p ++ trace_of later) → AreReplayFrom (end_from old p) later → AreExchangeable x later
 exchangeable-behind new old x p [] h replay = tt
 exchangeable-behind new old x p (s ∷ later) h replay =
-    let here : IsExchangeOf (end_from new p) (end_from old p) x = exchange-behind new old x p (front-alike new old x p (trace_of (s ∷ later)) h) in (
+    let here : IsExchangeOf (end_from new p) (end_from old p) x = exchange-behind new old x p (prefix-alike new old x p (trace_of (s ∷ later)) h) in (
       each (λ m. m ≡ end_from old p) (CanExchange x) s.mark (λ m e. subst (CanExchange x) (sym e) here.can) replay.0.mark,
       exchangeable-behind new old x (p ++ ops_of s) later (subst (GoOnAlike new old x) (sym (append_assoc p (ops_of s) (trace_of later))) h)
           (subst (λ m. AreReplayFrom m later) (sym (appends.end old p (ops_of s))) replay.1),
@@ -84,9 +84,9 @@ replay-behind : (new old : State) (x : Remains) (p : List Operation) (later : Li
     → AreReplayFrom (end_from new p) (map (exchanged x) later)
 replay-behind new old x p [] h replay = tt
 replay-behind new old x p (s ∷ later) h replay =
-    let here : IsExchangeOf (end_from new p) (end_from old p) x = exchange-behind new old x p (front-alike new old x p (trace_of (s ∷ later)) h) in
+    let here : IsExchangeOf (end_from new p) (end_from old p) x = exchange-behind new old x p (prefix-alike new old x p (trace_of (s ∷ later)) h) in
     let more : GoOnAlike new old x ((p ++ ops_of s) ++ trace_of later) = subst (GoOnAlike new old x) (sym (append_assoc p (ops_of s) (trace_of later))) h in
-    let next : GoOnAlike new old x (p ++ ops_of s) = front-alike new old x (p ++ ops_of s) (trace_of later) more in
+    let next : GoOnAlike new old x (p ++ ops_of s) = prefix-alike new old x (p ++ ops_of s) (trace_of later) more in
     let stop : StopsLater new old x p (ops_of s) = patches.later (is_remaining (apart_from x) new old) new old x h.agree.law p (ops_of s) next.distinct next.unused next.old_unused in (
       record {
         mark = patched-mark x (end_from new p) (end_from old p) s.mark here.state replay.0.mark;

@@ -10,10 +10,10 @@ use Rattle.trace_types.specs.Operation.{Operation}
 use Rattle.run_engine.specs.SegmentView.{SegmentView}
 use Rattle.ownership_model.specs.Step.{end_from}
 use Rattle.run_engine.specs.Segments.{trace_of, mark_here, marks_from, AreReplayFrom, AreFull, BeginsMarked, IsRun, IsReached, all_marks, IsRestart, IsLastFrom}
-use Rattle.run_engine.proofs.SegmentLemmas.{AreReplayFrom-front, marks_from-append}
+use Rattle.run_engine.proofs.SegmentLemmas.{AreReplayFrom-prefix, marks_from-append}
 use Rattle.run_engine.proofs.ListingLemmas.{take-shorter}
-use Rattle.run_engine.proofs.PieceLemmas.{AreFull-front, BeginsMarked-front}
-use Rattle.run_engine.proofs.PlaceLemmas.{Contains-one, mark_here-place, mark_here-some, marks_from-least, marks_from-most, trace_of-front, place-within, mark-there, end-mark, all-within}
+use Rattle.run_engine.proofs.PieceLemmas.{AreFull-prefix, BeginsMarked-prefix}
+use Rattle.run_engine.proofs.PlaceLemmas.{Contains-one, mark_here-place, mark_here-some, marks_from-least, marks_from-most, trace_of-prefix, place-within, mark-there, end-mark, all-within}
 
 -- a loop that looks for the restart from behind: all checkpoints at or before the head are those of the first i segments
 abbrev pub AreFirst : List SegmentView → ℕ → ℕ → Type 0
@@ -23,18 +23,18 @@ AreFirst segments head i = (p : ℕ) → Contains (all_marks segments) p → p �
 pub AreFirst-last : (segments : List SegmentView) (head i at : ℕ) → IsLastFrom segments head i at → head < length (trace_of segments) → AreFirst segments head (i + 1)
 AreFirst-last segments head i at h more p mark le =
     let n : ℕ = length (trace_of segments) in
-    let front : List SegmentView = take (i + 1) segments in
+    let prefix : List SegmentView = take (i + 1) segments in
     let rest : List SegmentView = drop (i + 1) segments in
     let next : head < length (trace_of (take (i + 1) segments)) = (h.inside more).1 in
-    let list : all_marks segments ≡ marks_from 0 front ++ (marks_from (0 + length (trace_of front)) rest ++ n ∷ []) =
-    ap (λ ss. marks_from 0 ss ++ n ∷ []) (sym (take-append-drop (i + 1) segments)) ∙ ap (λ ps. ps ++ n ∷ []) (marks_from-append 0 front rest)
-    ∙ append_assoc (marks_from 0 front) (marks_from (0 + length (trace_of front)) rest) (n ∷ []) in
+    let list : all_marks segments ≡ marks_from 0 prefix ++ (marks_from (0 + length (trace_of prefix)) rest ++ n ∷ []) =
+    ap (λ ss. marks_from 0 ss ++ n ∷ []) (sym (take-append-drop (i + 1) segments)) ∙ ap (λ ps. ps ++ n ∷ []) (marks_from-append 0 prefix rest)
+    ∙ append_assoc (marks_from 0 prefix) (marks_from (0 + length (trace_of prefix)) rest) (n ∷ []) in
     ⊎_elim (λ k. k)
     (λ k. ⊎_elim
-    (λ m. let least : 0 + length (trace_of (take (i + 1) segments)) ≤ p = marks_from-least (0 + length (trace_of front)) rest p m in absurd (omega arith))
+    (λ m. let least : 0 + length (trace_of (take (i + 1) segments)) ≤ p = marks_from-least (0 + length (trace_of prefix)) rest p m in absurd (omega arith))
     (λ m. let e : length (trace_of segments) ≡ p = Contains-one _ p m in absurd (omega arith))
-    (Contains-append_cases (marks_from (0 + length (trace_of front)) rest) (n ∷ []) p k))
-    (Contains-append_cases (marks_from 0 front) (marks_from (0 + length (trace_of front)) rest ++ n ∷ []) p (subst (λ ps. Contains ps p) list mark))
+    (Contains-append_cases (marks_from (0 + length (trace_of prefix)) rest) (n ∷ []) p k))
+    (Contains-append_cases (marks_from 0 prefix) (marks_from (0 + length (trace_of prefix)) rest ++ n ∷ []) p (subst (λ ps. Contains ps p) list mark))
 
 marks-up-to : (segments : List SegmentView) (j : ℕ) (s : SegmentView) → j < length segments → s ≡ get_or segments j s
     → marks_from 0 (take (j + 1) segments) ≡ marks_from 0 (take j segments) ++ (mark_here (0 + length (trace_of (take j segments))) s.mark ++ [])
@@ -86,23 +86,23 @@ IsRestart-end segments end head n run all le =
       heap_is = run.state ∙ ap (λ ss. end_from nothing_held (trace_of ss)) (sym whole);
     }
 
--- the front of the replay
+-- the prefix that is kept
 pub IsReached-restart : (segments kept : List SegmentView) (end heap : State) (ops : List Operation) (head i at : ℕ) → IsRun segments end → IsRestart segments head i at heap → kept ≡ take i segments
     → take head (trace_of segments) ≡ take head ops → head ≤ length ops → IsReached ops at kept heap
 IsReached-restart segments kept end heap ops head i at run h is same within =
     let parts : take i segments ++ drop i segments ≡ segments = take-append-drop i segments in
     let early = h.greatest.early in
-    let front : trace_of (take i segments) ≡ take at ops =
-    trace_of-front segments i at h.place ∙ sym (take-shorter at head (trace_of segments) early) ∙ ap (take at) same ∙ take-shorter at head ops early in
+    let prefix : trace_of (take i segments) ≡ take at ops =
+    trace_of-prefix segments i at h.place ∙ sym (take-shorter at head (trace_of segments) early) ∙ ap (take at) same ∙ take-shorter at head ops early in
     subst (λ ss. IsReached ops at ss heap) (sym is) (record {
       within = omega arith;
-      trace = front;
-      replay = AreReplayFrom-front nothing_held (take i segments) (drop i segments) (subst (AreReplayFrom nothing_held) (sym parts) run.replay);
-      full = AreFull-front (take i segments) (drop i segments) (subst AreFull (sym parts) run.full);
-      begins = BeginsMarked-front (take i segments) (drop i segments) (subst BeginsMarked (sym parts) run.begins);
-      state = h.heap_is ∙ ap (end_from nothing_held) front;
+      trace = prefix;
+      replay = AreReplayFrom-prefix nothing_held (take i segments) (drop i segments) (subst (AreReplayFrom nothing_held) (sym parts) run.replay);
+      full = AreFull-prefix (take i segments) (drop i segments) (subst AreFull (sym parts) run.full);
+      begins = BeginsMarked-prefix (take i segments) (drop i segments) (subst BeginsMarked (sym parts) run.begins);
+      state = h.heap_is ∙ ap (end_from nothing_held) prefix;
     })
 
 -- before the restart both traces have the same operations
-pub same-front : (old ops : List Operation) (head at : ℕ) → at ≤ head → take head old ≡ take head ops → take at ops ≡ take at old
-same-front old ops head at early same = sym (take-shorter at head ops early) ∙ ap (take at) (sym same) ∙ take-shorter at head old early
+pub same-prefix : (old ops : List Operation) (head at : ℕ) → at ≤ head → take head old ≡ take head ops → take at ops ≡ take at old
+same-prefix old ops head at early same = sym (take-shorter at head ops early) ∙ ap (take at) (sym same) ∙ take-shorter at head old early

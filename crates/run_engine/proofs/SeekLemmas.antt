@@ -10,9 +10,9 @@ use Rattle.trace_types.specs.Operation.{Operation}
 use Rattle.ownership_model.specs.State.{State, nothing_held}
 use Rattle.ownership_model.proofs.LawsHold.{appends}
 use Rattle.run_engine.specs.SegmentView.{SegmentView}
-use Rattle.run_engine.specs.Parts.{joined}
+use Rattle.run_engine.specs.inner.Parts.{joined}
 use Rattle.run_engine.specs.Segments.{ops_of, trace_of, outcomes_in, mark_here, marks_from, AreReplayFrom, IsLastFrom}
-use Rattle.run_engine.proofs.SegmentLemmas.{AreReplayFrom-front, outcomes_in-append, outcomes_in-replay, outcome-here, slice_get-append_right, even_at, length-trace_of-next}
+use Rattle.run_engine.proofs.SegmentLemmas.{AreReplayFrom-prefix, outcomes_in-append, outcomes_in-replay, outcome-here, slice_get-append_right, even_at, length-trace_of-next}
 use Rattle.run_engine.proofs.PartLemmas.{joined-from}
 use Rattle.run_engine.proofs.PlaceLemmas.{mark_here-place, marks_from-least}
 use Rattle.run_engine.proofs.StartLemmas.{joined-ops}
@@ -44,16 +44,16 @@ module _ (segments : List SegmentView) (place i at : ℕ) (s : SegmentView) (las
   pub outcome-there : AreReplayFrom nothing_held segments → slice_get (outcomes_in segments) place ≡ slice_get s.outcomes (place - at)
   outcome-there replay =
       let lt = (last.inside before).0 in
-      let front : List SegmentView = take i segments in
+      let prefix : List SegmentView = take i segments in
       let there = last.place in
       let le = last.before in
       let less = rest-inside in
       let even = even_at nothing_held segments i s replay lt is in
-      let own : AreReplayFrom nothing_held (take i segments) = AreReplayFrom-front nothing_held (take i segments) (drop i segments) (subst (AreReplayFrom nothing_held) (sym (take-append-drop i segments)) replay) in
+      let own : AreReplayFrom nothing_held (take i segments) = AreReplayFrom-prefix nothing_held (take i segments) (drop i segments) (subst (AreReplayFrom nothing_held) (sym (take-append-drop i segments)) replay) in
       let many : length (outcomes_in (take i segments)) ≡ at = even-all nothing_held (take i segments) own ∙ there in
       ap (λ (ss : List SegmentView). slice_get (outcomes_in ss) place) (sym (take-append-drop i segments))
-      ∙ ap (λ os. slice_get os place) (outcomes_in-append front (drop i segments))
-      ∙ slice_get-append_right (outcomes_in front) (outcomes_in (drop i segments)) place (omega arith)
+      ∙ ap (λ os. slice_get os place) (outcomes_in-append prefix (drop i segments))
+      ∙ slice_get-append_right (outcomes_in prefix) (outcomes_in (drop i segments)) place (omega arith)
       ∙ ap (λ (n : ℕ). slice_get (outcomes_in (drop i segments)) (place - n)) many
       ∙ outcome-here segments i (place - at) s lt is (omega arith)
 

@@ -25,9 +25,9 @@ AreReplayFrom-append m [] b h k = k
 AreReplayFrom-append m (s ∷ a) b h k =
     (h.0, AreReplayFrom-append (end_from m (ops_of s)) a b h.1 (subst (λ n. AreReplayFrom n b) (appends.end m (ops_of s) (trace_of a)) k))
 
-pub AreReplayFrom-front : (m : State) (a b : List SegmentView) → AreReplayFrom m (a ++ b) → AreReplayFrom m a
-AreReplayFrom-front m [] b h = tt
-AreReplayFrom-front m (s ∷ a) b h = (h.0, AreReplayFrom-front (end_from m (ops_of s)) a b h.1)
+pub AreReplayFrom-prefix : (m : State) (a b : List SegmentView) → AreReplayFrom m (a ++ b) → AreReplayFrom m a
+AreReplayFrom-prefix m [] b h = tt
+AreReplayFrom-prefix m (s ∷ a) b h = (h.0, AreReplayFrom-prefix (end_from m (ops_of s)) a b h.1)
 
 pub AreReplayFrom-back : (m : State) (a b : List SegmentView) → AreReplayFrom m (a ++ b) → AreReplayFrom (end_from m (trace_of a)) b
 AreReplayFrom-back m [] b h = h

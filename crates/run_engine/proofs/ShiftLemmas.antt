@@ -7,7 +7,7 @@ use Rattle.run_engine.specs.declared.jobs.begins.Shift.{Shift}
 use Rattle.run_engine.specs.declared.jobs.begins.Shift.TheVariants.{Up, Down, Nowhere}
 use Rattle.run_engine.specs.Edited.{edited_one}
 use Rattle.run_engine.specs.Jobs.{made, begin_after, begin_by}
-use Rattle.run_engine.specs.Shifts.{shifted}
+use Rattle.run_engine.specs.inner.Shifts.{shifted}
 
 -- a stretch moves up by one at most
 pub shifted-most : (begin : ℕ) (shift : Shift) → shifted begin shift ≤ begin + 1

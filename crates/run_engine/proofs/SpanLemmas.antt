@@ -10,8 +10,8 @@ use Rattle.trace_types.specs.Operation.{Operation}
 use Rattle.run_engine.specs.declared.editing.spans.Span.{Span}
 use Rattle.run_engine.specs.declared.editing.spans.Span.TheVariants.{Old, New}
 use Rattle.run_engine.specs.HeadAndTail.{AreAlike}
-use Rattle.run_engine.specs.ListingView.{ListingView}
-use Rattle.run_engine.specs.Spans.{ops_in, laid, span_length, total, Fits, AreFit, IsFound}
+use Rattle.run_engine.specs.inner.ListingView.{ListingView}
+use Rattle.run_engine.specs.inner.Spans.{ops_in, laid, span_length, total, Fits, AreFit, IsFound}
 use Rattle.run_engine.proofs.ListingLemmas.{around, take-shorter}
 
 pub total-append : (a b : List Span) → total (a ++ b) ≡ total a + total b
@@ -25,9 +25,9 @@ pub AreFit-append : (n : ℕ) (a b : List Span) → AreFit n a → AreFit n b �
 AreFit-append n [] b h k = k
 AreFit-append n (s ∷ a) b h k = (h.0, AreFit-append n a b h.1 k)
 
-pub AreFit-front : (n : ℕ) (a b : List Span) → AreFit n (a ++ b) → AreFit n a
-AreFit-front n [] b h = tt
-AreFit-front n (s ∷ a) b h = (h.0, AreFit-front n a b h.1)
+pub AreFit-prefix : (n : ℕ) (a b : List Span) → AreFit n (a ++ b) → AreFit n a
+AreFit-prefix n [] b h = tt
+AreFit-prefix n (s ∷ a) b h = (h.0, AreFit-prefix n a b h.1)
 
 pub AreFit-back : (n : ℕ) (a b : List Span) → AreFit n (a ++ b) → AreFit n b
 AreFit-back n [] b h = h
@@ -97,7 +97,7 @@ pub split-fit : (n : ℕ) (p rest : List Span) (from len k : ℕ) → k ≤ len 
 split-fit n p rest from len k le h =
     let back = AreFit-back n p (Old from len ∷ rest) h in
     let fits : from + len ≤ n = back.0 in
-    AreFit-append n p (Old from k ∷ (Old (from + k) (len - k) ∷ rest)) (AreFit-front n p (Old from len ∷ rest) h) (omega arith, (omega arith, back.1))
+    AreFit-append n p (Old from k ∷ (Old (from + k) (len - k) ∷ rest)) (AreFit-prefix n p (Old from len ∷ rest) h) (omega arith, (omega arith, back.1))
 
 pub split-total : (p rest : List Span) (from len k : ℕ) → k ≤ len → total (p ++ (Old from k ∷ (Old (from + k) (len - k) ∷ rest))) ≡ total (p ++ Old from len ∷ rest)
 split-total p rest from len k le = omega (arith, total-append p (Old from k ∷ (Old (from + k) (len - k) ∷ rest)), total-append p (Old from len ∷ rest))
@@ -142,7 +142,7 @@ laid-from base spans place i rest s fit h lt is =
     let p : List Span = take i spans in
     let q : List Span = drop (i + 1) spans in
     let whole : AreFit (length base) (p ++ s ∷ q) = subst (AreFit (length base)) (parts spans i s lt is) fit in
-    let front : length (laid base p) ≡ total p = length-laid base p (AreFit-front (length base) p (s ∷ q) whole) in
+    let prefix : length (laid base p) ≡ total p = length-laid base p (AreFit-prefix (length base) p (s ∷ q) whole) in
     let inner : length (ops_in base s) ≡ span_length s = length-ops_in base s (AreFit-back (length base) p (s ∷ q) whole).0 in
     let less : rest < span_length s = found-inside spans place i rest s h lt is in
     let there : length (laid base p) + rest ≡ place = omega (arith, h.place_is) in
@@ -172,16 +172,16 @@ pub insert-laid : (base : List Operation) (spans : List Span) (i place : ℕ) (s
 insert-laid base spans i place s x fit at one =
     let p : List Span = take i spans in
     let q : List Span = drop i spans in
-    let front : length (laid base p) ≡ place = length-laid base p (AreFit-front (length base) p q (subst (AreFit (length base)) (sym (take-append-drop i spans)) fit)) ∙ at in
+    let prefix : length (laid base p) ≡ place = length-laid base p (AreFit-prefix (length base) p q (subst (AreFit (length base)) (sym (take-append-drop i spans)) fit)) ∙ at in
     laid-append base p (s ∷ q)
     ∙ ap (λ ops. laid base p ++ (ops ++ laid base q)) one
-    ∙ sym (insert-at (laid base p) (laid base q) x place front)
+    ∙ sym (insert-at (laid base p) (laid base q) x place prefix)
     ∙ ap (λ ops. insert ops place x) (sym (laid-append base p q) ∙ ap (laid base) (take-append-drop i spans))
 
 pub insert-fit : (n : ℕ) (spans : List Span) (i : ℕ) (s : Span) → AreFit n spans → Fits n s → AreFit n (insert spans i s)
 insert-fit n spans i s fit h =
     let whole : AreFit n (take i spans ++ drop i spans) = subst (AreFit n) (sym (take-append-drop i spans)) fit in
-    AreFit-append n (take i spans) (s ∷ drop i spans) (AreFit-front n (take i spans) (drop i spans) whole) (h, AreFit-back n (take i spans) (drop i spans) whole)
+    AreFit-append n (take i spans) (s ∷ drop i spans) (AreFit-prefix n (take i spans) (drop i spans) whole) (h, AreFit-back n (take i spans) (drop i spans) whole)
 
 pub insert-total : (spans : List Span) (i : ℕ) (s : Span) → total (insert spans i s) ≡ total spans + span_length s
 insert-total spans i s = omega (arith, total-append (take i spans) (s ∷ drop i spans), total-around spans i)
@@ -192,9 +192,9 @@ pub cut-laid : (base : List Operation) (spans left : List Span) (i : ℕ) (s : S
 cut-laid base spans left i s x fit lt is e =
     let p : List Span = take i spans in
     let q : List Span = drop (i + 1) spans in
-    let front : length (laid base p) ≡ total p = length-laid base p (AreFit-front (length base) p (s ∷ q) (subst (AreFit (length base)) (parts spans i s lt is) fit)) in
+    let prefix : length (laid base p) ≡ total p = length-laid base p (AreFit-prefix (length base) p (s ∷ q) (subst (AreFit (length base)) (parts spans i s lt is) fit)) in
     laid-append base p (left ++ q) ∙ ap (λ ops. laid base p ++ ops) (laid-append base left q)
-    ∙ sym (remove-at (laid base p) (laid base left ++ laid base q) x (total p) front)
+    ∙ sym (remove-at (laid base p) (laid base left ++ laid base q) x (total p) prefix)
     ∙ ap (λ ops. remove (laid base p ++ (ops ++ laid base q)) (total p)) (sym e)
     ∙ ap (λ ops. remove ops (total p)) (sym (laid-append base p (s ∷ q)) ∙ ap (laid base) (sym (parts spans i s lt is)))
 
@@ -213,7 +213,7 @@ remove-parts spans i = ap (λ n. take i spans ++ drop n spans) (sym (add-one i))
 pub cut-fit : (n : ℕ) (spans left : List Span) (i : ℕ) (s : Span) → AreFit n spans → i < length spans → s ≡ get_or spans i s → AreFit n left → AreFit n (take i spans ++ (left ++ drop (i + 1) spans))
 cut-fit n spans left i s fit lt is h =
     let whole : AreFit n (take i spans ++ s ∷ drop (i + 1) spans) = subst (AreFit n) (parts spans i s lt is) fit in
-    AreFit-append n (take i spans) (left ++ drop (i + 1) spans) (AreFit-front n (take i spans) (s ∷ drop (i + 1) spans) whole)
+    AreFit-append n (take i spans) (left ++ drop (i + 1) spans) (AreFit-prefix n (take i spans) (s ∷ drop (i + 1) spans) whole)
     (AreFit-append n left (drop (i + 1) spans) h (AreFit-back n (take i spans) (s ∷ drop (i + 1) spans) whole).1)
 
 pub cut-total : (spans left : List Span) (i : ℕ) (s : Span) → i < length spans → s ≡ get_or spans i s → total left + 1 ≡ span_length s → total (take i spans ++ (left ++ drop (i + 1) spans)) + 1 ≡ total spans
@@ -272,7 +272,7 @@ alike-span base spans place i rest from len fit found h =
     let q : List Span = drop (i + 1) spans in
     let s : Span = Old from len in
     let whole : AreFit (length base) (p ++ s ∷ q) = subst (AreFit (length base)) (parts spans i s h.there h.is) fit in
-    let front : length (laid base p) ≡ total p = length-laid base p (AreFit-front (length base) p (s ∷ q) whole) in
+    let prefix : length (laid base p) ≡ total p = length-laid base p (AreFit-prefix (length base) p (s ∷ q) whole) in
     let fits : from + len ≤ length base = h.fits in
     let inner : length (take len (drop from base)) ≡ len = omega (arith, length-take len (drop from base), length-drop from base) in
     let place_is : total p + rest ≡ place = found.place_is in

@@ -3,7 +3,7 @@ use Rattle.std.proofs.Common.{◌≡◌, ℕ, suc, zero, ◌+◌, ◌-◌, ◌<�
 use mathlib.Core.Logic.{⊎_elim}
 use Rattle.std.proofs.lemmas.Bool.{cases_lt}
 use Rattle.std.proofs.lemmas.List.{take_all}
-use Rattle.run_engine.specs.Parts.{joined, starts_from, IsPartAt}
+use Rattle.run_engine.specs.inner.Parts.{joined, starts_from, IsPartAt}
 use Rattle.run_engine.specs.SegmentView.{SegmentView}
 use Rattle.run_engine.specs.Segments.{ops_of, trace_of}
 use Rattle.run_engine.proofs.ListingLemmas.{take-shorter}

@@ -11,12 +11,12 @@ use Rattle.op_step.specs.Chunk.{Chunk}
 use Rattle.run_engine.specs.Memo.{IsAmong, AreSome}
 use Rattle.run_engine.specs.Bounds.{AgreesAt}
 use Rattle.std.specs.List.{AllByRecursion}
-use Rattle.run_engine.specs.Steps.{IsOldStretch, IsKnown, AreTaken, IsCovered, AreRising, HaveStepped, MustStep, AreStepped}
+use Rattle.run_engine.specs.Steps.{IsOldStretch, IsKnown, AreTaken, IsCovered, AreRising, HaveStepped, Beside, MustStep, AreStepped}
 use Rattle.run_engine.proofs.ListingLemmas.{take-shorter}
 
-AllByRecursion-front : (P : ℕ → Type 0) (a b : List ℕ) → AllByRecursion P (a ++ b) → AllByRecursion P a
-AllByRecursion-front P [] b h = tt
-AllByRecursion-front P (x ∷ a) b h = (h.0, AllByRecursion-front P a b h.1)
+AllByRecursion-prefix : (P : ℕ → Type 0) (a b : List ℕ) → AllByRecursion P (a ++ b) → AllByRecursion P a
+AllByRecursion-prefix P [] b h = tt
+AllByRecursion-prefix P (x ∷ a) b h = (h.0, AllByRecursion-prefix P a b h.1)
 
 AllByRecursion-back : (P : ℕ → Type 0) (a b : List ℕ) → AllByRecursion P (a ++ b) → AllByRecursion P b
 AllByRecursion-back P [] b h = h
@@ -37,19 +37,19 @@ rising-few (p ∷ ps) from to le h =
 
 -- rising numbers on either side of a place
 record IsSplit (from at to : ℕ) (ps : List ℕ) : Type 0 where
-  front : List ℕ
+  prefix : List ℕ
   back : List ℕ
-  whole : ps ≡ front ++ back
-  before : AreRising from at front
+  whole : ps ≡ prefix ++ back
+  before : AreRising from at prefix
   behind : AreRising at to back
 
 split : (ps : List ℕ) (from at to : ℕ) → AreRising from to ps → IsSplit from at to ps
-split [] from at to h = record { front = []; back = []; whole = refl; before = tt; behind = tt }
+split [] from at to h = record { prefix = []; back = []; whole = refl; before = tt; behind = tt }
 split (p ∷ ps) from at to h = ⊎_elim
     (λ (lt : p < at).
     let rest : IsSplit (p + 1) at to ps = split ps (p + 1) at to h.2 in
-    record { front = p ∷ rest.front; back = rest.back; whole = ap (λ qs. p ∷ qs) rest.whole; before = (h.0, lt, rest.before); behind = rest.behind })
-    (λ (le : at ≤ p). record { front = []; back = p ∷ ps; whole = refl; before = tt; behind = (le, h.1, h.2) })
+    record { prefix = p ∷ rest.prefix; back = rest.back; whole = ap (λ qs. p ∷ qs) rest.whole; before = (h.0, lt, rest.before); behind = rest.behind })
+    (λ (le : at ≤ p). record { prefix = []; back = p ∷ ps; whole = refl; before = tt; behind = (le, h.1, h.2) })
     (cases_lt p at)
 
 -- each of the numbers is below another place
@@ -79,24 +79,24 @@ pub HaveStepped-next : (old ops : List Operation) (marks : List ℕ) (some chunk
     → AreSome some chunks → AreTaken old marks some heap (slice_range ops at to) len count counted → HaveStepped old ops marks chunks r at before count → HaveStepped old ops marks chunks r (at + len) before counted
 HaveStepped-next old ops marks some chunks heap r at to len before count counted is le all taken h ps rising bare =
     let parts : IsSplit r at (at + len) ps = split ps r at (at + len) rising in
-    let both : AllByRecursion (λ p. IsCovered old ops marks chunks p → ⊥) (parts.front ++ parts.back) = subst (AllByRecursion (λ p. IsCovered old ops marks chunks p → ⊥)) parts.whole bare in
-    let first : raised before (length parts.front) ≤ count = h parts.front parts.before (AllByRecursion-front (λ p. IsCovered old ops marks chunks p → ⊥) parts.front parts.back both) in
+    let both : AllByRecursion (λ p. IsCovered old ops marks chunks p → ⊥) (parts.prefix ++ parts.back) = subst (AllByRecursion (λ p. IsCovered old ops marks chunks p → ⊥)) parts.whole bare in
+    let first : raised before (length parts.prefix) ≤ count = h parts.prefix parts.before (AllByRecursion-prefix (λ p. IsCovered old ops marks chunks p → ⊥) parts.prefix parts.back both) in
     let few : at + length parts.back ≤ at + len = rising-few parts.back at (at + len) (omega arith) parts.behind in
-    let long : length ps ≡ length parts.front + length parts.back = ap length parts.whole ∙ length-append parts.front parts.back in
+    let long : length ps ≡ length parts.prefix + length parts.back = ap length parts.whole ∙ length-append parts.prefix parts.back in
     ⊎_elim
     (λ (t : IsKnown old marks some heap (slice_range ops at to) len × (counted ≡ count)).
-    let none : length parts.back ≡ 0 = none-covered old ops marks chunks at len parts.back (wider old marks some chunks (end_from nothing_held (take at ops)) heap ops at to len is le all t.0) parts.behind (AllByRecursion-back (λ p. IsCovered old ops marks chunks p → ⊥) parts.front parts.back both) in
+    let none : length parts.back ≡ 0 = none-covered old ops marks chunks at len parts.back (wider old marks some chunks (end_from nothing_held (take at ops)) heap ops at to len is le all t.0) parts.behind (AllByRecursion-back (λ p. IsCovered old ops marks chunks p → ⊥) parts.prefix parts.back both) in
     let same : counted ≡ count = t.1 in
     omega arith)
     (λ (e : counted ≡ raised count len). omega arith)
     taken
 
-pub AreStepped-stop : (old ops : List Operation) (marks : List ℕ) (chunks : List (ℕ × Chunk)) (a b r x q before after : ℕ) → x ≡ q - a + b → Contains marks q → a ≤ q → AgreesAt old ops a b q
-    → HaveStepped old ops marks chunks r x before after → AreStepped old ops a b marks chunks r before after
-AreStepped-stop old ops marks chunks a b r x q before after there mark behind agrees h ps rising must =
-    h ps (narrowed ps r (length ops) x rising (AllByRecursion-map (MustStep old ops a b marks chunks) (λ p. p < x) (λ p m. let lt : p < q - a + b = m.early q mark behind agrees in omega arith) ps must))
-    (AllByRecursion-map (MustStep old ops a b marks chunks) (λ p. IsCovered old ops marks chunks p → ⊥) (λ p m. m.bare) ps must)
+pub AreStepped-stop : (x : Beside) (r to q before after : ℕ) → to ≡ q - x.base + x.edited → Contains x.marks q → x.base ≤ q → AgreesAt x.old x.ops x.base x.edited q
+    → HaveStepped x.old x.ops x.marks x.chunks r to before after → AreStepped x r before after
+AreStepped-stop x r to q before after there mark behind agrees h ps rising must =
+    h ps (narrowed ps r (length x.ops) to rising (AllByRecursion-map (MustStep x) (λ p. p < to) (λ p m. let lt : p < q - x.base + x.edited = m.early q mark behind agrees in omega arith) ps must))
+    (AllByRecursion-map (MustStep x) (λ p. IsCovered x.old x.ops x.marks x.chunks p → ⊥) (λ p m. m.bare) ps must)
 
-pub AreStepped-end : (old ops : List Operation) (marks : List ℕ) (chunks : List (ℕ × Chunk)) (a b r x before after : ℕ) → x ≡ length ops → HaveStepped old ops marks chunks r x before after → AreStepped old ops a b marks chunks r before after
-AreStepped-end old ops marks chunks a b r x before after there h ps rising must =
-    h ps (subst (λ n. AreRising r n ps) (sym there) rising) (AllByRecursion-map (MustStep old ops a b marks chunks) (λ p. IsCovered old ops marks chunks p → ⊥) (λ p m. m.bare) ps must)
+pub AreStepped-end : (x : Beside) (r to before after : ℕ) → to ≡ length x.ops → HaveStepped x.old x.ops x.marks x.chunks r to before after → AreStepped x r before after
+AreStepped-end x r to before after there h ps rising must =
+    h ps (subst (λ n. AreRising r n ps) (sym there) rising) (AllByRecursion-map (MustStep x) (λ p. IsCovered x.old x.ops x.marks x.chunks p → ⊥) (λ p m. m.bare) ps must)

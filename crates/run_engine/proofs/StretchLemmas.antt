@@ -9,13 +9,13 @@ use Rattle.ownership_model.specs.Step.{end_from}
 use Rattle.run_engine.specs.declared.replay.progress.Fork.{Fork}
 use Rattle.run_engine.specs.declared.replay.revision.Revision.{Revision}
 use Rattle.run_engine.specs.SegmentView.{SegmentView}
-use Rattle.run_engine.specs.OldRun.{old_trace, new_trace}
-use Rattle.run_engine.specs.Divergence.{IsFork}
+use Rattle.run_engine.specs.inner.OldRun.{old_trace, new_trace}
+use Rattle.run_engine.specs.inner.Divergence.{IsFork}
 use Rattle.run_engine.specs.Segments.{trace_of}
 use Rattle.run_engine.specs.HeadAndTail.{AreAlike}
 use Rattle.run_engine.proofs.SegmentLemmas.{trace_of-append}
 use Rattle.run_engine.proofs.PieceLemmas.{mark-is}
-use Rattle.run_engine.proofs.PlaceLemmas.{trace_of-parted, trace_of-front, trace_of-back}
+use Rattle.run_engine.proofs.PlaceLemmas.{trace_of-parted, trace_of-prefix, trace_of-back}
 use Rattle.run_engine.proofs.ListingLemmas.{take-shorter}
 use Rattle.run_engine.proofs.HeadAndTailLemmas.{alike-part}
 
@@ -55,5 +55,5 @@ pub fork-mark : (r : Revision) (fork : Fork) (i at base : ℕ) (s : SegmentView)
     → length (trace_of (take i r.segments.now)) ≡ base → i < length r.segments.now → s ≡ get_or r.segments.now i s → Some mark ≡ s.mark → mark ≡ heap
 fork-mark r fork i at base s heap mark same there is place lt segment marked =
     mark-is r.segments.now i s mark r.holds.kept.run.replay lt segment marked
-    ∙ ap (end_from nothing_held) (trace_of-front r.segments.now i base place ∙ ap (λ n. take n (old_trace r)) (sym there.1))
+    ∙ ap (end_from nothing_held) (trace_of-prefix r.segments.now i base place ∙ ap (λ n. take n (old_trace r)) (sym there.1))
     ∙ sym same ∙ ap (λ n. end_from nothing_held (take n (new_trace r))) there.0 ∙ sym is

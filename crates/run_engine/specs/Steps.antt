@@ -50,17 +50,27 @@ HaveSteppedOn old ops marks some at to before after =
     (r start : ℕ) (chunks : List (ℕ × Chunk)) → HaveStepped old ops marks chunks r at start before → AreSome some chunks
     → HaveStepped old ops marks chunks r to start after
 
+-- a replay of an edited trace beside an old run: both traces, from where on they have the same operations, the old checkpoints, and the chunks
+-- that may serve
+pub record Beside : Type 0 where
+  pub old : List Operation
+  pub ops : List Operation
+  pub base : ℕ
+  pub edited : ℕ
+  pub marks : List ℕ
+  pub chunks : List (ℕ × Chunk)
+
 -- the operation at p of the edited trace is before each place where the replay may stop, and is not covered
-pub record MustStep (old ops : List Operation) (a b : ℕ) (marks : List ℕ) (chunks : List (ℕ × Chunk)) (p : ℕ) : Type 0 where
-  pub early : (q : ℕ) → Contains marks q → a ≤ q → AgreesAt old ops a b q → p < q - a + b
-  pub bare : IsCovered old ops marks chunks p → ⊥
+pub record MustStep (x : Beside) (p : ℕ) : Type 0 where
+  pub early : (q : ℕ) → Contains x.marks q → x.base ≤ q → AgreesAt x.old x.ops x.base x.edited q → p < q - x.base + x.edited
+  pub bare : IsCovered x.old x.ops x.marks x.chunks p → ⊥
 
 -- each such operation from r on was stepped
-abbrev pub AreStepped : List Operation → List Operation → ℕ → ℕ → List ℕ → List (ℕ × Chunk) → ℕ → ℕ → ℕ → Type 0
-AreStepped old ops a b marks chunks r before after =
-    (ps : List ℕ) → AreRising r (length ops) ps → AllByRecursion (MustStep old ops a b marks chunks) ps → raised before (length ps) ≤ after
+abbrev pub AreStepped : Beside → ℕ → ℕ → ℕ → Type 0
+AreStepped x r before after =
+    (ps : List ℕ) → AreRising r (length x.ops) ps → AllByRecursion (MustStep x) ps → raised before (length ps) ≤ after
 
 -- the same from the greatest checkpoint at or before the head
 abbrev pub AreSteppedFrom : List Operation → List Operation → List ℕ → List (ℕ × Chunk) → ℕ → ℕ → Type 0
 AreSteppedFrom old ops marks chunks before after =
-    (head tail r : ℕ) → AreShared old ops head tail → IsGreatest marks head r → AreStepped old ops (length old - tail) (length ops - tail) marks chunks r before after
+    (head tail r : ℕ) → AreShared old ops head tail → IsGreatest marks head r → AreStepped (record { old = old; ops = ops; base = length old - tail; edited = length ops - tail; marks = marks; chunks = chunks }) r before after

@@ -6,7 +6,7 @@ pub mod fresh;
 pub mod guess;
 pub mod loading;
 pub mod origin;
-pub mod piece;
+pub mod prefix;
 pub mod progress;
 pub mod rejoin;
 pub mod restart;

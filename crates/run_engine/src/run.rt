@@ -13,7 +13,7 @@ ghost use Rattle.run_engine.specs.Edited.{edited_by, IsFaultOf};
 ghost use Rattle.run_engine.specs.Segments.{without, IsInner};
 ghost use Rattle.run_engine.specs.Marks.{load_marks};
 ghost use Rattle.run_engine.specs.Bounds.{StepsAtMostFrom};
-ghost use Rattle.run_engine.specs.Onward.{AreNames};
+ghost use Rattle.run_engine.specs.inner.Onward.{AreNames};
 ghost use Rattle.run_engine.specs.GivenUp.{given_up, names_at, IsTouched, AreMarksKept};
 ghost use Rattle.run_engine.specs.Guesses.{with_guesses};
 ghost use Rattle.run_engine.specs.Jobs.{AreJobsOf};
@@ -84,10 +84,10 @@ impl Run {
         ensures never_less { meter.old ≤ meter.new }
         ensures rise { meter.new ≤ meter.old + length trace.now }
     {
-        let front = loaded(alloc, trace.as_slice(), &[], meter)?;
+        let prefix = loaded(alloc, trace.as_slice(), &[], meter)?;
         Ok(Run {
-            segments: front.segments,
-            end: front.end,
+            segments: prefix.segments,
+            end: prefix.end,
         })
     }
 
@@ -107,10 +107,10 @@ impl Run {
         ensures rise { meter.new ≤ meter.old + length trace.now }
     {
         let gone = given_up_in(alloc, trace, shelf)?;
-        let front = loaded(alloc, trace.as_slice(), &gone, meter)?;
+        let prefix = loaded(alloc, trace.as_slice(), &gone, meter)?;
         Ok(Run {
-            segments: front.segments,
-            end: front.end,
+            segments: prefix.segments,
+            end: prefix.end,
         })
     }
 
@@ -135,7 +135,8 @@ impl Run {
         meter: &mut Meter,
     ) -> Result<Run, RunFault>
         ensures trace { IfOk result (λ r. edited_by self.now.trace batch.now ≡ Ok r.trace) }
-        ensures marks { IfOk result (λ r. AreMarksKept guesses.items self.now r shelf.old shelf.new) }
+        ensures marks { IfOk result
+            (λ r. AreMarksKept guesses.items self.now r shelf.old shelf.new) }
         ensures fault { IfErr result (IsFaultOf (edited_by self.now.trace batch.now)) }
         ensures empty { length batch.now ≡ 0 → result ≡ Err EmptyBatch }
         ensures too_many { MAX_EDITS < length batch.now → result ≡ Err TooManyEdits }

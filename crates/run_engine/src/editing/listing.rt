@@ -2,7 +2,7 @@
 ghost use Rattle.std.specs.Prelude.{◌≡◌, ◌<◌, ◌≤◌, ◌++◌, List, length, take, drop, IfOk, OnOk, IfSome, IsTrue, slice_index_or, insert, remove, slice_set, slice_range};
 ghost use Rattle.trace_types.specs.Operation.{Operation};
 ghost use Rattle.trace_types.specs.Trace.{IsTrace, place_of, is_taken, has_distinct_numbers};
-ghost use Rattle.run_engine.specs.Spans.{ops_in, Fits};
+ghost use Rattle.run_engine.specs.inner.Spans.{ops_in, Fits};
 ghost use Rattle.run_engine.specs.HeadAndTail.{AreAlike};
 
 use crate::editing::original::Original;
@@ -26,13 +26,13 @@ pub struct Listing<'a> {
 impl<'a> Model for Listing<'a> {
     ghost use Rattle.std.specs.Prelude.{◌≡◌, ◌≤◌, length};
     ghost use Rattle.trace_types.specs.declared.limits.TheConstants.{MAX_OPS};
-    ghost use Rattle.run_engine.specs.ListingView.{ListingView, listing_code};
+    ghost use Rattle.run_engine.specs.inner.ListingView.{ListingView, listing_code};
 
     ghost Value = { ListingView };
 
     ghost coded = { listing_code };
 
-    ghost use Rattle.run_engine.specs.Spans.{laid, total, AreFit};
+    ghost use Rattle.run_engine.specs.inner.Spans.{laid, total, AreFit};
 
     ghost view = { λ l. record { base = l.base; ops = laid l.base l.spans.items } };
 

@@ -28,7 +28,7 @@ impl<'a> Model for Original<'a> {
     ghost use Rattle.std.specs.Prelude.{◌≡◌, ◌≤◌, List, length};
     ghost use Rattle.trace_types.specs.Operation.{Operation};
     ghost use Rattle.trace_types.specs.declared.limits.TheConstants.{MAX_OPS};
-    ghost use Rattle.run_engine.specs.Sources.{source_ops};
+    ghost use Rattle.run_engine.specs.inner.Sources.{source_ops};
 
     ghost Value = { List Operation };
 

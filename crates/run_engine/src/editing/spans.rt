@@ -1,7 +1,7 @@
 //! Spans of operations: those that stay where they stand in an original, and new ones.
 ghost use Rattle.std.specs.Prelude.{◌≡◌, ℕ, ◌+◌, ◌<◌, ◌≤◌, List, length, take, remove, IfOk};
 ghost use Rattle.trace_types.specs.Operation.{Operation};
-ghost use Rattle.run_engine.specs.Spans.{laid, span_length, total, AreFit, IsFound};
+ghost use Rattle.run_engine.specs.inner.Spans.{laid, span_length, total, AreFit, IsFound};
 
 use std::alloc::AllocError;
 use trace_types::limits::MAX_OPS;

@@ -3,7 +3,7 @@ ghost use Rattle.std.specs.Prelude.{◌≡◌, ℕ, ◌+◌, ◌≤◌, ◌<◌,
 ghost use Rattle.trace_types.specs.Trace.{IsTrace};
 ghost use Rattle.run_engine.specs.Edited.{edited_by, IsFaultOf};
 ghost use Rattle.run_engine.specs.Jobs.{begin_after, begin_by};
-ghost use Rattle.run_engine.specs.Shifts.{shifted};
+ghost use Rattle.run_engine.specs.inner.Shifts.{shifted};
 
 use crate::editing::edits::{edit_one, place_after};
 use crate::editing::faults::RunFault;

@@ -4,7 +4,7 @@ ghost use Rattle.trace_types.specs.Operation.{Operation};
 ghost use Rattle.trace_types.specs.Trace.{IsTrace};
 ghost use Rattle.run_engine.specs.Segments.{trace_of, all_marks, IsKept};
 ghost use Rattle.run_engine.specs.Jobs.{stretch_end, AreJobsAt};
-ghost use Rattle.run_engine.specs.Shifts.{shifted, IsPlace, GivesJob};
+ghost use Rattle.run_engine.specs.inner.Shifts.{shifted, IsPlace, GivesJob};
 
 use crate::editing::listing::Listing;
 use crate::editing::original::Original;

@@ -4,13 +4,13 @@ ghost use Rattle.trace_types.specs.Operation.{Operation};
 ghost use Rattle.trace_types.specs.Trace.{IsTrace};
 ghost use Rattle.run_engine.specs.Guesses.{Reusable};
 ghost use Rattle.run_engine.specs.Memo.{IsSearched};
-ghost use Rattle.run_engine.specs.Onward.{cuts};
+ghost use Rattle.run_engine.specs.inner.Onward.{cuts};
 ghost use Rattle.run_engine.specs.Steps.{AreTaken, HaveSteppedOn};
-ghost use Rattle.run_engine.specs.GoesOn.{MayGoOn, GoesOn, GoesAhead};
-ghost use Rattle.run_engine.specs.Placed.{IsPlaced};
+ghost use Rattle.run_engine.specs.inner.GoesOn.{MayGoOn, GoesOn, GoesAhead};
+ghost use Rattle.run_engine.specs.inner.Placed.{IsPlaced};
 
 use crate::editing::listing::Listing;
-use crate::replay::piece::{Piece, STRIDE, found, joined, replayed_on, stepped};
+use crate::replay::prefix::{Prefix, STRIDE, found, joined, replayed_on, stepped};
 use crate::replay::touching::{inner_name, touch_ahead};
 use crate::segments::names::is_among;
 use mark_shelf::MarkShelf;
@@ -23,55 +23,55 @@ use trace_types::ops::Op;
 pub fn go_ahead(
     alloc: Global,
     ops: &Listing,
-    front: Piece,
+    prefix: Prefix,
     to: usize,
     shelf: &mut MarkShelf,
     meter: &mut Meter,
-) -> Result<Piece, AllocError>
-    requires may { MayGoOn ops.now.ops front to }
+) -> Result<Prefix, AllocError>
+    requires may { MayGoOn ops.now.ops prefix to }
     requires trace { IsTrace ops.now.ops }
-    requires placed { IsPlaced shelf.old.chunks front }
+    requires placed { IsPlaced shelf.old.chunks prefix }
     ensures goes_on { (old : List Operation) (known : Reusable) → IfOk result (λ f.
-        GoesOn old ops.now.ops known front f shelf.old shelf.new meter.old meter.new) }
+        GoesOn old ops.now.ops known prefix f shelf.old shelf.new meter.old meter.new) }
     ensures placed { IfOk result (IsPlaced shelf.new.chunks) }
     ensures there { IfOk result (λ f. f.len ≡ to) }
     ensures never_less { meter.old ≤ meter.new }
-    ensures rise { meter.new + front.len ≤ meter.old + to }
+    ensures rise { meter.new + prefix.len ≤ meter.old + to }
 {
-    let mut front = front;
-    touch_ahead(ops, front.len, to, shelf, &mut front.gone)?;
-    let front = step_ahead(alloc, ops, front, to, shelf, meter)?;
-    Ok(front)
+    let mut prefix = prefix;
+    touch_ahead(ops, prefix.len, to, shelf, &mut prefix.gone)?;
+    let prefix = step_ahead(alloc, ops, prefix, to, shelf, meter)?;
+    Ok(prefix)
 }
 
 // Steps the operations up to a position, where the names are touched.
 fn step_ahead(
     alloc: Global,
     ops: &Listing,
-    front: Piece,
+    prefix: Prefix,
     to: usize,
     shelf: &mut MarkShelf,
     meter: &mut Meter,
-) -> Result<Piece, AllocError>
-    requires may { MayGoOn ops.now.ops front to }
+) -> Result<Prefix, AllocError>
+    requires may { MayGoOn ops.now.ops prefix to }
     requires trace { IsTrace ops.now.ops }
-    requires placed { IsPlaced shelf.old.chunks front }
-    ensures goes_ahead { IfOk result (λ f. GoesAhead ops.now.ops front f (cuts front.len to)) }
+    requires placed { IsPlaced shelf.old.chunks prefix }
+    ensures goes_ahead { IfOk result (λ f. GoesAhead ops.now.ops prefix f (cuts prefix.len to)) }
     ensures placed { IfOk result (IsPlaced shelf.new.chunks) }
     ensures searched { IsSearched shelf.old shelf.new }
     ensures stepped { (old : List Operation) (marks : List ℕ) → IfOk result (λ f.
-        HaveSteppedOn old ops.now.ops marks shelf.old.chunks front.len f.len meter.old meter.new) }
+        HaveSteppedOn old ops.now.ops marks shelf.old.chunks prefix.len f.len meter.old meter.new) }
     ensures there { IfOk result (λ f. f.len ≡ to) }
     ensures never_less { meter.old ≤ meter.new }
-    ensures rise { meter.new + front.len ≤ meter.old + to }
+    ensures rise { meter.new + prefix.len ≤ meter.old + to }
 {
-    let mut front = front;
-    while front.len < to {
-        let len = (to - front.len).min(STRIDE);
-        let next = ops.copies(alloc, front.len, front.len + len)?;
-        front = next_cut(alloc, ops, front, next, shelf, meter)?;
+    let mut prefix = prefix;
+    while prefix.len < to {
+        let len = (to - prefix.len).min(STRIDE);
+        let next = ops.copies(alloc, prefix.len, prefix.len + len)?;
+        prefix = next_cut(alloc, ops, prefix, next, shelf, meter)?;
     }
-    Ok(front)
+    Ok(prefix)
 }
 
 // Goes on with the replay as far as the next cut: by a chunk that the shelf has, or else the operations are stepped, in place where the
@@ -79,37 +79,38 @@ fn step_ahead(
 fn next_cut(
     alloc: Global,
     ops: &Listing,
-    front: Piece,
+    prefix: Prefix,
     next: Vec<Op>,
     shelf: &mut MarkShelf,
     meter: &mut Meter,
-) -> Result<Piece, AllocError>
-    requires may { MayGoOn ops.now.ops front (front.len + length next.items) }
+) -> Result<Prefix, AllocError>
+    requires may { MayGoOn ops.now.ops prefix (prefix.len + length next.items) }
     requires some { 0 < length next.items }
     requires small { length next.items ≤ 64 }
-    requires next { next.items ≡ slice_range ops.now.ops front.len (front.len + length next.items) }
+    requires next { next.items
+        ≡ slice_range ops.now.ops prefix.len (prefix.len + length next.items) }
     requires trace { IsTrace ops.now.ops }
-    requires placed { IsPlaced shelf.old.chunks front }
-    ensures goes_ahead { IfOk result (λ f. GoesAhead ops.now.ops front f (front.len ∷ [])) }
+    requires placed { IsPlaced shelf.old.chunks prefix }
+    ensures goes_ahead { IfOk result (λ f. GoesAhead ops.now.ops prefix f (prefix.len ∷ [])) }
     ensures placed { IfOk result (IsPlaced shelf.new.chunks) }
     ensures searched { IsSearched shelf.old shelf.new }
     ensures taken { (old : List Operation) (marks : List ℕ) → IfOk result (λ _.
-        AreTaken old marks shelf.old.chunks front.end next.items (length next.items)
+        AreTaken old marks shelf.old.chunks prefix.end next.items (length next.items)
         meter.old meter.new) }
-    ensures len { IfOk result (λ f. f.len ≡ front.len + length next.items) }
+    ensures len { IfOk result (λ f. f.len ≡ prefix.len + length next.items) }
     ensures never_less { meter.old ≤ meter.new }
     ensures rise { meter.new ≤ meter.old + length next.items }
 {
-    let known = found(alloc, &front.end, &next, front.behind.number(), shelf)?;
+    let known = found(alloc, &prefix.end, &next, prefix.behind.number(), shelf)?;
     if let Some(piece) = known {
-        let front = joined(alloc, front, piece)?;
-        return Ok(front);
+        let prefix = joined(alloc, prefix, piece)?;
+        return Ok(prefix);
     }
-    if is_among(inner_name(ops, front.len), &front.gone) {
-        let front = replayed_on(alloc, front, next, meter)?;
-        return Ok(front);
+    if is_among(inner_name(ops, prefix.len), &prefix.gone) {
+        let prefix = replayed_on(alloc, prefix, next, meter)?;
+        return Ok(prefix);
     }
-    let piece = stepped(alloc, &front.end, next, meter)?;
-    let front = joined(alloc, front, piece)?;
-    Ok(front)
+    let piece = stepped(alloc, &prefix.end, next, meter)?;
+    let prefix = joined(alloc, prefix, piece)?;
+    Ok(prefix)
 }

@@ -4,22 +4,22 @@ ghost use Rattle.std.specs.Ordering.{nat_cmp};
 ghost use Rattle.std.specs.BTreeSet.{contains};
 ghost use Rattle.run_engine.specs.Segments.{trace_of, marks_from, all_marks, IsRun, IsPiece};
 ghost use Rattle.run_engine.specs.Guesses.{with_guesses};
-ghost use Rattle.run_engine.specs.OldRun.{old_trace, old_marks, new_trace, reusable};
+ghost use Rattle.run_engine.specs.inner.OldRun.{old_trace, old_marks, new_trace, reusable};
 ghost use Rattle.run_engine.specs.HeadAndTail.{ShareEnd};
 ghost use Rattle.run_engine.specs.Bounds.{StepsAtMost};
 ghost use Rattle.run_engine.specs.NewMarks.{IsGap};
-ghost use Rattle.run_engine.specs.Onward.{AreMarksLeft};
+ghost use Rattle.run_engine.specs.inner.Onward.{AreMarksLeft};
 ghost use Rattle.run_engine.specs.Memo.{IsSearched};
 ghost use Rattle.run_engine.specs.Steps.{AreTaken, AreStepped};
-ghost use Rattle.run_engine.specs.GoesOn.{MayGoOn, GoesOnBeside};
-ghost use Rattle.run_engine.specs.Placed.{IsPlaced, IsNext};
-ghost use Rattle.run_engine.specs.Divergence.{IsFork};
+ghost use Rattle.run_engine.specs.inner.GoesOn.{MayGoOn, GoesOnBeside};
+ghost use Rattle.run_engine.specs.inner.Placed.{IsPlaced, IsNext};
+ghost use Rattle.run_engine.specs.inner.Divergence.{IsFork};
 
 use crate::replay::ahead::go_ahead;
 use crate::replay::divergence::Divergence;
 use crate::replay::guess::{guessed, may_guess};
 use crate::replay::origin::Behind;
-use crate::replay::piece::{Next, Piece, STRIDE, found, joined, stepped};
+use crate::replay::prefix::{NextStretch, Prefix, STRIDE, found, joined, stepped};
 use crate::replay::progress::{Fork, Progress};
 use crate::replay::rejoin::{OldMark, rejoined_at};
 use crate::replay::revision::Revision;
@@ -40,7 +40,7 @@ pub struct Seam {
 
 // How far a replay is to go on, and from where on no old stretch can serve: a guess may anywhere.
 #[derive(Clone, Copy)]
-struct Leg {
+struct Limits {
     to: usize,
     open: usize,
 }
@@ -54,56 +54,56 @@ fn next_piece(
     to: usize,
     shelf: &mut MarkShelf,
     meter: &mut Meter,
-) -> Result<(Next, Fork), AllocError>
-    requires may { MayGoOn (new_trace revision.now) progress.now.front to }
-    requires some { progress.now.front.len < to }
+) -> Result<(NextStretch, Fork), AllocError>
+    requires may { MayGoOn (new_trace revision.now) progress.now.prefix to }
+    requires some { progress.now.prefix.len < to }
     requires fork { IsFork revision.now progress.now.fork }
-    requires placed { IsPlaced shelf.old.chunks progress.now.front }
+    requires placed { IsPlaced shelf.old.chunks progress.now.prefix }
     ensures piece { IfOk result (λ p.
-        IsPiece progress.now.front.end
-        (slice_range (new_trace revision.now) progress.now.front.len to)
+        IsPiece progress.now.prefix.end
+        (slice_range (new_trace revision.now) progress.now.prefix.len to)
         p.0.segments p.0.end p.0.len) }
     ensures fork { IfOk result (λ p. IsFork revision.now p.1) }
     ensures gap { IfOk result (λ p. IsGap (reusable revision.now) p.0.len) }
     ensures steps { IfOk result (λ p. meter.new ≤ meter.old + p.0.len) }
     ensures taken { IfOk result (λ p.
         AreTaken (old_trace revision.now) (old_marks revision.now)
-        (with_guesses revision.now.guesses.now shelf.old.chunks) progress.now.front.end (slice_range (new_trace revision.now) progress.now.front.len to)
+        (with_guesses revision.now.guesses.now shelf.old.chunks) progress.now.prefix.end (slice_range (new_trace revision.now) progress.now.prefix.len to)
         p.0.len meter.old meter.new) }
-    ensures next { IfOk result (λ p. IsNext shelf.new.chunks progress.now.front.end p.0) }
+    ensures next { IfOk result (λ p. IsNext shelf.new.chunks progress.now.prefix.end p.0) }
     ensures searched { IsSearched shelf.old shelf.new }
     ensures never_less { meter.old ≤ meter.new }
-    ensures rise { meter.new + progress.now.front.len ≤ meter.old + to }
+    ensures rise { meter.new + progress.now.prefix.len ≤ meter.old + to }
 {
-    let front = &progress.front;
+    let prefix = &progress.prefix;
     let fork = progress.fork;
-    let guess = guessed(alloc, revision, &front.end, front.len, to)?;
+    let guess = guessed(alloc, revision, &prefix.end, prefix.len, to)?;
     if let Some(piece) = guess {
         return Ok((piece, fork));
     }
-    let len = (to - front.len).min(STRIDE);
-    let next = revision.ops.copies(alloc, front.len, front.len + len)?;
-    let known = found(alloc, &front.end, &next, front.behind.number(), shelf)?;
+    let len = (to - prefix.len).min(STRIDE);
+    let next = revision.ops.copies(alloc, prefix.len, prefix.len + len)?;
+    let known = found(alloc, &prefix.end, &next, prefix.behind.number(), shelf)?;
     if let Some(piece) = known {
         return Ok((piece, fork));
     }
-    let stretch = old_stretch(alloc, revision, &front.end, front.len, to, fork)?;
+    let stretch = old_stretch(alloc, revision, &prefix.end, prefix.len, to, fork)?;
     if let Some((piece, base)) = stretch {
-        let edited = front.len + piece.len;
+        let edited = prefix.len + piece.len;
         return Ok((piece, Fork { edited, base }));
     }
-    let piece = stepped(alloc, &front.end, next, meter)?;
+    let piece = stepped(alloc, &prefix.end, next, meter)?;
     Ok((piece, fork))
 }
 
 // From where on nothing can serve but a chunk that the shelf has.
-fn served(revision: &Revision, leg: Leg) -> usize
-    ensures { result ≤ leg.to }
+fn served(revision: &Revision, limits: Limits) -> usize
+    ensures { result ≤ limits.to }
 {
     if revision.guesses.is_empty() {
-        return leg.open.min(leg.to);
+        return limits.open.min(limits.to);
     }
-    leg.to
+    limits.to
 }
 
 // Whether an old stretch or a guess may begin at a cut.
@@ -114,113 +114,120 @@ fn may_serve(revision: &Revision, cut: usize, open: usize) -> bool
 }
 
 // The next cut from a position on where an old stretch or a guess may begin. Where none does before nothing can serve, the first cut from
-// there on, or the end of the leg.
-fn next_start(revision: &Revision, at: usize, leg: Leg) -> usize
-    requires order { at ≤ leg.to }
-    requires within { leg.to ≤ length (new_trace revision.now) }
+// there on, or where the replay is to end.
+fn next_start(revision: &Revision, at: usize, limits: Limits) -> usize
+    requires order { at ≤ limits.to }
+    requires within { limits.to ≤ length (new_trace revision.now) }
     ensures no_less { at ≤ result }
-    ensures within { result ≤ leg.to }
+    ensures within { result ≤ limits.to }
 {
-    let open = served(revision, leg);
+    let open = served(revision, limits);
     let mut cut = at;
     while cut < open {
-        if may_serve(revision, cut, leg.open) {
+        if may_serve(revision, cut, limits.open) {
             return cut;
         }
-        cut += (leg.to - cut).min(STRIDE);
+        cut += (limits.to - cut).min(STRIDE);
     }
     cut
 }
 
-// Goes on with the replay where old stretches and guesses may serve. Where one may begin, the name of the checkpoint is touched, and then a piece is
-// taken; the cuts up to there are known before they are reached.
+// Goes on with the replay where old stretches and guesses may serve. Where one may begin, the name of the checkpoint is touched, and then a
+// stretch is taken; the cuts up to there are known before they are reached.
 fn serve(
     alloc: Global,
     revision: &Revision,
     progress: Progress,
-    leg: Leg,
+    limits: Limits,
     shelf: &mut MarkShelf,
     meter: &mut Meter,
 ) -> Result<Progress, AllocError>
-    requires may { MayGoOn (new_trace revision.now) progress.front leg.to }
+    requires may { MayGoOn (new_trace revision.now) progress.prefix limits.to }
     requires fork { IsFork revision.now progress.fork }
-    requires placed { IsPlaced shelf.old.chunks progress.front }
+    requires placed { IsPlaced shelf.old.chunks progress.prefix }
     ensures beside { IfOk result (λ p.
-        GoesOnBeside revision.now progress.front p.front shelf.old shelf.new
+        GoesOnBeside revision.now progress.prefix p.prefix shelf.old shelf.new
         meter.old meter.new) }
     ensures fork { IfOk result (λ p. IsFork revision.now p.fork) }
-    ensures placed { IfOk result (λ p. IsPlaced shelf.new.chunks p.front) }
-    ensures order { IfOk result (λ p. p.front.len ≤ leg.to) }
+    ensures placed { IfOk result (λ p. IsPlaced shelf.new.chunks p.prefix) }
+    ensures order { IfOk result (λ p. p.prefix.len ≤ limits.to) }
     ensures steps { IfOk result
-        (λ p. meter.new + progress.front.len ≤ meter.old + p.front.len) }
+        (λ p. meter.new + progress.prefix.len ≤ meter.old + p.prefix.len) }
     ensures never_less { meter.old ≤ meter.new }
-    ensures rise { meter.new + progress.front.len ≤ meter.old + leg.to }
+    ensures rise { meter.new + progress.prefix.len ≤ meter.old + limits.to }
 {
     let mut progress = progress;
-    while progress.front.len < served(revision, leg) {
-        let at = progress.front.len;
-        let next = next_start(revision, at, leg);
+    while progress.prefix.len < served(revision, limits) {
+        let at = progress.prefix.len;
+        let next = next_start(revision, at, limits);
         if at < next {
             let fork = progress.fork;
-            let front = go_ahead(alloc, revision.ops, progress.front, next, shelf, meter)?;
-            progress = Progress { front, fork };
+            let prefix = go_ahead(alloc, revision.ops, progress.prefix, next, shelf, meter)?;
+            progress = Progress { prefix, fork };
         } else {
-            touch_at(revision.ops, at, shelf, &mut progress.front.gone)?;
-            let (piece, fork) = next_piece(alloc, revision, &progress, leg.to, shelf, meter)?;
-            let front = joined(alloc, progress.front, piece)?;
-            progress = Progress { front, fork };
+            touch_at(revision.ops, at, shelf, &mut progress.prefix.gone)?;
+            let (piece, fork) = next_piece(alloc, revision, &progress, limits.to, shelf, meter)?;
+            let prefix = joined(alloc, progress.prefix, piece)?;
+            progress = Progress { prefix, fork };
         }
     }
     Ok(progress)
 }
 
-// Goes on with the replay to the end of the leg.
+// Goes on with the replay to the place that the limits name.
 fn advance(
     alloc: Global,
     revision: &Revision,
     progress: Progress,
-    leg: Leg,
+    limits: Limits,
     shelf: &mut MarkShelf,
     meter: &mut Meter,
 ) -> Result<Progress, AllocError>
-    requires may { MayGoOn (new_trace revision.now) progress.front leg.to }
+    requires may { MayGoOn (new_trace revision.now) progress.prefix limits.to }
     requires fork { IsFork revision.now progress.fork }
-    requires placed { IsPlaced shelf.old.chunks progress.front }
+    requires placed { IsPlaced shelf.old.chunks progress.prefix }
     ensures beside { IfOk result (λ p.
-        GoesOnBeside revision.now progress.front p.front shelf.old shelf.new
+        GoesOnBeside revision.now progress.prefix p.prefix shelf.old shelf.new
         meter.old meter.new) }
     ensures fork { IfOk result (λ p. IsFork revision.now p.fork) }
-    ensures placed { IfOk result (λ p. IsPlaced shelf.new.chunks p.front) }
-    ensures there { IfOk result (λ p. p.front.len ≡ leg.to) }
+    ensures placed { IfOk result (λ p. IsPlaced shelf.new.chunks p.prefix) }
+    ensures there { IfOk result (λ p. p.prefix.len ≡ limits.to) }
     ensures never_less { meter.old ≤ meter.new }
-    ensures rise { meter.new + progress.front.len ≤ meter.old + leg.to }
+    ensures rise { meter.new + progress.prefix.len ≤ meter.old + limits.to }
 {
-    let progress = serve(alloc, revision, progress, leg, shelf, meter)?;
+    let progress = serve(alloc, revision, progress, limits, shelf, meter)?;
     let fork = progress.fork;
-    let front = go_ahead(alloc, revision.ops, progress.front, leg.to, shelf, meter)?;
-    Ok(Progress { front, fork })
+    let prefix = go_ahead(
+        alloc,
+        revision.ops,
+        progress.prefix,
+        limits.to,
+        shelf,
+        meter,
+    )?;
+    Ok(Progress { prefix, fork })
 }
 
-// The segments of the front, and then others.
+// The segments of the replayed prefix, and then others.
 fn spliced(
     alloc: Global,
-    front: Piece,
+    prefix: Prefix,
     rest: Segments,
     end: Heap,
     len: usize,
-) -> Result<Piece, AllocError>
-    ensures segments { IfOk result (λ p. p.segments ≡ front.segments ++ rest) }
+) -> Result<Prefix, AllocError>
+    ensures segments { IfOk result (λ p. p.segments ≡ prefix.segments ++ rest) }
     ensures end { IfOk result (λ p. p.end ≡ end) }
-    ensures gone { IfOk result (λ p. p.gone ≡ front.gone) }
+    ensures gone { IfOk result (λ p. p.gone ≡ prefix.gone) }
 {
-    let segments = front.segments.append(alloc, rest)?;
-    Ok(Piece {
+    let segments = prefix.segments.append(alloc, rest)?;
+    Ok(Prefix {
         segments,
         end,
         len,
-        fresh: front.fresh,
+        fresh: prefix.fresh,
         behind: Behind::Nothing,
-        gone: front.gone,
+        gone: prefix.gone,
     })
 }
 
@@ -230,64 +237,76 @@ fn spliced(
 pub fn converge(
     alloc: Global,
     revision: &Revision,
-    front: Piece,
+    prefix: Prefix,
     seam: Seam,
     shelf: &mut MarkShelf,
     meter: &mut Meter,
-) -> Result<Piece, AllocError>
-    requires may { MayGoOn (new_trace revision.now) front seam.edited }
-    requires shared { ShareEnd (old_trace revision.now) (new_trace revision.now) seam.base seam.edited }
-    requires begins { take front.len (new_trace revision.now)
-        ≡ take front.len (old_trace revision.now) }
-    requires placed { IsPlaced shelf.old.chunks front }
+) -> Result<Prefix, AllocError>
+    requires may { MayGoOn (new_trace revision.now) prefix seam.edited }
+    requires shared { ShareEnd (old_trace revision.now)
+        (new_trace revision.now) seam.base seam.edited }
+    requires begins { take prefix.len (new_trace revision.now)
+        ≡ take prefix.len (old_trace revision.now) }
+    requires placed { IsPlaced shelf.old.chunks prefix }
     ensures run { IfOk result (λ r. IsRun r.segments r.end) }
     ensures trace { IfOk result (λ r. trace_of r.segments ≡ (new_trace revision.now)) }
     ensures marks { IfOk result (λ r.
-        AreMarksLeft (old_trace revision.now) (new_trace revision.now)
-        (marks_from 0 front.segments) (reusable revision.now) (all_marks r.segments)
-        front.len seam.base seam.edited shelf.old shelf.new
-        (contains nat_cmp front.gone) (contains nat_cmp r.gone)) }
+        AreMarksLeft (record {
+          trace = old_trace revision.now;
+          ops = new_trace revision.now;
+          kept = marks_from 0 prefix.segments;
+          old = reusable revision.now;
+          new = all_marks r.segments;
+          from = prefix.len;
+          base = seam.base;
+          edited = seam.edited;
+        }) shelf.old shelf.new (contains nat_cmp prefix.gone) (contains nat_cmp r.gone)) }
     ensures bound { StepsAtMost (old_trace revision.now) (new_trace revision.now) seam.base seam.edited
-        (old_marks revision.now) front.len meter.old meter.new }
+        (old_marks revision.now) prefix.len meter.old meter.new }
     ensures stepped { IfOk result (λ _.
-        AreStepped (old_trace revision.now) (new_trace revision.now) seam.base seam.edited
-        (old_marks revision.now) (with_guesses revision.now.guesses.now shelf.old.chunks)
-        front.len meter.old meter.new) }
+        AreStepped (record {
+          old = old_trace revision.now;
+          ops = new_trace revision.now;
+          base = seam.base;
+          edited = seam.edited;
+          marks = old_marks revision.now;
+          chunks = with_guesses revision.now.guesses.now shelf.old.chunks;
+        }) prefix.len meter.old meter.new) }
     ensures never_less { meter.old ≤ meter.new }
 {
     let old = revision.segments;
     let fork = Fork {
-        edited: front.len,
-        base: front.len,
+        edited: prefix.len,
+        base: prefix.len,
     };
-    let mut progress = Progress { front, fork };
+    let mut progress = Progress { prefix, fork };
     let (first, mut at) = old.last_from(seam.base);
     let mut divergence = Divergence::none(alloc, fork);
     for i in first..old.len() {
         let segment = old.at(i);
         if at >= seam.base {
             if let Some(mark) = segment.mark() {
-                let leg = Leg {
+                let limits = Limits {
                     to: at - seam.base + seam.edited,
                     open: seam.edited,
                 };
-                progress = advance(alloc, revision, progress, leg, shelf, meter)?;
+                progress = advance(alloc, revision, progress, limits, shelf, meter)?;
                 let old_mark = OldMark { index: i, at, mark };
                 let found = rejoined_at(alloc, revision, &progress, &old_mark, &mut divergence)?;
                 if let Some((rest, end)) = found {
-                    let mut front = progress.front;
-                    touch_at(revision.ops, front.len, shelf, &mut front.gone)?;
+                    let mut prefix = progress.prefix;
+                    touch_at(revision.ops, prefix.len, shelf, &mut prefix.gone)?;
                     let len = revision.ops.len();
-                    return Ok(spliced(alloc, front, rest, end, len)?);
+                    return Ok(spliced(alloc, prefix, rest, end, len)?);
                 }
             }
         }
         at += segment.ops().len();
     }
-    let leg = Leg {
+    let limits = Limits {
         to: revision.ops.len(),
         open: seam.edited,
     };
-    let progress = advance(alloc, revision, progress, leg, shelf, meter)?;
-    Ok(progress.front)
+    let progress = advance(alloc, revision, progress, limits, shelf, meter)?;
+    Ok(progress.prefix)
 }

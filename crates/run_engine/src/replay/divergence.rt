@@ -4,9 +4,9 @@ ghost use Rattle.ownership_model.specs.State.{State, nothing_held};
 ghost use Rattle.ownership_model.specs.Agrees.{HaveSameRoots};
 ghost use Rattle.agreement.specs.Agreement.{Agree};
 ghost use Rattle.agreement.specs.Meeting.{Meets};
-ghost use Rattle.run_engine.specs.OldRun.{new_trace};
+ghost use Rattle.run_engine.specs.inner.OldRun.{new_trace};
 ghost use Rattle.run_engine.specs.Segments.{trace_of, AreReplayFrom, IsReached};
-ghost use Rattle.run_engine.specs.Divergence.{IsFork, DifferWithin, IsDivergence, HasFollowed, HasCompared};
+ghost use Rattle.run_engine.specs.inner.Divergence.{IsFork, DifferWithin, IsDivergence, HasFollowed, HasCompared};
 ghost use Rattle.run_engine.specs.declared.replay.revision.Revision.{Revision};
 
 use crate::replay::progress::{Fork, Progress};
@@ -57,8 +57,9 @@ impl Divergence {
         self.base = fork.base;
     }
 
-    /// Goes on to the end of the front, and in the old run to where the segment at an index begins: the objects that outcomes on the
-    /// way tell of join the suspects. The way begins where both had one heap last, or where it ended before, if that is further on.
+    /// Goes on to the end of the replayed prefix, and in the old run to where the segment at an index begins: the objects that
+    /// outcomes on the way tell of join the suspects. The way begins where both had one heap last, or where it ended before, if that
+    /// is further on.
     pub fn catch_up(
         &mut self,
         alloc: Global,
@@ -69,18 +70,18 @@ impl Divergence {
     ) -> Result<(), AllocError>
         requires known { IsDivergence revision.now self.old }
         requires fork { IsFork revision.now progress.now.fork }
-        requires front { IsReached (new_trace revision.now)
-            progress.now.front.len progress.now.front.segments progress.now.front.end }
+        requires prefix { IsReached (new_trace revision.now)
+            progress.now.prefix.len progress.now.prefix.segments progress.now.prefix.end }
         requires within { index ≤ length revision.now.segments.now }
         requires place { length (trace_of (take index revision.now.segments.now)) ≡ at }
         ensures known { OnOk result (IsDivergence revision.now self.new) }
-        ensures edited { OnOk result (self.new.edited ≡ progress.now.front.len) }
+        ensures edited { OnOk result (self.new.edited ≡ progress.now.prefix.len) }
         ensures base { OnOk result (self.new.base ≡ at) }
     {
         self.begin_anew(alloc, progress.fork);
-        let front = &progress.front;
+        let prefix = &progress.prefix;
         if let Some(suspects) = &mut self.suspects {
-            let new = &front.segments;
+            let new = &prefix.segments;
             let old = revision.segments;
             let is_known = follow(suspects, new, self.edited, new.len())?
                 && follow(suspects, old, self.base, index)?;
@@ -88,7 +89,7 @@ impl Divergence {
                 self.suspects = None;
             }
         }
-        self.edited = front.len;
+        self.edited = prefix.len;
         self.base = at;
         Ok(())
     }

@@ -3,7 +3,7 @@ ghost use Rattle.std.specs.Prelude.{◌≡◌, None, Some, true, IfOk, IfSome, O
 ghost use Rattle.ownership_model.specs.Step.{end_from};
 ghost use Rattle.mark_shelf.specs.Joints.{EndsWith};
 ghost use Rattle.run_engine.specs.Memo.{HasSameMarks};
-ghost use Rattle.run_engine.specs.Origins.{stepped_chunk, behind_of, end_behind};
+ghost use Rattle.run_engine.specs.inner.Origins.{stepped_chunk, behind_of, end_behind};
 ghost use Rattle.run_engine.specs.declared.replay.origin.Behind.TheVariants.{Stepped};
 
 use crate::replay::origin::{Behind, Origin};
@@ -31,7 +31,7 @@ impl Model for Fresh {
     ghost use Rattle.std.specs.Coded.{coded_option};
     ghost use Rattle.ownership_model.specs.State.{State};
     ghost use Rattle.object_heap.specs.StateCode.{state_code};
-    ghost use Rattle.run_engine.specs.FreshChunks.{end_after, AreLinked};
+    ghost use Rattle.run_engine.specs.inner.FreshChunks.{end_after, AreLinked};
 
     ghost Value = { Option State };
 
@@ -63,7 +63,8 @@ impl Fresh {
 
     /// The replay goes on from behind something: a chunk that was stepped for it is added. What it stands behind then.
     pub fn go_on(&mut self, before: Behind, origin: Origin) -> Result<Behind, AllocError>
-        requires { before ≡ Stepped → IfSome (stepped_chunk origin) (λ c. IfSome self.old (λ s. s ≡ c.start)) }
+        requires { before ≡ Stepped →
+            IfSome (stepped_chunk origin) (λ c. IfSome self.old (λ s. s ≡ c.start)) }
         ensures behind { IfOk result (λ b. b ≡ behind_of origin) }
         ensures end { OnOk result (self.new ≡ end_behind self.old origin) }
     {
@@ -95,9 +96,11 @@ pub fn remember_all(shelf: &mut MarkShelf, chunks: Fresh)
 
 // Has the shelf remember a chunk, of which it is known whether it begins where the one ends that it remembered last, and gives its number.
 fn remember_next(shelf: &mut MarkShelf, fresh: FreshChunk, last: Option<u64>) -> Option<u64>
-    requires { fresh.follows ≡ true → IfSome last (λ k. EndsWith shelf.old.chunks k fresh.chunk.start) }
+    requires { fresh.follows ≡ true →
+        IfSome last (λ k. EndsWith shelf.old.chunks k fresh.chunk.start) }
     ensures marks { HasSameMarks shelf.old shelf.new }
-    ensures ends { IfSome result (λ n. EndsWith shelf.new.chunks n (end_from fresh.chunk.start fresh.chunk.ops)) }
+    ensures ends { IfSome result
+        (λ n. EndsWith shelf.new.chunks n (end_from fresh.chunk.start fresh.chunk.ops)) }
 {
     if fresh.follows {
         shelf.remember_behind(fresh.chunk, last)

@@ -3,14 +3,13 @@ ghost use Rattle.std.specs.Prelude.{◌≡◌, ℕ, List, ◌+◌, ◌-◌, ◌<
 ghost use Rattle.trace_types.specs.Trace.{IsTrace};
 ghost use Rattle.op_step.specs.Chunk.{Chunk};
 ghost use Rattle.run_engine.specs.Guesses.{IsGuessed, IsAsLong};
-ghost use Rattle.run_engine.specs.OldRun.{new_trace};
+ghost use Rattle.run_engine.specs.inner.OldRun.{new_trace};
 ghost use Rattle.run_engine.specs.Segments.{IsPiece};
-ghost use Rattle.run_engine.specs.Placed.{IsNext};
-ghost use Rattle.run_engine.specs.Guessed.{Serves};
+ghost use Rattle.run_engine.specs.inner.Placed.{IsNext};
 
 use crate::editing::listing::Listing;
 use crate::replay::origin::Origin;
-use crate::replay::piece::Next;
+use crate::replay::prefix::NextStretch;
 use crate::replay::revision::Revision;
 use mark_shelf::same_ops;
 use object_heap::Heap;
@@ -26,7 +25,7 @@ pub fn guessed(
     heap: &Heap,
     at: usize,
     to: usize,
-) -> Result<Option<Next>, AllocError>
+) -> Result<Option<NextStretch>, AllocError>
     requires order { at ≤ to }
     requires within { to ≤ length (new_trace revision.now) }
     ensures piece { IfOk result (λ o. IfSome o (λ p.
@@ -42,7 +41,7 @@ pub fn guessed(
 {
     for guess in revision.guesses {
         if serves(guess, heap, revision.ops, at, to) {
-            let mut piece = Next::of(alloc, guess)?;
+            let mut piece = NextStretch::of(alloc, guess)?;
             piece.origin = Origin::Old;
             return Ok(Some(piece));
         }
@@ -76,7 +75,11 @@ fn serves(guess: &ChunkRun, heap: &Heap, ops: &Listing, at: usize, to: usize) ->
     requires trace { IsTrace ops.now.ops }
     requires order { at ≤ to }
     requires within { to ≤ length ops.now.ops }
-    ensures { IsTrue result → Serves guess.now heap.now ops.now.ops at to }
+    ensures start { IsTrue result → guess.now.start ≡ heap.now }
+    ensures some { IsTrue result → 0 < length guess.now.ops }
+    ensures short { IsTrue result → length guess.now.ops ≤ to - at }
+    ensures listed { IsTrue result →
+        guess.now.ops ≡ take (length guess.now.ops) (drop at ops.now.ops) }
 {
     let len = guess.ops().len();
     if len == 0 || len > to - at {

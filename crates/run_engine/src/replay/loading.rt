@@ -6,11 +6,11 @@ ghost use Rattle.run_engine.specs.Segments.{marks_from, IsReached};
 ghost use Rattle.run_engine.specs.Marks.{load_marks};
 ghost use Rattle.run_engine.specs.RunView.{load_view};
 ghost use Rattle.run_engine.specs.GivenUp.{given_up, name_at, names_at, IsTouched};
-ghost use Rattle.run_engine.specs.Loaded.{is_gone, kept_below, loaded_view};
+ghost use Rattle.run_engine.specs.inner.Loaded.{is_gone, kept_below, loaded_view};
 
 use crate::replay::fresh::Fresh;
 use crate::replay::origin::{Behind, Origin};
-use crate::replay::piece::{Piece, STRIDE, joined, replayed_on, stepped};
+use crate::replay::prefix::{Prefix, STRIDE, joined, replayed_on, stepped};
 use crate::segments::blocks::Segments;
 use mark_shelf::MarkShelf;
 use object_heap::Heap;
@@ -26,16 +26,16 @@ pub fn loaded(
     ops: &[Op],
     gone: &[bool],
     meter: &mut Meter,
-) -> Result<Piece, AllocError>
+) -> Result<Prefix, AllocError>
     requires trace { IsTrace ops.now }
-    ensures front { IfOk result (λ f. IsReached ops.now (length ops.now) f.segments f.end) }
+    ensures prefix { IfOk result (λ f. IsReached ops.now (length ops.now) f.segments f.end) }
     ensures marks { IfOk result
         (λ f. marks_from 0 f.segments ≡ kept_below gone.now (length ops.now)) }
     ensures count { OnOk result (meter.new ≡ raised meter.old (length ops.now)) }
     ensures never_less { meter.old ≤ meter.new }
     ensures rise { meter.new ≤ meter.old + length ops.now }
 {
-    let mut front = Piece {
+    let mut prefix = Prefix {
         segments: Segments::empty(alloc),
         end: Heap::empty(),
         len: 0,
@@ -43,20 +43,20 @@ pub fn loaded(
         behind: Behind::Nothing,
         gone: BTreeSet::new(alloc),
     };
-    while front.len < ops.len() {
-        let at = front.len;
+    while prefix.len < ops.len() {
+        let at = prefix.len;
         let to = at + (ops.len() - at).min(STRIDE);
         let copies = copy_ops(alloc, &ops[at..to])?;
         if is_gone(gone, at) {
-            front = replayed_on(alloc, front, copies, meter)?;
+            prefix = replayed_on(alloc, prefix, copies, meter)?;
         } else {
-            let mut piece = stepped(alloc, &front.end, copies, meter)?;
+            let mut piece = stepped(alloc, &prefix.end, copies, meter)?;
             // of a whole trace no chunk is remembered, and one that stayed would keep its heaps
             piece.origin = Origin::Old;
-            front = joined(alloc, front, piece)?;
+            prefix = joined(alloc, prefix, piece)?;
         }
     }
-    Ok(front)
+    Ok(prefix)
 }
 
 // Whether the checkpoint at a position is given up.

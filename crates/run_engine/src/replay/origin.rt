@@ -1,6 +1,6 @@
 //! By what a replay comes to where it stands.
 ghost use Rattle.std.specs.Prelude.{◌≡◌, ◌↔◌, IsTrue};
-ghost use Rattle.run_engine.specs.Origins.{shelf_number};
+ghost use Rattle.run_engine.specs.inner.Origins.{shelf_number};
 ghost use Rattle.run_engine.specs.declared.replay.origin.Behind.TheVariants.{Stepped};
 
 use op_step::ChunkRun;

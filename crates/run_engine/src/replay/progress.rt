@@ -1,7 +1,7 @@
 //! How far the replay of an edited trace has come beside an old run.
 ghost use Rattle.std.specs.Prelude.{◌≡◌, ◌↔◌, IsTrue};
 
-use crate::replay::piece::Piece;
+use crate::replay::prefix::Prefix;
 
 /// Where the replay of an edited trace had the old run's heap: behind so many operations of the edited trace, and of the old one.
 #[derive(Clone, Copy, Debug, PartialEq, Eq)]
@@ -19,9 +19,9 @@ impl Fork {
     }
 }
 
-/// The front of a replay, and the last place where it is known to have had the old run's heap.
+/// The replayed prefix, and the last place where it is known to have had the old run's heap.
 #[derive(Drop)]
 pub struct Progress {
-    pub front: Piece,
+    pub prefix: Prefix,
     pub fork: Fork,
 }

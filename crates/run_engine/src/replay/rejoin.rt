@@ -5,8 +5,8 @@ ghost use Rattle.ownership_model.specs.State.{nothing_held};
 ghost use Rattle.ownership_model.specs.Step.{end_from, AreUnused};
 ghost use Rattle.ownership_model.specs.Agrees.{HaveSameRoots};
 ghost use Rattle.agreement.specs.Agreement.{Agree};
-ghost use Rattle.run_engine.specs.Divergence.{IsFork, DifferWithin, IsDivergence, HasCompared};
-ghost use Rattle.run_engine.specs.OldRun.{old_trace, new_trace, rest_of};
+ghost use Rattle.run_engine.specs.inner.Divergence.{IsFork, DifferWithin, IsDivergence, HasCompared};
+ghost use Rattle.run_engine.specs.inner.OldRun.{old_trace, new_trace, rest_of};
 ghost use Rattle.run_engine.specs.Segments.{trace_of, marks_from, IsReached, IsRunFrom};
 
 use crate::replay::divergence::Divergence;
@@ -33,7 +33,7 @@ pub struct OldMark<'a> {
     pub mark: Checkpoint<'a>,
 }
 
-/// The rest of the old run from one of its checkpoints on, and its end, as they follow the front of a replay, where its heap agrees with
+/// The rest of the old run from one of its checkpoints on, and its end, as they follow the replayed prefix, where its heap agrees with
 /// the checkpoint.
 ///
 /// While the trail to a difference, or handles, cells or scopes tell them apart, no outcome is gone over: the divergence stays where it
@@ -45,8 +45,8 @@ pub fn rejoined_at(
     old: &OldMark,
     divergence: &mut Divergence,
 ) -> Result<Option<(Segments, Heap)>, AllocError>
-    requires front { IsReached (new_trace revision.now)
-        progress.now.front.len progress.now.front.segments progress.now.front.end }
+    requires prefix { IsReached (new_trace revision.now)
+        progress.now.prefix.len progress.now.prefix.segments progress.now.prefix.end }
     requires fork { IsFork revision.now progress.now.fork }
     requires within { old.now.index ≤ length revision.now.segments.now }
     requires place { length (trace_of (take old.now.index revision.now.segments.now)) ≡ old.now.at }
@@ -56,13 +56,14 @@ pub fn rejoined_at(
         revision.now.end.now }
     requires distinct { IsTrue (has_distinct_numbers
         (trace_of (drop old.now.index revision.now.segments.now))) }
-    requires unused { AreUnused progress.now.front.end
+    requires unused { AreUnused progress.now.prefix.end
         (trace_of (drop old.now.index revision.now.segments.now)) }
     requires old_unused { AreUnused old.now.mark
         (trace_of (drop old.now.index revision.now.segments.now)) }
     requires known { IsDivergence revision.now divergence.old }
-    ensures answer { IfOk result (λ o. IsTrue (is_some o) ↔ Agree progress.now.front.end old.now.mark) }
-    ensures run { IfOk result (λ o. IfSome o (λ r. IsRunFrom progress.now.front.end r.0 r.1)) }
+    ensures answer { IfOk result
+        (λ o. IsTrue (is_some o) ↔ Agree progress.now.prefix.end old.now.mark) }
+    ensures run { IfOk result (λ o. IfSome o (λ r. IsRunFrom progress.now.prefix.end r.0 r.1)) }
     ensures trace { IfOk result (λ o. IfSome o (λ r.
         trace_of r.0 ≡ trace_of (drop old.now.index revision.now.segments.now))) }
     ensures marks { IfOk result (λ o. IfSome o (λ r. (at : ℕ) →
@@ -70,7 +71,7 @@ pub fn rejoined_at(
     ensures known { OnOk result (IsDivergence revision.now divergence.new) }
 {
     let kept = old.mark.heap(alloc)?;
-    let told = divergence.tells_apart(alloc, &progress.front.end, &kept)?;
+    let told = divergence.tells_apart(alloc, &progress.prefix.end, &kept)?;
     if told {
         return Ok(None);
     }
@@ -80,7 +81,7 @@ pub fn rejoined_at(
         from: old.index,
         end: revision.end,
     };
-    let found = rejoined(alloc, &progress.front.end, &kept, &rest, divergence)?;
+    let found = rejoined(alloc, &progress.prefix.end, &kept, &rest, divergence)?;
     Ok(found)
 }
 

@@ -5,18 +5,18 @@ ghost use Rattle.std.specs.BTreeSet.{contains};
 ghost use Rattle.trace_types.specs.Trace.{IsTrace};
 ghost use Rattle.run_engine.specs.Segments.{trace_of, all_marks, IsRun, IsRestart, IsKept};
 ghost use Rattle.run_engine.specs.Bounds.{StepsAtMostFrom};
-ghost use Rattle.run_engine.specs.Onward.{AreNames, AreMarksDue};
+ghost use Rattle.run_engine.specs.inner.Onward.{AreNames, AreMarksDue};
 ghost use Rattle.op_step.specs.Chunk.{Chunk};
 ghost use Rattle.run_engine.specs.Guesses.{with_guesses};
 ghost use Rattle.run_engine.specs.Steps.{AreSteppedFrom};
-ghost use Rattle.run_engine.specs.Placed.{IsPlaced};
+ghost use Rattle.run_engine.specs.inner.Placed.{IsPlaced};
 
 use crate::editing::head_and_tail::{head, tail};
 use crate::editing::listing::Listing;
 use crate::replay::converge::{Seam, converge};
 use crate::replay::fresh::Fresh;
 use crate::replay::origin::Behind;
-use crate::replay::piece::Piece;
+use crate::replay::prefix::Prefix;
 use crate::replay::revision::Revision;
 use crate::segments::blocks::Segments;
 use mark_shelf::MarkShelf;
@@ -66,8 +66,8 @@ fn greatest_mark(alloc: Global, revision: &Revision, head: usize) -> Result<Rest
     })
 }
 
-// The front of the replay of an edited trace.
-fn front(alloc: Global, revision: &Revision, head: usize) -> Result<Piece, AllocError>
+// The prefix of an edited trace that need not be replayed again.
+fn prefix(alloc: Global, revision: &Revision, head: usize) -> Result<Prefix, AllocError>
     ensures kept { IfOk result
         (λ f. IsRestart revision.now.segments.now head (length f.segments) f.len f.end) }
     ensures segments { IfOk result
@@ -77,7 +77,7 @@ fn front(alloc: Global, revision: &Revision, head: usize) -> Result<Piece, Alloc
 {
     let restart = greatest_mark(alloc, revision, head)?;
     let kept = revision.segments.stretch(alloc, 0, restart.index)?;
-    Ok(Piece {
+    Ok(Prefix {
         segments: kept,
         end: restart.heap,
         len: restart.at,
@@ -96,7 +96,7 @@ pub fn resumed(
     guesses: &[ChunkRun],
     shelf: &mut MarkShelf,
     meter: &mut Meter,
-) -> Result<Piece, AllocError>
+) -> Result<Prefix, AllocError>
     requires kept { IsKept segments.now end.now }
     requires base { ops.now.base ≡ trace_of segments.now }
     requires trace { IsTrace ops.now.ops }
@@ -116,11 +116,11 @@ pub fn resumed(
     let first = head(ops);
     let last = tail(ops, first);
     let revision = Revision::of(segments, end, ops, guesses);
-    let front = front(alloc, &revision, first)?;
+    let prefix = prefix(alloc, &revision, first)?;
     let seam = Seam {
         base: ops.base_len() - last,
         edited: ops.len() - last,
     };
-    let replay = converge(alloc, &revision, front, seam, shelf, meter)?;
+    let replay = converge(alloc, &revision, prefix, seam, shelf, meter)?;
     Ok(replay)
 }

@@ -2,8 +2,8 @@
 ghost use Rattle.std.specs.Prelude.{◌≡◌};
 ghost use Rattle.trace_types.specs.Trace.{IsTrace};
 ghost use Rattle.run_engine.specs.Segments.{trace_of, IsKept};
-ghost use Rattle.run_engine.specs.Revision.{IsRevision};
-ghost use Rattle.run_engine.specs.RevisionProps.{IsRevision-prop};
+ghost use Rattle.run_engine.specs.inner.Revision.{IsRevision};
+ghost use Rattle.run_engine.specs.inner.RevisionProps.{IsRevision-prop};
 
 use crate::editing::listing::Listing;
 use crate::segments::blocks::Segments;

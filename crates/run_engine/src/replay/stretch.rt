@@ -3,15 +3,15 @@ ghost use Rattle.std.specs.Prelude.{◌≡◌, ℕ, List, [], ◌+◌, ◌-◌, 
 ghost use Rattle.ownership_model.specs.State.{nothing_held};
 ghost use Rattle.ownership_model.specs.Step.{end_from};
 ghost use Rattle.run_engine.specs.Segments.{trace_of, marks_from, BeginsMarked, IsRun, IsPiece};
-ghost use Rattle.run_engine.specs.OldRun.{old_trace, old_marks, new_trace};
-ghost use Rattle.run_engine.specs.Divergence.{IsFork};
+ghost use Rattle.run_engine.specs.inner.OldRun.{old_trace, old_marks, new_trace};
+ghost use Rattle.run_engine.specs.inner.Divergence.{IsFork};
 ghost use Rattle.run_engine.specs.NewMarks.{AreNeighbours};
 ghost use Rattle.op_step.specs.Chunk.{Chunk};
 ghost use Rattle.run_engine.specs.Steps.{IsOldStretch};
-ghost use Rattle.run_engine.specs.Placed.{IsNext};
+ghost use Rattle.run_engine.specs.inner.Placed.{IsNext};
 
 use crate::replay::origin::Origin;
-use crate::replay::piece::Next;
+use crate::replay::prefix::NextStretch;
 use crate::replay::progress::Fork;
 use crate::replay::revision::Revision;
 use crate::segments::blocks::Segments;
@@ -31,7 +31,7 @@ pub fn old_stretch(
     at: usize,
     to: usize,
     fork: Fork,
-) -> Result<Option<(Next, usize)>, AllocError>
+) -> Result<Option<(NextStretch, usize)>, AllocError>
     requires some { at < to }
     requires within { to ≤ length (new_trace revision.now) }
     requires heap { heap.now ≡ end_from nothing_held (take at (new_trace revision.now)) }
@@ -77,7 +77,7 @@ pub fn old_stretch(
     let Some(after) = heap_at(alloc, old, revision.end, j)? else {
         return Ok(None);
     };
-    let piece = Next {
+    let piece = NextStretch {
         segments,
         end: after,
         len,

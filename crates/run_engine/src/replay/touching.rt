@@ -3,10 +3,10 @@ ghost use Rattle.std.specs.Prelude.{◌≡◌, ◌+◌, ◌≤◌, ◌∷◌, []
 ghost use Rattle.std.specs.Ordering.{nat_cmp};
 ghost use Rattle.std.specs.BTreeSet.{contains};
 ghost use Rattle.run_engine.specs.GivenUp.{names_at};
-ghost use Rattle.run_engine.specs.Onward.{cuts, AreAnswered};
+ghost use Rattle.run_engine.specs.inner.Onward.{cuts, AreAnswered};
 
 use crate::editing::listing::Listing;
-use crate::replay::piece::STRIDE;
+use crate::replay::prefix::STRIDE;
 use crate::segments::names::add_name;
 use mark_shelf::MarkShelf;
 use std::alloc::AllocError;

@@ -1,10 +1,10 @@
 //! A block of segments.
 ghost use Rattle.std.specs.Prelude.{◌≡◌, ◌+◌, ◌++◌, ◌∷◌, [], ◌<◌, ◌≤◌, length, map, IfOk, OnErr, IfSome, IfNone, slice_index_or, slice_range};
 ghost use Rattle.trace_types.specs.Trace.{place_of};
-ghost use Rattle.run_engine.specs.Cleared.{cleared_if};
-ghost use Rattle.run_engine.specs.Blocks.{standing};
+ghost use Rattle.run_engine.specs.inner.Cleared.{cleared_if};
+ghost use Rattle.run_engine.specs.inner.Blocks.{standing};
 ghost use Rattle.run_engine.specs.Segments.{ops_of, trace_of, without_mark, has_mark, IsLastFrom};
-ghost use Rattle.run_engine.specs.Exchanged.{exchanged, AreExchangeable};
+ghost use Rattle.run_engine.specs.inner.Exchanged.{exchanged, AreExchangeable};
 
 use crate::segments::bounds::Bounds;
 use crate::segments::gone::{Gone, MOST_SEGMENTS};
@@ -43,7 +43,7 @@ impl Model for Block {
     ghost use Rattle.std.specs.Option.{option_map};
     ghost use Rattle.std.specs.Coded.{coded_list};
     ghost use Rattle.run_engine.specs.SegmentView.{SegmentView, segment_code};
-    ghost use Rattle.run_engine.specs.Blocks.{standing, laid_over, AreSoundBelow, AreMeasured};
+    ghost use Rattle.run_engine.specs.inner.Blocks.{standing, laid_over, AreSoundBelow, AreMeasured};
 
     ghost Value = { List SegmentView };
 

@@ -1,6 +1,6 @@
 //! Blocks one behind the other.
 ghost use Rattle.std.specs.Prelude.{◌≡◌, ◌+◌, ◌++◌, ◌∷◌, [], ◌<◌, length, map, take, IfOk, OnOk, IfSome, IfNone};
-ghost use Rattle.run_engine.specs.Parts.{joined, starts_from};
+ghost use Rattle.run_engine.specs.inner.Parts.{joined, starts_from};
 ghost use Rattle.run_engine.specs.Segments.{trace_of, without_mark};
 
 use crate::segments::block::Block;

@@ -2,7 +2,7 @@
 ghost use Rattle.std.specs.Prelude.{◌≡◌, ◌++◌, ◌∷◌, [], ◌<◌, ◌≤◌, length, map, take, IfOk, slice_index_or, slice_range};
 ghost use Rattle.trace_types.specs.Trace.{place_of};
 ghost use Rattle.run_engine.specs.Segments.{trace_of, without_mark, has_mark, IsLastFrom};
-ghost use Rattle.run_engine.specs.Exchanged.{exchanged, AreExchangeable};
+ghost use Rattle.run_engine.specs.inner.Exchanged.{exchanged, AreExchangeable};
 
 use crate::segments::block::Block;
 use crate::segments::block_list::{clear_at, find, push_last};
@@ -34,7 +34,7 @@ impl Model for Segments {
     ghost use Rattle.std.specs.Prelude.{◌≡◌, ◌≤◌, List, length, map};
     ghost use Rattle.std.specs.Coded.{coded_list};
     ghost use Rattle.trace_types.specs.declared.limits.TheConstants.{MAX_OPS};
-    ghost use Rattle.run_engine.specs.Parts.{joined, starts_from};
+    ghost use Rattle.run_engine.specs.inner.Parts.{joined, starts_from};
     ghost use Rattle.run_engine.specs.SegmentView.{SegmentView, segment_code};
     ghost use Rattle.run_engine.specs.Segments.{trace_of};
 

@@ -2,7 +2,7 @@
 ghost use Rattle.std.specs.Prelude.{◌≡◌, ◌++◌, List, None, IsTrue};
 ghost use Rattle.trace_types.specs.Operation.{Operation};
 ghost use Rattle.trace_types.specs.Trace.{place_of};
-ghost use Rattle.run_engine.specs.Parts.{AreBetween};
+ghost use Rattle.run_engine.specs.inner.Parts.{AreBetween};
 
 use trace_types::ops::Op;
 

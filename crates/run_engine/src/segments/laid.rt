@@ -2,7 +2,7 @@
 ghost use Rattle.std.specs.Prelude.{◌≡◌, IfOk};
 ghost use Rattle.std.specs.Arc.{arc_value};
 ghost use Rattle.std.specs.Option.{option_copied, option_map};
-ghost use Rattle.run_engine.specs.Blocks.{IsBoth};
+ghost use Rattle.run_engine.specs.inner.Blocks.{IsBoth};
 
 use agreement::{Exchange, Remains};
 use std::alloc::{AllocError, Global};

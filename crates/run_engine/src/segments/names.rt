@@ -2,8 +2,8 @@
 ghost use Rattle.std.specs.Prelude.{◌≡◌, ◌++◌, ◌<◌, ℕ, List, None, OnOk, true, length, option_to_list, if◌then◌else◌};
 ghost use Rattle.std.specs.Ordering.{nat_cmp};
 ghost use Rattle.std.specs.BTreeSet.{contains};
-ghost use Rattle.run_engine.specs.Onward.{AreNames};
-ghost use Rattle.run_engine.specs.Cleared.{is_named, cleared};
+ghost use Rattle.run_engine.specs.inner.Onward.{AreNames};
+ghost use Rattle.run_engine.specs.inner.Cleared.{is_named, cleared};
 ghost use Rattle.run_engine.specs.Segments.{without_mark};
 
 use crate::segments::blocks::Segments;

@@ -3,8 +3,8 @@ ghost use Rattle.std.specs.Prelude.{◌≡◌, IfOk, None, Some};
 ghost use Rattle.std.specs.Option.{option_copied};
 ghost use Rattle.trace_types.specs.Trace.{place_of};
 ghost use Rattle.ownership_model.specs.Step.{outcomes_from};
-ghost use Rattle.run_engine.specs.Parts.{AreBetween};
-ghost use Rattle.run_engine.specs.Cleared.{last_name};
+ghost use Rattle.run_engine.specs.inner.Parts.{AreBetween};
+ghost use Rattle.run_engine.specs.inner.Cleared.{last_name};
 
 use crate::segments::bounds::{Bounds, bounds_of};
 use object_heap::Heap;
@@ -36,8 +36,8 @@ impl Model for Segment {
 
     ghost coded = { segment_code };
 
-    ghost use Rattle.run_engine.specs.Parts.{AreBetween};
-    ghost use Rattle.run_engine.specs.Cleared.{last_name};
+    ghost use Rattle.run_engine.specs.inner.Parts.{AreBetween};
+    ghost use Rattle.run_engine.specs.inner.Cleared.{last_name};
 
     ghost view = { λ s. record {
       mark = option_map arc_value s.mark;

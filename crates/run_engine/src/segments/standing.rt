@@ -1,8 +1,8 @@
 //! A segment as it stands in a run.
 ghost use Rattle.std.specs.Prelude.{◌≡◌, length, is_some, [], ◌∷◌};
 ghost use Rattle.std.specs.Option.{option_copied};
-ghost use Rattle.run_engine.specs.Cleared.{cleared_if, last_name};
-ghost use Rattle.run_engine.specs.Blocks.{laid_over, AreSoundBelow};
+ghost use Rattle.run_engine.specs.inner.Cleared.{cleared_if, last_name};
+ghost use Rattle.run_engine.specs.inner.Blocks.{laid_over, AreSoundBelow};
 
 use crate::segments::segment::Segment;
 use agreement::{Checkpoint, Exchange};
@@ -24,8 +24,8 @@ impl<'a> Model for Standing<'a> {
     ghost use Rattle.std.specs.Prelude.{[], ◌∷◌};
     ghost use Rattle.std.specs.Option.{option_copied};
     ghost use Rattle.run_engine.specs.SegmentView.{SegmentView, segment_code};
-    ghost use Rattle.run_engine.specs.Cleared.{cleared_if};
-    ghost use Rattle.run_engine.specs.Blocks.{laid_over, AreSoundBelow};
+    ghost use Rattle.run_engine.specs.inner.Cleared.{cleared_if};
+    ghost use Rattle.run_engine.specs.inner.Blocks.{laid_over, AreSoundBelow};
 
     ghost Value = { SegmentView };
 

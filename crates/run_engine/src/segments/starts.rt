@@ -2,7 +2,7 @@
 ghost use Rattle.std.specs.Prelude.{◌≡◌, [], List, IfSome, IfNone};
 ghost use Rattle.trace_types.specs.Operation.{Operation};
 ghost use Rattle.run_engine.specs.SegmentView.{SegmentView};
-ghost use Rattle.run_engine.specs.Parts.{starts_from, IsPartAt};
+ghost use Rattle.run_engine.specs.inner.Parts.{starts_from, IsPartAt};
 
 /// The index of the last part that begins at or before a place, where the parts begin at `starts`.
 pub fn part_at(starts: &[usize], place: usize) -> Option<usize>

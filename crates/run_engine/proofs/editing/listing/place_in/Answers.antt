@@ -2,7 +2,7 @@ use Rattle.std.proofs.Common.{◌≡◌, ◌+◌, ◌-◌, ◌<◌, ◌≤◌, l
 use Rattle.std.specs.Prelude.{Some, None, ◌⊎◌}
 use mathlib.Core.Logic.{inl, inr}
 use Rattle.trace_types.specs.Trace.{place_of}
-use Rattle.run_engine.specs.Spans.{ops_in, Fits}
+use Rattle.run_engine.specs.inner.Spans.{ops_in, Fits}
 use Rattle.run_engine.proofs.NumberLemmas.{in-part-some, in-part-none}
 use Rattle.run_engine.proofs.editing.listing.place_in.Goals.{else-from-place-via-then-from-place+else-place-from, else-from-place-via-else-from-place}
 use Rattle.run_engine.proofs.editing.listing.place_in.Goals as goal

@@ -1,7 +1,7 @@
 use Rattle.std.proofs.Common.{◌≡◌, ℕ, ◌+◌, ◌-◌, ◌<◌, ◌≤◌, List, [], ◌∷◌, length, take, get_or, ◌∙◌, ap, sym, subst, arith}
 use Rattle.run_engine.specs.declared.editing.spans.Span.{Span}
 use Rattle.run_engine.specs.declared.editing.spans.Span.TheVariants.{Old}
-use Rattle.run_engine.specs.Spans.{ops_in, laid, span_length, total, AreFit}
+use Rattle.run_engine.specs.inner.Spans.{ops_in, laid, span_length, total, AreFit}
 use Rattle.run_engine.proofs.SpanLemmas.{total-next, fit-at, cut-laid, cut-fit, cut-total, cut-old_span, set-parts, remove-parts}
 use Rattle.run_engine.proofs.editing.spans.cut.Goals as goal
 

@@ -1,5 +1,5 @@
 use Rattle.std.proofs.Common.{◌≡◌, ◌+◌, take}
-use Rattle.run_engine.specs.Spans.{total}
+use Rattle.run_engine.specs.inner.Spans.{total}
 use Rattle.run_engine.proofs.editing.spans.find.Given as goal
 
 abbrev pub invariant-loop-i : goal.invariant-loop-i

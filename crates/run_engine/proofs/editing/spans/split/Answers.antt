@@ -4,7 +4,7 @@ use Rattle.std.proofs.lemmas.List.{length-take-le}
 use Rattle.trace_types.specs.declared.limits.TheConstants.{MAX_OPS}
 use Rattle.run_engine.specs.declared.editing.spans.Span.{Span}
 use Rattle.run_engine.specs.declared.editing.spans.Span.TheVariants.{Old}
-use Rattle.run_engine.specs.Spans.{laid, span_length, total, AreFit, IsFound}
+use Rattle.run_engine.specs.inner.Spans.{laid, span_length, total, AreFit, IsFound}
 use Rattle.run_engine.proofs.SpanLemmas.{parts, set-split, split-laid, split-fit, split-total, split-found, found-inside, found-behind, old-at, IsOldAt}
 use Rattle.run_engine.proofs.editing.spans.split.Goals.{In_default, In-Old, In_ok-insert}
 use Rattle.run_engine.proofs.editing.spans.split.Goals as goal

@@ -3,7 +3,7 @@ use Rattle.std.specs.Prelude.{fold}
 use Rattle.trace_types.specs.Trace.{IsTrace}
 use Rattle.run_engine.specs.Edited.{edits_from}
 use Rattle.run_engine.specs.Jobs.{begin_by}
-use Rattle.run_engine.specs.Shifts.{shifted}
+use Rattle.run_engine.specs.inner.Shifts.{shifted}
 use Rattle.run_engine.proofs.jobs.begins.edited_shifting.Given as goal
 
 abbrev pub invariant-loop-i : goal.invariant-loop-i

@@ -1,10 +1,10 @@
-use Rattle.std.proofs.Common.{◌≡◌, ℕ, ◌+◌, ◌<◌, ◌≤◌, List, [], ◌∷◌, ◌++◌, length, drop, get_or, refl, ap, sym, subst, ◌∙◌, arith}
+use Rattle.std.proofs.Common.{◌+◌, ◌<◌, ◌≤◌, List, [], ◌∷◌, ◌++◌, length, drop, get_or, refl, ap, sym, subst, arith}
 use Rattle.std.specs.Prelude.{fold}
 use Rattle.std.proofs.lemmas.List.{append-nil, drop_all}
 use Rattle.op_step.specs.Chunk.{Chunk}
 use Rattle.run_engine.specs.Segments.{trace_of, all_marks}
 use Rattle.run_engine.specs.Jobs.{AreJobsAt}
-use Rattle.run_engine.specs.Shifts.{shifted, IsPlace, GivesJob}
+use Rattle.run_engine.specs.inner.Shifts.{shifted, IsPlace, GivesJob}
 use Rattle.run_engine.proofs.PlaceLemmas.{all-within}
 use Rattle.run_engine.proofs.JobLemmas.{from-there, gives-stretch, AreJobsAt-next}
 use Rattle.run_engine.proofs.jobs.changed.changed.Goals as goal

@@ -3,7 +3,7 @@ use Rattle.std.specs.Prelude.{fold}
 use Rattle.op_step.specs.Chunk.{Chunk}
 use Rattle.run_engine.specs.Segments.{trace_of, all_marks}
 use Rattle.run_engine.specs.Jobs.{AreJobsAt}
-use Rattle.run_engine.specs.Shifts.{shifted}
+use Rattle.run_engine.specs.inner.Shifts.{shifted}
 use Rattle.run_engine.proofs.jobs.changed.changed.Given as goal
 
 abbrev pub invariant-loop-i : goal.invariant-loop-i

@@ -1,6 +1,6 @@
 use Rattle.std.proofs.Common.{◌+◌, ◌<◌, length, ap, sym, ◌∙◌, arith}
 use Rattle.std.specs.Prelude.{fold, slice_range, slice_index_or}
-use Rattle.run_engine.specs.Shifts.{shifted}
+use Rattle.run_engine.specs.inner.Shifts.{shifted}
 use Rattle.run_engine.proofs.JobLemmas.{contains-at, stretch-inner}
 use Rattle.run_engine.proofs.jobs.changed.place_of.Goals as goal
 

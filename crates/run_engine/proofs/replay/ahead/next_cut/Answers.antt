@@ -14,64 +14,64 @@ use Rattle.run_engine.proofs.replay.ahead.next_cut.Goals as goal
 
 pub returns-in-Some-clause-taken : goal.returns-in-Some-clause-taken
 returns-in-Some-clause-taken c = λ old marks.
-    let there : IsAmong c.args.shelf.now.chunks c.args.front.end c.args.next.items = rw (c.in-Some.is, c.deref.ensures.value) at c.in_ok-known.ensures.there in
-    inl (inr (subst (IsAmong c.args.shelf.now.chunks c.args.front.end) (sym (take-length c.args.next.items)) there), refl)
+    let there : IsAmong c.args.shelf.now.chunks c.args.prefix.end c.args.next.items = rw (c.in-Some.is, c.deref.ensures.value) at c.in_ok-known.ensures.there in
+    inl (inr (subst (IsAmong c.args.shelf.now.chunks c.args.prefix.end) (sym (take-length c.args.next.items)) there), refl)
 
 pub replayed_on-requires-clause-distinct : goal.replayed_on-requires-clause-distinct
 replayed_on-requires-clause-distinct c =
-    subst (λ os. IsTrue (has_distinct_numbers os)) (sym c.requires.next) (distinct-slice_range c.args.ops.now.ops c.args.front.len _ c.requires.trace.distinct)
+    subst (λ os. IsTrue (has_distinct_numbers os)) (sym c.requires.next) (distinct-slice_range c.args.ops.now.ops c.args.prefix.len _ c.requires.trace.distinct)
 
 pub replayed_on-requires-clause-unused : goal.replayed_on-requires-clause-unused
 replayed_on-requires-clause-unused c =
-    subst (AreUnused c.args.front.end) (sym c.requires.next) (unused-slice_range c.args.ops.now.ops c.args.front.end c.args.front.len _ c.requires.trace.distinct c.requires.may.reached.state)
+    subst (AreUnused c.args.prefix.end) (sym c.requires.next) (unused-slice_range c.args.ops.now.ops c.args.prefix.end c.args.prefix.len _ c.requires.trace.distinct c.requires.may.reached.state)
 
 pub stepped-requires-clause-distinct : goal.stepped-requires-clause-distinct
 stepped-requires-clause-distinct c =
-    subst (λ os. IsTrue (has_distinct_numbers os)) (sym c.requires.next) (distinct-slice_range c.args.ops.now.ops c.args.front.len _ c.requires.trace.distinct)
+    subst (λ os. IsTrue (has_distinct_numbers os)) (sym c.requires.next) (distinct-slice_range c.args.ops.now.ops c.args.prefix.len _ c.requires.trace.distinct)
 
 pub stepped-requires-clause-unused : goal.stepped-requires-clause-unused
 stepped-requires-clause-unused c =
-    subst (AreUnused c.args.front.end) (sym c.requires.next) (unused-slice_range c.args.ops.now.ops c.args.front.end c.args.front.len _ c.requires.trace.distinct c.requires.may.reached.state)
+    subst (AreUnused c.args.prefix.end) (sym c.requires.next) (unused-slice_range c.args.ops.now.ops c.args.prefix.end c.args.prefix.len _ c.requires.trace.distinct c.requires.may.reached.state)
 
 pub returns-in-Some-clause-goes_ahead : goal.returns-in-Some-clause-goes_ahead
 returns-in-Some-clause-goes_ahead c =
-    let joined = c.in_ok-front.ensures in
+    let joined = c.in_ok-prefix.ensures in
     record {
       reached = rw (joined.segments, joined.end, joined.len)
-          (IsReached-next c.args.ops.now.ops c.args.front.len (c.args.front.len + length c.args.next.items) c.in-Some.piece.len c.args.front.segments c.in-Some.piece.segments c.args.front.end c.in-Some.piece.end
-          c.requires.may.reached (omega arith) c.requires.may.within (subst (λ os. IsPiece c.args.front.end os c.in-Some.piece.segments c.in-Some.piece.end c.in-Some.piece.len) c.requires.next (rw (c.in-Some.is, c.deref.ensures.value) at c.in_ok-known.ensures).piece));
+          (IsReached-next c.args.ops.now.ops c.args.prefix.len (c.args.prefix.len + length c.args.next.items) c.in-Some.piece.len c.args.prefix.segments c.in-Some.piece.segments c.args.prefix.end c.in-Some.piece.end
+          c.requires.may.reached (omega arith) c.requires.may.within (subst (λ os. IsPiece c.args.prefix.end os c.in-Some.piece.segments c.in-Some.piece.end c.in-Some.piece.len) c.requires.next (rw (c.in-Some.is, c.deref.ensures.value) at c.in_ok-known.ensures).piece));
       way = λ old. rw (joined.segments, joined.len, (rw (c.in-Some.is, c.deref.ensures.value) at c.in_ok-known.ensures).whole)
-          (IsWay-marked c.args.ops.now.ops old c.args.front.len (length c.args.next.items) (marks_from 0 c.args.front.segments) _ (contains nat_cmp c.args.front.gone) c.requires.trace.distinct
+          (IsWay-marked c.args.ops.now.ops old c.args.prefix.len (length c.args.next.items) (marks_from 0 c.args.prefix.segments) _ (contains nat_cmp c.args.prefix.gone) c.requires.trace.distinct
           (record { some = c.requires.some; small = inl c.requires.small })
-          (marks_from-piece c.args.ops.now.ops c.args.next.items c.args.front.len c.in-Some.piece.len c.args.front.segments c.in-Some.piece.segments c.args.front.end c.in-Some.piece.end c.requires.may.reached (rw (c.in-Some.is, c.deref.ensures.value) at c.in_ok-known.ensures).piece));
-      gone = c.in_ok-front.ensures.gone;
+          (marks_from-piece c.args.ops.now.ops c.args.next.items c.args.prefix.len c.in-Some.piece.len c.args.prefix.segments c.in-Some.piece.segments c.args.prefix.end c.in-Some.piece.end c.requires.may.reached (rw (c.in-Some.is, c.deref.ensures.value) at c.in_ok-known.ensures).piece));
+      gone = c.in_ok-prefix.ensures.gone;
     }
 
 pub returns-then-is_among-clause-goes_ahead : goal.returns-then-is_among-clause-goes_ahead
 returns-then-is_among-clause-goes_ahead c =
-    let pos : 0 < c.args.front.len = named-behind c.args.ops.now.ops (contains nat_cmp c.args.front.gone) c.args.front.len c.inner_name.result c.inner_name.ensures (sym c.is_among.ensures ∙ c.if-is_among.true) in
+    let pos : 0 < c.args.prefix.len = named-behind c.args.ops.now.ops (contains nat_cmp c.args.prefix.gone) c.args.prefix.len c.inner_name.result c.inner_name.ensures (sym c.is_among.ensures ∙ c.if-is_among.true) in
     record {
-      reached = rw (c.in_ok-front-2.ensures.segments, c.in_ok-front-2.ensures.end, c.in_ok-front-2.ensures.len)
-          (IsReached-bare c.args.ops.now.ops c.args.next.items c.args.front.len c.args.front.segments c.args.front.end c.requires.may.reached pos c.requires.may.within c.requires.some c.requires.next);
-      way = λ old. rw (c.in_ok-front-2.ensures.segments, c.in_ok-front-2.ensures.len)
-          (IsWay-bare c.args.ops.now.ops old c.args.front.len (length c.args.next.items) (marks_from 0 c.args.front.segments) _ (contains nat_cmp c.args.front.gone) c.inner_name.result c.requires.trace.distinct
-          (record { some = c.requires.some; small = inl c.requires.small }) c.inner_name.ensures (sym c.is_among.ensures ∙ c.if-is_among.true) (marks_from-bare 0 c.args.front.segments c.args.front.end c.args.next.items));
-      gone = c.in_ok-front-2.ensures.gone;
+      reached = rw (c.in_ok-prefix-2.ensures.segments, c.in_ok-prefix-2.ensures.end, c.in_ok-prefix-2.ensures.len)
+          (IsReached-bare c.args.ops.now.ops c.args.next.items c.args.prefix.len c.args.prefix.segments c.args.prefix.end c.requires.may.reached pos c.requires.may.within c.requires.some c.requires.next);
+      way = λ old. rw (c.in_ok-prefix-2.ensures.segments, c.in_ok-prefix-2.ensures.len)
+          (IsWay-bare c.args.ops.now.ops old c.args.prefix.len (length c.args.next.items) (marks_from 0 c.args.prefix.segments) _ (contains nat_cmp c.args.prefix.gone) c.inner_name.result c.requires.trace.distinct
+          (record { some = c.requires.some; small = inl c.requires.small }) c.inner_name.ensures (sym c.is_among.ensures ∙ c.if-is_among.true) (marks_from-bare 0 c.args.prefix.segments c.args.prefix.end c.args.next.items));
+      gone = c.in_ok-prefix-2.ensures.gone;
     }
 
 pub returns-then-is_among-clause-placed : goal.returns-then-is_among-clause-placed
-returns-then-is_among-clause-placed c = c.in_ok-front-2.ensures.placed c.found.new.shelf.chunks
+returns-then-is_among-clause-placed c = c.in_ok-prefix-2.ensures.placed c.found.new.shelf.chunks
 
 pub returns-clause-goes_ahead : goal.returns-clause-goes_ahead
 returns-clause-goes_ahead c =
-    let joined = c.in_ok-front-3.ensures in
+    let joined = c.in_ok-prefix-3.ensures in
     record {
       reached = rw (joined.segments, joined.end, joined.len)
-          (IsReached-next c.args.ops.now.ops c.args.front.len (c.args.front.len + length c.args.next.items) c.in_ok-piece.piece.len c.args.front.segments c.in_ok-piece.piece.segments c.args.front.end c.in_ok-piece.piece.end
-          c.requires.may.reached (omega arith) c.requires.may.within (subst (λ os. IsPiece c.args.front.end os c.in_ok-piece.piece.segments c.in_ok-piece.piece.end c.in_ok-piece.piece.len) c.requires.next c.in_ok-piece.ensures.piece));
+          (IsReached-next c.args.ops.now.ops c.args.prefix.len (c.args.prefix.len + length c.args.next.items) c.in_ok-piece.piece.len c.args.prefix.segments c.in_ok-piece.piece.segments c.args.prefix.end c.in_ok-piece.piece.end
+          c.requires.may.reached (omega arith) c.requires.may.within (subst (λ os. IsPiece c.args.prefix.end os c.in_ok-piece.piece.segments c.in_ok-piece.piece.end c.in_ok-piece.piece.len) c.requires.next c.in_ok-piece.ensures.piece));
       way = λ old. rw (joined.segments, joined.len, c.in_ok-piece.ensures.whole)
-          (IsWay-marked c.args.ops.now.ops old c.args.front.len (length c.args.next.items) (marks_from 0 c.args.front.segments) _ (contains nat_cmp c.args.front.gone) c.requires.trace.distinct
+          (IsWay-marked c.args.ops.now.ops old c.args.prefix.len (length c.args.next.items) (marks_from 0 c.args.prefix.segments) _ (contains nat_cmp c.args.prefix.gone) c.requires.trace.distinct
           (record { some = c.requires.some; small = inl c.requires.small })
-          (marks_from-piece c.args.ops.now.ops c.args.next.items c.args.front.len c.in_ok-piece.piece.len c.args.front.segments c.in_ok-piece.piece.segments c.args.front.end c.in_ok-piece.piece.end c.requires.may.reached c.in_ok-piece.ensures.piece));
-      gone = c.in_ok-front-3.ensures.gone;
+          (marks_from-piece c.args.ops.now.ops c.args.next.items c.args.prefix.len c.in_ok-piece.piece.len c.args.prefix.segments c.in_ok-piece.piece.segments c.args.prefix.end c.in_ok-piece.piece.end c.requires.may.reached c.in_ok-piece.ensures.piece));
+      gone = c.in_ok-prefix-3.ensures.gone;
     }

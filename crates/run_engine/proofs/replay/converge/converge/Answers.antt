@@ -1,6 +1,6 @@
 use Rattle.run_engine.specs.Segments.{all_marks}
 use Rattle.run_engine.specs.Guesses.{with_guesses}
-use Rattle.run_engine.specs.OldRun.{reusable}
+use Rattle.run_engine.specs.inner.OldRun.{reusable}
 use Rattle.std.proofs.Common.{◌≡◌, ℕ, ◌+◌, ◌-◌, ◌<◌, ◌≤◌, List, [], ◌∷◌, ◌++◌, length, take, drop, true, false, refl, ap, sym, ◌∙◌, arith}
 use Rattle.std.specs.Prelude.{is_some}
 use Rattle.ownership_model.specs.State.{nothing_held}
@@ -13,7 +13,7 @@ use Rattle.run_engine.specs.HeadAndTail.{ShareEnd}
 use Rattle.std.proofs.Math.Seq.{take-length}
 use Rattle.run_engine.proofs.SegmentLemmas.{length-trace_of-next, trace_of-append}
 use Rattle.run_engine.proofs.PieceLemmas.{mark-is}
-use Rattle.run_engine.proofs.PlaceLemmas.{mark-there, place-within, trace_of-front}
+use Rattle.run_engine.proofs.PlaceLemmas.{mark-there, place-within, trace_of-prefix}
 use Rattle.run_engine.proofs.ConvergeLemmas.{IsBeside-first, IsBeside-next, least-agreeing, bounded, ShareEnd-length, IsRunFrom-back, rest-shared, distinct-back, old-unused, new-unused, AgreesAt-here, AgreesAt-there, IsSpliced, IsSpliced-rest, IsSpliced-end}
 use Rattle.run_engine.proofs.replay.converge.converge.Goals.{then-at-seam+in-Some+in_ok-progress+in_ok-found+in_default-found, then-at-seam+in_default, else-at-seam}
 use Rattle.run_engine.proofs.MarksLemmas.{all_marks-stop, all_marks-rest, IsReached-length}
@@ -39,8 +39,8 @@ advance-requires c = record {
   placed = c.loop-i.invariant.placed;
 }
 
-pub overflow_add-leg : goal.overflow_add-leg
-overflow_add-leg c =
+pub overflow_add-limits : goal.overflow_add-limits
+overflow_add-limits c =
     let le : c.loop-i.at - c.args.seam.base + c.args.seam.edited ≤ length c.args.revision.now.ops.now.ops = moved-within _ _ c.args.seam.base c.args.seam.edited c.loop-i.at c.requires.shared (place-within c.args.revision.now.segments.now c.loop-i.i c.loop-i.at c.loop-i.invariant.place.place) c.if-at-seam.true in
     omega (arith, c.args.revision.now.holds.trace.few)
 
@@ -77,7 +77,7 @@ rejoined_at-requires-clause-place c = c.loop-i.invariant.place.place
 pub rejoined_at-requires-clause-mark : goal.rejoined_at-requires-clause-mark
 rejoined_at-requires-clause-mark c =
     mark-is c.args.revision.now.segments.now c.loop-i.i c.at-segment.result c.in-Some.mark c.args.revision.now.holds.kept.run.replay (omega (arith, c.loop-i-test.true, c.len-i-end.ensures)) c.at-segment.ensures c.in-Some.ensures
-    ∙ ap (end_from nothing_held) (trace_of-front c.args.revision.now.segments.now c.loop-i.i c.loop-i.at c.loop-i.invariant.place.place)
+    ∙ ap (end_from nothing_held) (trace_of-prefix c.args.revision.now.segments.now c.loop-i.i c.loop-i.at c.loop-i.invariant.place.place)
 
 pub rejoined_at-requires-clause-run : goal.rejoined_at-requires-clause-run
 rejoined_at-requires-clause-run c =
@@ -96,28 +96,28 @@ back old ops a b i at x shared place behind there = rest-shared old ops a b i at
 
 pub rejoined_at-requires-clause-unused : goal.rejoined_at-requires-clause-unused
 rejoined_at-requires-clause-unused c =
-    (new-unused c.args.revision.now.ops.now.ops c.in_ok-progress.progress.front.len c.in_ok-progress.progress.front.segments (drop c.loop-i.i c.args.revision.now.segments.now) c.in_ok-progress.progress.front.end c.in_ok-progress.ensures.beside.reached c.args.revision.now.holds.trace.distinct
-    (back c.args.revision.now.segments.now c.args.revision.now.ops.now.ops c.args.seam.base c.args.seam.edited c.loop-i.i c.loop-i.at c.in_ok-progress.progress.front.len c.requires.shared c.loop-i.invariant.place.place c.if-at-seam.true c.in_ok-progress.ensures.there))
+    (new-unused c.args.revision.now.ops.now.ops c.in_ok-progress.progress.prefix.len c.in_ok-progress.progress.prefix.segments (drop c.loop-i.i c.args.revision.now.segments.now) c.in_ok-progress.progress.prefix.end c.in_ok-progress.ensures.beside.reached c.args.revision.now.holds.trace.distinct
+    (back c.args.revision.now.segments.now c.args.revision.now.ops.now.ops c.args.seam.base c.args.seam.edited c.loop-i.i c.loop-i.at c.in_ok-progress.progress.prefix.len c.requires.shared c.loop-i.invariant.place.place c.if-at-seam.true c.in_ok-progress.ensures.there))
 
 -- where the old run goes on it has the operations that are left
 rest-is : (c : goal.Joined-divergence-14) → trace_of c.in-Some-found.rest ≡ trace_of (drop c.loop-i.i c.args.revision.now.segments.now)
 rest-is c = rw c.in-Some-found.is at c.in_ok-found.ensures.trace
 
-spliced : (c : goal.Joined-divergence-14) → IsSpliced c.args.revision.now.ops.now.ops (c.in_ok-progress.progress.front.segments ++ c.in-Some-found.rest) c.in-Some-found.end
+spliced : (c : goal.Joined-divergence-14) → IsSpliced c.args.revision.now.ops.now.ops (c.in_ok-progress.progress.prefix.segments ++ c.in-Some-found.rest) c.in-Some-found.end
 spliced c =
-    let run : IsRunFrom c.in_ok-progress.progress.front.end c.in-Some-found.rest c.in-Some-found.end = rw c.in-Some-found.is at c.in_ok-found.ensures.run in
-    IsSpliced-rest c.args.revision.now.ops.now.ops c.in_ok-progress.progress.front.len c.in_ok-progress.progress.front.segments c.in-Some-found.rest c.in_ok-progress.progress.front.end c.in-Some-found.end c.in_ok-progress.ensures.beside.reached
-    (rest-is c ∙ back c.args.revision.now.segments.now c.args.revision.now.ops.now.ops c.args.seam.base c.args.seam.edited c.loop-i.i c.loop-i.at c.in_ok-progress.progress.front.len c.requires.shared c.loop-i.invariant.place.place c.if-at-seam.true c.in_ok-progress.ensures.there)
+    let run : IsRunFrom c.in_ok-progress.progress.prefix.end c.in-Some-found.rest c.in-Some-found.end = rw c.in-Some-found.is at c.in_ok-found.ensures.run in
+    IsSpliced-rest c.args.revision.now.ops.now.ops c.in_ok-progress.progress.prefix.len c.in_ok-progress.progress.prefix.segments c.in-Some-found.rest c.in_ok-progress.progress.prefix.end c.in-Some-found.end c.in_ok-progress.ensures.beside.reached
+    (rest-is c ∙ back c.args.revision.now.segments.now c.args.revision.now.ops.now.ops c.args.seam.base c.args.seam.edited c.loop-i.i c.loop-i.at c.in_ok-progress.progress.prefix.len c.requires.shared c.loop-i.invariant.place.place c.if-at-seam.true c.in_ok-progress.ensures.there)
     run
 
 -- the heaps agree where the replay stops
 agreed : (c : goal.Joined-divergence-14) → AgreesAt (trace_of c.args.revision.now.segments.now) c.args.revision.now.ops.now.ops c.args.seam.base c.args.seam.edited c.loop-i.at
 agreed c =
     let m : c.in-Some.mark ≡ end_from nothing_held (trace_of (take c.loop-i.i c.args.revision.now.segments.now)) = mark-is c.args.revision.now.segments.now c.loop-i.i c.at-segment.result c.in-Some.mark c.args.revision.now.holds.kept.run.replay (omega (arith, c.loop-i-test.true, c.len-i-end.ensures)) c.at-segment.ensures c.in-Some.ensures in
-    let there : c.in_ok-progress.progress.front.len ≡ c.loop-i.at - c.args.seam.base + c.args.seam.edited = c.in_ok-progress.ensures.there in
-    let agree : Agree c.in_ok-progress.progress.front.end c.in-Some.mark = c.in_ok-found.ensures.answer.0 (ap is_some c.in-Some-found.is) in
-    AgreesAt-here (trace_of c.args.revision.now.segments.now) c.args.revision.now.ops.now.ops c.args.seam.base c.args.seam.edited c.loop-i.at c.in_ok-progress.progress.front.end c.in-Some.mark
-    (c.in_ok-progress.ensures.beside.reached.state ∙ ap (λ x. end_from nothing_held (take x c.args.revision.now.ops.now.ops)) there) (m ∙ ap (end_from nothing_held) (trace_of-front c.args.revision.now.segments.now c.loop-i.i c.loop-i.at c.loop-i.invariant.place.place)) agree
+    let there : c.in_ok-progress.progress.prefix.len ≡ c.loop-i.at - c.args.seam.base + c.args.seam.edited = c.in_ok-progress.ensures.there in
+    let agree : Agree c.in_ok-progress.progress.prefix.end c.in-Some.mark = c.in_ok-found.ensures.answer.0 (ap is_some c.in-Some-found.is) in
+    AgreesAt-here (trace_of c.args.revision.now.segments.now) c.args.revision.now.ops.now.ops c.args.seam.base c.args.seam.edited c.loop-i.at c.in_ok-progress.progress.prefix.end c.in-Some.mark
+    (c.in_ok-progress.ensures.beside.reached.state ∙ ap (λ x. end_from nothing_held (take x c.args.revision.now.ops.now.ops)) there) (m ∙ ap (end_from nothing_held) (trace_of-prefix c.args.revision.now.segments.now c.loop-i.i c.loop-i.at c.loop-i.invariant.place.place)) agree
 
 pub returns-in-Some-found-clause-run : goal.returns-in-Some-found-clause-run
 returns-in-Some-found-clause-run c = rw (c.in_ok-spliced.ensures.segments, c.in_ok-spliced.ensures.end) (spliced c).run
@@ -128,23 +128,23 @@ returns-in-Some-found-clause-trace c = rw c.in_ok-spliced.ensures.segments (spli
 pub returns-in-Some-found-clause-marks : goal.returns-in-Some-found-clause-marks
 returns-in-Some-found-clause-marks c =
     let old : List SegmentView = c.args.revision.now.segments.now in
-    let front : List SegmentView = c.in_ok-progress.progress.front.segments in
-    let there : c.in_ok-progress.progress.front.len ≡ c.loop-i.at - c.args.seam.base + c.args.seam.edited = c.in_ok-progress.ensures.there in
+    let prefix : List SegmentView = c.in_ok-progress.progress.prefix.segments in
+    let there : c.in_ok-progress.progress.prefix.len ≡ c.loop-i.at - c.args.seam.base + c.args.seam.edited = c.in_ok-progress.ensures.there in
     let marks : (at : ℕ) → marks_from at c.in-Some-found.rest ≡ marks_from at (drop c.loop-i.i c.args.revision.now.segments.now) = rw c.in-Some-found.is at c.in_ok-found.ensures.marks in
-    let alike : all_marks (front ++ c.in-Some-found.rest) ≡ all_marks (front ++ drop c.loop-i.i old) =
-    all_marks-rest front c.in-Some-found.rest (drop c.loop-i.i old) (rest-is c) marks in
-    let trace : trace_of (front ++ drop c.loop-i.i old) ≡ c.args.revision.now.ops.now.ops =
-    trace_of-append front (drop c.loop-i.i old) ∙ ap (λ t. trace_of front ++ t) (sym (rest-is c)) ∙ sym (trace_of-append front c.in-Some-found.rest) ∙ (spliced c).trace in
+    let alike : all_marks (prefix ++ c.in-Some-found.rest) ≡ all_marks (prefix ++ drop c.loop-i.i old) =
+    all_marks-rest prefix c.in-Some-found.rest (drop c.loop-i.i old) (rest-is c) marks in
+    let trace : trace_of (prefix ++ drop c.loop-i.i old) ≡ c.args.revision.now.ops.now.ops =
+    trace_of-append prefix (drop c.loop-i.i old) ∙ ap (λ t. trace_of prefix ++ t) (sym (rest-is c)) ∙ sym (trace_of-append prefix c.in-Some-found.rest) ∙ (spliced c).trace in
     rw (c.in_ok-spliced.ensures.segments, c.in_ok-spliced.ensures.gone)
-    (left-at-stop c.args.revision.now.guesses.now c.args.revision.now.segments.now c.args.revision.now.ops.now.ops (marks_from 0 c.args.front.segments) (marks_from 0 c.in_ok-progress.progress.front.segments) _ c.args.seam.base c.args.seam.edited c.loop-i.i c.loop-i.at c.args.front.len c.in_ok-progress.progress.front.len c.at-segment.result c.in-Some.mark _ _ _ _ _ _
+    (left-at-stop c.args.revision.now.guesses.now c.args.revision.now.segments.now c.args.revision.now.ops.now.ops (marks_from 0 c.args.prefix.segments) (marks_from 0 c.in_ok-progress.progress.prefix.segments) _ c.args.seam.base c.args.seam.edited c.loop-i.i c.loop-i.at c.args.prefix.len c.in_ok-progress.progress.prefix.len c.at-segment.result c.in-Some.mark _ _ _ _ _ _
     c.args.revision.now.holds.trace.distinct (omega (arith, c.loop-i-test.true, c.len-i-end.ensures)) c.at-segment.ensures (sym c.in-Some.ensures) c.loop-i.invariant.place.place c.if-at-seam.true (agreed c) (least-agreeing _ _ _ _ _ _ _ _ _ _ _ _ c.loop-i.invariant.place) there
     (GoesOn-next _ _ _ _ _ _ _ _ _ _ _ _ c.loop-i.invariant.beside c.in_ok-progress.ensures.beside).onward c.in_ok-touch_at.ensures.answered
-    (alike ∙ all_marks-stop c.args.revision.now.segments.now c.in_ok-progress.progress.front.segments c.args.revision.now.ops.now.ops c.args.seam.base c.args.seam.edited c.loop-i.i c.loop-i.at c.at-segment.result c.args.revision.now.holds.kept.run.full c.requires.shared (omega (arith, c.loop-i-test.true, c.len-i-end.ensures)) c.at-segment.ensures c.in-Some.mark (sym c.in-Some.ensures)
+    (alike ∙ all_marks-stop c.args.revision.now.segments.now c.in_ok-progress.progress.prefix.segments c.args.revision.now.ops.now.ops c.args.seam.base c.args.seam.edited c.loop-i.i c.loop-i.at c.at-segment.result c.args.revision.now.holds.kept.run.full c.requires.shared (omega (arith, c.loop-i-test.true, c.len-i-end.ensures)) c.at-segment.ensures c.in-Some.mark (sym c.in-Some.ensures)
     c.loop-i.invariant.place.place c.if-at-seam.true (IsReached-length _ _ _ _ c.in_ok-progress.ensures.beside.reached ∙ there) trace))
 
 pub returns-in-Some-found-clause-stepped : goal.returns-in-Some-found-clause-stepped
 returns-in-Some-found-clause-stepped c =
-    AreStepped-stop (trace_of c.args.revision.now.segments.now) c.args.revision.now.ops.now.ops (all_marks c.args.revision.now.segments.now) (with_guesses c.args.revision.now.guesses.now c.args.shelf.now.chunks) c.args.seam.base c.args.seam.edited c.args.front.len c.in_ok-progress.progress.front.len c.loop-i.at c.args.meter.now _ c.in_ok-progress.ensures.there
+    AreStepped-stop (record { old = trace_of c.args.revision.now.segments.now; ops = c.args.revision.now.ops.now.ops; base = c.args.seam.base; edited = c.args.seam.edited; marks = all_marks c.args.revision.now.segments.now; chunks = with_guesses c.args.revision.now.guesses.now c.args.shelf.now.chunks }) c.args.prefix.len c.in_ok-progress.progress.prefix.len c.loop-i.at c.args.meter.now _ c.in_ok-progress.ensures.there
     (mark-there c.args.revision.now.segments.now c.loop-i.i c.loop-i.at c.at-segment.result c.in-Some.mark (omega (arith, c.loop-i-test.true, c.len-i-end.ensures)) c.at-segment.ensures (sym c.in-Some.ensures) c.loop-i.invariant.place.place)
     c.if-at-seam.true (agreed c) (GoesOn-steps _ _ _ _ _ _ _ _ _ (GoesOn-next _ _ _ _ _ _ _ _ _ _ _ _ c.loop-i.invariant.beside c.in_ok-progress.ensures.beside))
 
@@ -153,30 +153,30 @@ place-end old i at ge le e = let n : i ≡ length old = omega arith in sym e ∙
 
 pub returns-clause-marks : goal.returns-clause-marks
 returns-clause-marks c =
-    let there : c.in_ok-progress-2.progress.front.len ≡ length c.args.revision.now.ops.now.ops = c.in_ok-progress-2.ensures.there ∙ c.len.ensures in
+    let there : c.in_ok-progress-2.progress.prefix.len ≡ length c.args.revision.now.ops.now.ops = c.in_ok-progress-2.ensures.there ∙ c.len.ensures in
     let e = place-end c.args.revision.now.segments.now c.loop-i.i c.loop-i.at (omega (arith, c.loop-i-test.false, c.len-i-end.ensures)) (omega (arith, c.loop-i.auto.i-end (omega (arith, c.last_from-first.ensures.last.within, c.len-i-end.ensures)), c.len-i-end.ensures)) c.loop-i.invariant.place.place in
-    let trace : trace_of c.in_ok-progress-2.progress.front.segments ≡ c.args.revision.now.ops.now.ops = (IsSpliced-end c.args.revision.now.ops.now.ops c.in_ok-progress-2.progress.front.len c.in_ok-progress-2.progress.front.segments c.in_ok-progress-2.progress.front.end c.in_ok-progress-2.ensures.beside.reached there).trace in
-    left-at-end c.args.revision.now.guesses.now c.args.revision.now.segments.now c.args.revision.now.ops.now.ops (marks_from 0 c.args.front.segments) (marks_from 0 c.in_ok-progress-2.progress.front.segments) _ c.args.seam.base c.args.seam.edited c.args.front.len c.in_ok-progress-2.progress.front.len c.args.shelf.now c.advance-2.new.shelf _ _
+    let trace : trace_of c.in_ok-progress-2.progress.prefix.segments ≡ c.args.revision.now.ops.now.ops = (IsSpliced-end c.args.revision.now.ops.now.ops c.in_ok-progress-2.progress.prefix.len c.in_ok-progress-2.progress.prefix.segments c.in_ok-progress-2.progress.prefix.end c.in_ok-progress-2.ensures.beside.reached there).trace in
+    left-at-end c.args.revision.now.guesses.now c.args.revision.now.segments.now c.args.revision.now.ops.now.ops (marks_from 0 c.args.prefix.segments) (marks_from 0 c.in_ok-progress-2.progress.prefix.segments) _ c.args.seam.base c.args.seam.edited c.args.prefix.len c.in_ok-progress-2.progress.prefix.len c.args.shelf.now c.advance-2.new.shelf _ _
     c.args.revision.now.holds.trace.distinct c.requires.shared
     (λ p mark behind agrees.
     let least : c.loop-i.at ≤ p = least-agreeing _ _ _ _ _ _ _ _ _ _ _ _ c.loop-i.invariant.place p mark behind agrees in
     omega arith)
     there (GoesOn-next _ _ _ _ _ _ _ _ _ _ _ _ c.loop-i.invariant.beside c.in_ok-progress-2.ensures.beside).onward
-    (ap (λ ops. marks_from 0 c.in_ok-progress-2.progress.front.segments ++ length ops ∷ []) trace)
+    (ap (λ ops. marks_from 0 c.in_ok-progress-2.progress.prefix.segments ++ length ops ∷ []) trace)
 
 pub returns-clause-stepped : goal.returns-clause-stepped
 returns-clause-stepped c =
-    AreStepped-end (trace_of c.args.revision.now.segments.now) c.args.revision.now.ops.now.ops (all_marks c.args.revision.now.segments.now) (with_guesses c.args.revision.now.guesses.now c.args.shelf.now.chunks) c.args.seam.base c.args.seam.edited c.args.front.len c.in_ok-progress-2.progress.front.len c.args.meter.now _ (c.in_ok-progress-2.ensures.there ∙ c.len.ensures)
+    AreStepped-end (record { old = trace_of c.args.revision.now.segments.now; ops = c.args.revision.now.ops.now.ops; base = c.args.seam.base; edited = c.args.seam.edited; marks = all_marks c.args.revision.now.segments.now; chunks = with_guesses c.args.revision.now.guesses.now c.args.shelf.now.chunks }) c.args.prefix.len c.in_ok-progress-2.progress.prefix.len c.args.meter.now _ (c.in_ok-progress-2.ensures.there ∙ c.len.ensures)
     (GoesOn-steps _ _ _ _ _ _ _ _ _ (GoesOn-next _ _ _ _ _ _ _ _ _ _ _ _ c.loop-i.invariant.beside c.in_ok-progress-2.ensures.beside))
 
 pub loop-i-init : goal.loop-i-init
 loop-i-init c = record {
-  place = IsBeside-first c.args.revision.now.segments.now c.args.revision.now.ops.now.ops c.args.seam.base c.args.seam.edited c.args.front.len c.args.meter.now c.last_from-first.result.0 c.last_from-first.result.1 c.args.front.segments c.args.front.end
+  place = IsBeside-first c.args.revision.now.segments.now c.args.revision.now.ops.now.ops c.args.seam.base c.args.seam.edited c.args.prefix.len c.args.meter.now c.last_from-first.result.0 c.last_from-first.result.1 c.args.prefix.segments c.args.prefix.end
       c.args.revision.now.holds.kept.run.full c.last_from-first.ensures.last.within c.last_from-first.ensures.last.place c.last_from-first.ensures.last.before c.requires.may.reached c.requires.may.order;
-  beside = GoesOn-none (trace_of c.args.revision.now.segments.now) c.args.revision.now.ops.now.ops (reusable c.args.revision.now) c.args.front c.args.shelf.now c.args.meter.now c.requires.may.reached;
+  beside = GoesOn-none (trace_of c.args.revision.now.segments.now) c.args.revision.now.ops.now.ops (reusable c.args.revision.now) c.args.prefix c.args.shelf.now c.args.meter.now c.requires.may.reached;
   fork = ap (end_from nothing_held) c.requires.begins;
   placed = c.requires.placed;
-  known = IsDivergence-fork c.args.revision.now c.none-divergence.result (record { edited = c.args.front.len; base = c.args.front.len }) c.none-divergence.ensures.within c.none-divergence.ensures.edited c.none-divergence.ensures.base (ap (end_from nothing_held) c.requires.begins);
+  known = IsDivergence-fork c.args.revision.now c.none-divergence.result (record { edited = c.args.prefix.len; base = c.args.prefix.len }) c.none-divergence.ensures.within c.none-divergence.ensures.edited c.none-divergence.ensures.base (ap (end_from nothing_held) c.requires.begins);
   never_less = omega arith;
 }
 
@@ -200,15 +200,15 @@ loop-i-preserved c =
     elim c.if-at-seam.branch [
       | then-at-seam+in-Some+in_ok-progress+in_ok-found+in_default-found w ↦
           let m : w.in-Some.mark ≡ end_from nothing_held (trace_of (take c.loop-i.i c.args.revision.now.segments.now)) = mark-is c.args.revision.now.segments.now c.loop-i.i c.at-segment.result w.in-Some.mark c.args.revision.now.holds.kept.run.replay (omega (arith, c.loop-i-test.true, c.len-i-end.ensures)) c.at-segment.ensures w.in-Some.ensures in
-          let there : w.in_ok-progress.progress.front.len ≡ c.loop-i.at - c.args.seam.base + c.args.seam.edited = w.in_ok-progress.ensures.there in
-          let front = w.in_ok-progress.ensures.beside.reached in
+          let there : w.in_ok-progress.progress.prefix.len ≡ c.loop-i.at - c.args.seam.base + c.args.seam.edited = w.in_ok-progress.ensures.there in
+          let prefix = w.in_ok-progress.ensures.beside.reached in
           let rise = w.advance.ensures.rise in
           rw (w.progress-is, w.meter-is, w.shelf-is, w.divergence-is, c.ops.ensures)
           (record {
-            place = IsBeside-next c.args.revision.now.segments.now c.args.revision.now.ops.now.ops c.args.seam.base c.args.seam.edited c.args.front.len c.args.meter.now c.loop-i.i c.loop-i.at c.loop-i.progress.front.len c.loop-i.progress.front.segments c.loop-i.progress.front.end c.loop-i.meter
-                w.in_ok-progress.progress.front.len w.in_ok-progress.progress.front.segments w.in_ok-progress.progress.front.end w.advance.new.meter c.at-segment.result c.loop-i.invariant.place (omega (arith, c.loop-i-test.true, c.len-i-end.ensures)) c.at-segment.ensures front (omega arith) (omega (arith, c.loop-i.invariant.place.rise, rise))
+            place = IsBeside-next c.args.revision.now.segments.now c.args.revision.now.ops.now.ops c.args.seam.base c.args.seam.edited c.args.prefix.len c.args.meter.now c.loop-i.i c.loop-i.at c.loop-i.progress.prefix.len c.loop-i.progress.prefix.segments c.loop-i.progress.prefix.end c.loop-i.meter
+                w.in_ok-progress.progress.prefix.len w.in_ok-progress.progress.prefix.segments w.in_ok-progress.progress.prefix.end w.advance.new.meter c.at-segment.result c.loop-i.invariant.place (omega (arith, c.loop-i-test.true, c.len-i-end.ensures)) c.at-segment.ensures prefix (omega arith) (omega (arith, c.loop-i.invariant.place.rise, rise))
                 (λ marked behind agrees.
-                let agree : Agree w.in_ok-progress.progress.front.end w.in-Some.mark = AgreesAt-there (trace_of c.args.revision.now.segments.now) c.args.revision.now.ops.now.ops c.args.seam.base c.args.seam.edited c.loop-i.at w.in_ok-progress.progress.front.end w.in-Some.mark (front.state ∙ ap (λ x. end_from nothing_held (take x c.args.revision.now.ops.now.ops)) there) (m ∙ ap (end_from nothing_held) (trace_of-front c.args.revision.now.segments.now c.loop-i.i c.loop-i.at c.loop-i.invariant.place.place)) agrees in
+                let agree : Agree w.in_ok-progress.progress.prefix.end w.in-Some.mark = AgreesAt-there (trace_of c.args.revision.now.segments.now) c.args.revision.now.ops.now.ops c.args.seam.base c.args.seam.edited c.loop-i.at w.in_ok-progress.progress.prefix.end w.in-Some.mark (prefix.state ∙ ap (λ x. end_from nothing_held (take x c.args.revision.now.ops.now.ops)) there) (m ∙ ap (end_from nothing_held) (trace_of-prefix c.args.revision.now.segments.now c.loop-i.i c.loop-i.at c.loop-i.invariant.place.place)) agrees in
                 let t : is_some w.in_ok-found.found ≡ true = w.in_ok-found.ensures.answer.1 agree in
                 let f : is_some w.in_ok-found.found ≡ false = ap is_some w.in_default-found.is in
                 cc);
@@ -221,8 +221,8 @@ loop-i-preserved c =
       | then-at-seam+in_default w ↦
           rw (w.progress-is, w.meter-is, w.shelf-is, w.divergence-is, c.ops.ensures)
           (record {
-            place = IsBeside-next c.args.revision.now.segments.now c.args.revision.now.ops.now.ops c.args.seam.base c.args.seam.edited c.args.front.len c.args.meter.now c.loop-i.i c.loop-i.at c.loop-i.progress.front.len c.loop-i.progress.front.segments c.loop-i.progress.front.end c.loop-i.meter
-                c.loop-i.progress.front.len c.loop-i.progress.front.segments c.loop-i.progress.front.end c.loop-i.meter c.at-segment.result c.loop-i.invariant.place (omega (arith, c.loop-i-test.true, c.len-i-end.ensures)) c.at-segment.ensures c.loop-i.invariant.place.front c.loop-i.invariant.place.order c.loop-i.invariant.place.rise
+            place = IsBeside-next c.args.revision.now.segments.now c.args.revision.now.ops.now.ops c.args.seam.base c.args.seam.edited c.args.prefix.len c.args.meter.now c.loop-i.i c.loop-i.at c.loop-i.progress.prefix.len c.loop-i.progress.prefix.segments c.loop-i.progress.prefix.end c.loop-i.meter
+                c.loop-i.progress.prefix.len c.loop-i.progress.prefix.segments c.loop-i.progress.prefix.end c.loop-i.meter c.at-segment.result c.loop-i.invariant.place (omega (arith, c.loop-i-test.true, c.len-i-end.ensures)) c.at-segment.ensures c.loop-i.invariant.place.prefix c.loop-i.invariant.place.order c.loop-i.invariant.place.rise
                 (λ marked behind agrees. let f : is_some c.at-segment.result.mark ≡ false = ap is_some (sym w.in_default.ensures) in cc);
             beside = c.loop-i.invariant.beside;
             fork = c.loop-i.invariant.fork;
@@ -233,8 +233,8 @@ loop-i-preserved c =
       | else-at-seam w ↦
           rw (w.progress-is, w.meter-is, w.shelf-is, w.divergence-is, c.ops.ensures)
           (record {
-            place = IsBeside-next c.args.revision.now.segments.now c.args.revision.now.ops.now.ops c.args.seam.base c.args.seam.edited c.args.front.len c.args.meter.now c.loop-i.i c.loop-i.at c.loop-i.progress.front.len c.loop-i.progress.front.segments c.loop-i.progress.front.end c.loop-i.meter
-                c.loop-i.progress.front.len c.loop-i.progress.front.segments c.loop-i.progress.front.end c.loop-i.meter c.at-segment.result c.loop-i.invariant.place (omega (arith, c.loop-i-test.true, c.len-i-end.ensures)) c.at-segment.ensures c.loop-i.invariant.place.front c.loop-i.invariant.place.order c.loop-i.invariant.place.rise
+            place = IsBeside-next c.args.revision.now.segments.now c.args.revision.now.ops.now.ops c.args.seam.base c.args.seam.edited c.args.prefix.len c.args.meter.now c.loop-i.i c.loop-i.at c.loop-i.progress.prefix.len c.loop-i.progress.prefix.segments c.loop-i.progress.prefix.end c.loop-i.meter
+                c.loop-i.progress.prefix.len c.loop-i.progress.prefix.segments c.loop-i.progress.prefix.end c.loop-i.meter c.at-segment.result c.loop-i.invariant.place (omega (arith, c.loop-i-test.true, c.len-i-end.ensures)) c.at-segment.ensures c.loop-i.invariant.place.prefix c.loop-i.invariant.place.order c.loop-i.invariant.place.rise
                 (λ marked behind agrees. let lt : c.loop-i.at < c.args.seam.base = w.if-at-seam.false in omega arith);
             beside = c.loop-i.invariant.beside;
             fork = c.loop-i.invariant.fork;

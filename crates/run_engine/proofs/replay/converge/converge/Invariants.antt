@@ -1,16 +1,16 @@
 use Rattle.std.proofs.Common.{◌≤◌}
-use Rattle.run_engine.specs.Divergence.{IsFork, IsDivergence}
-use Rattle.run_engine.specs.GoesOn.{GoesOnBeside}
-use Rattle.run_engine.specs.Placed.{IsPlaced}
+use Rattle.run_engine.specs.inner.Divergence.{IsFork, IsDivergence}
+use Rattle.run_engine.specs.inner.GoesOn.{GoesOnBeside}
+use Rattle.run_engine.specs.inner.Placed.{IsPlaced}
 use Rattle.run_engine.proofs.ConvergeLemmas.{IsBeside}
 use Rattle.run_engine.proofs.replay.converge.converge.Given as goal
 
 abbrev pub invariant-loop-i : goal.invariant-loop-i
 invariant-loop-i l = record {
-  place : IsBeside l.revision.segments.now l.revision.ops.now.ops l.seam.base l.seam.edited l.fn.front.len l.initial.meter l.i l.at l.progress.front.len l.progress.front.segments l.progress.front.end l.meter;
-  beside : GoesOnBeside l.revision l.fn.front l.progress.front l.initial.shelf l.shelf l.initial.meter l.meter;
+  place : IsBeside l.revision.segments.now l.revision.ops.now.ops l.seam.base l.seam.edited l.fn.prefix.len l.initial.meter l.i l.at l.progress.prefix.len l.progress.prefix.segments l.progress.prefix.end l.meter;
+  beside : GoesOnBeside l.revision l.fn.prefix l.progress.prefix l.initial.shelf l.shelf l.initial.meter l.meter;
   fork : IsFork l.revision l.progress.fork;
-  placed : IsPlaced l.shelf.chunks l.progress.front;
+  placed : IsPlaced l.shelf.chunks l.progress.prefix;
   known : IsDivergence l.revision l.divergence;
   never_less : l.initial.meter ≤ l.meter;
 }

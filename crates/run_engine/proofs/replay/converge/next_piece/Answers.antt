@@ -9,23 +9,23 @@ use Rattle.run_engine.proofs.PieceLemmas.{IsReached-next, IsPiece-of-more, take-
 use Rattle.run_engine.proofs.replay.converge.next_piece.Goals as goal
 
 pub stepped-requires-clause-distinct : goal.stepped-requires-clause-distinct
-stepped-requires-clause-distinct c = rw c.in_ok-next.ensures (distinct-slice_range c.args.revision.now.ops.now.ops c.args.progress.now.front.len _ c.args.revision.now.holds.trace.distinct)
+stepped-requires-clause-distinct c = rw c.in_ok-next.ensures (distinct-slice_range c.args.revision.now.ops.now.ops c.args.progress.now.prefix.len _ c.args.revision.now.holds.trace.distinct)
 
 pub stepped-requires-clause-unused : goal.stepped-requires-clause-unused
-stepped-requires-clause-unused c = rw c.in_ok-next.ensures (unused-slice_range c.args.revision.now.ops.now.ops c.args.progress.now.front.end c.args.progress.now.front.len _ c.args.revision.now.holds.trace.distinct c.requires.may.reached.state)
+stepped-requires-clause-unused c = rw c.in_ok-next.ensures (unused-slice_range c.args.revision.now.ops.now.ops c.args.progress.now.prefix.end c.args.progress.now.prefix.len _ c.args.revision.now.holds.trace.distinct c.requires.may.reached.state)
 
 pub returns-in-Some-known-clause-taken : goal.returns-in-Some-known-clause-taken
 returns-in-Some-known-clause-taken c =
-    let there : IsAmong c.args.shelf.now.chunks c.args.progress.now.front.end c.in_ok-next.next.items = rw (c.in-Some-known.is, c.deref.ensures.value) at c.in_ok-known.ensures.there in
+    let there : IsAmong c.args.shelf.now.chunks c.args.progress.now.prefix.end c.in_ok-next.next.items = rw (c.in-Some-known.is, c.deref.ensures.value) at c.in_ok-known.ensures.there in
     let whole : c.in-Some-known.piece.len ≡ length c.in_ok-next.next.items = rw (c.in-Some-known.is, c.deref.ensures.value) at c.in_ok-known.ensures.whole in
-    let first : take c.in-Some-known.piece.len (slice_range c.args.revision.now.ops.now.ops c.args.progress.now.front.len c.args.to) ≡ c.in_ok-next.next.items =
-    take-next c.args.revision.now.ops.now.ops c.in_ok-next.next.items c.args.progress.now.front.len c.min-len.result c.args.to c.in-Some-known.piece.len c.in_ok-next.ensures whole (omega arith) c.requires.may.within in
-    inl (inr (IsAmong-chunk c.args.revision.now.guesses.now c.args.shelf.now.chunks c.args.progress.now.front.end _ (subst (IsAmong c.args.shelf.now.chunks c.args.progress.now.front.end) (sym first) there)), refl)
+    let first : take c.in-Some-known.piece.len (slice_range c.args.revision.now.ops.now.ops c.args.progress.now.prefix.len c.args.to) ≡ c.in_ok-next.next.items =
+    take-next c.args.revision.now.ops.now.ops c.in_ok-next.next.items c.args.progress.now.prefix.len c.min-len.result c.args.to c.in-Some-known.piece.len c.in_ok-next.ensures whole (omega arith) c.requires.may.within in
+    inl (inr (IsAmong-chunk c.args.revision.now.guesses.now c.args.shelf.now.chunks c.args.progress.now.prefix.end _ (subst (IsAmong c.args.shelf.now.chunks c.args.progress.now.prefix.end) (sym first) there)), refl)
 
 pub returns-in-Some-known-clause-piece : goal.returns-in-Some-known-clause-piece
 returns-in-Some-known-clause-piece c =
     let piece = rw (c.in-Some-known.is, c.deref.ensures.value, c.in_ok-next.ensures) at c.in_ok-known.ensures.piece in
-    IsPiece-of-more c.args.progress.now.front.end _ (drop c.args.progress.now.front.len c.args.revision.now.ops.now.ops) (c.args.progress.now.front.len + c.min-len.result - c.args.progress.now.front.len) (c.args.to - c.args.progress.now.front.len) _ _ (omega arith) piece
+    IsPiece-of-more c.args.progress.now.prefix.end _ (drop c.args.progress.now.prefix.len c.args.revision.now.ops.now.ops) (c.args.progress.now.prefix.len + c.min-len.result - c.args.progress.now.prefix.len) (c.args.to - c.args.progress.now.prefix.len) _ _ (omega arith) piece
 
 pub returns-in-Some-stretch-clause-taken : goal.returns-in-Some-stretch-clause-taken
 returns-in-Some-stretch-clause-taken c = inl (inl (rw c.in-Some-stretch.is at c.in_ok-stretch.ensures.stretch), refl)
@@ -36,7 +36,7 @@ returns-clause-taken c = inr c.in_ok-piece.ensures.count
 pub returns-clause-piece : goal.returns-clause-piece
 returns-clause-piece c =
     let piece = rw c.in_ok-next.ensures at c.in_ok-piece.ensures.piece in
-    IsPiece-of-more c.args.progress.now.front.end _ (drop c.args.progress.now.front.len c.args.revision.now.ops.now.ops) (c.args.progress.now.front.len + c.min-len.result - c.args.progress.now.front.len) (c.args.to - c.args.progress.now.front.len) _ _ (omega arith) piece
+    IsPiece-of-more c.args.progress.now.prefix.end _ (drop c.args.progress.now.prefix.len c.args.revision.now.ops.now.ops) (c.args.progress.now.prefix.len + c.min-len.result - c.args.progress.now.prefix.len) (c.args.to - c.args.progress.now.prefix.len) _ _ (omega arith) piece
 
 pub returns-in-Some-stretch-clause-next : goal.returns-in-Some-stretch-clause-next
 returns-in-Some-stretch-clause-next c = rw c.in-Some-stretch.is at (c.in_ok-stretch.ensures.next c.found.new.shelf.chunks)
@@ -44,14 +44,14 @@ returns-in-Some-stretch-clause-next c = rw c.in-Some-stretch.is at (c.in_ok-stre
 pub returns-in-Some-stretch-clause-fork : goal.returns-in-Some-stretch-clause-fork
 returns-in-Some-stretch-clause-fork c =
     let piece = rw c.in-Some-stretch.is at c.in_ok-stretch.ensures.piece in
-    sym (IsReached-next c.args.revision.now.ops.now.ops c.args.progress.now.front.len c.args.to c.in-Some-stretch.piece.len c.args.progress.now.front.segments c.in-Some-stretch.piece.segments c.args.progress.now.front.end c.in-Some-stretch.piece.end
+    sym (IsReached-next c.args.revision.now.ops.now.ops c.args.progress.now.prefix.len c.args.to c.in-Some-stretch.piece.len c.args.progress.now.prefix.segments c.in-Some-stretch.piece.segments c.args.progress.now.prefix.end c.in-Some-stretch.piece.end
     c.requires.may.reached c.requires.may.order c.requires.may.within piece).state
     ∙ rw c.in-Some-stretch.is at c.in_ok-stretch.ensures.base
 
 -- a guess
 pub returns-in-Some-clause-taken : goal.returns-in-Some-clause-taken
 returns-in-Some-clause-taken c =
-    inl (inr (IsAmong-guess c.args.revision.now.guesses.now c.args.shelf.now.chunks c.args.progress.now.front.end _ (rw c.in-Some.is at c.in_ok-guess.ensures.there)), refl)
+    inl (inr (IsAmong-guess c.args.revision.now.guesses.now c.args.shelf.now.chunks c.args.progress.now.prefix.end _ (rw c.in-Some.is at c.in_ok-guess.ensures.there)), refl)
 
 pub returns-in-Some-clause-next : goal.returns-in-Some-clause-next
 returns-in-Some-clause-next c = rw c.in-Some.is at (c.in_ok-guess.ensures.next c.args.shelf.now.chunks)

@@ -1,4 +1,4 @@
-use Rattle.run_engine.specs.Divergence.{HasFollowed}
+use Rattle.run_engine.specs.inner.Divergence.{HasFollowed}
 use Rattle.run_engine.proofs.replay.divergence.follow.Given as goal
 
 abbrev pub invariant-loop-i : goal.invariant-loop-i

@@ -1,6 +1,6 @@
 use Rattle.std.proofs.Common.{length, Option}
 use Rattle.ownership_model.specs.State.{State}
-use Rattle.run_engine.specs.FreshChunks.{AreLinked}
+use Rattle.run_engine.specs.inner.FreshChunks.{AreLinked}
 use Rattle.run_engine.specs.Memo.{HasSameMarks}
 use Rattle.run_engine.proofs.FreshLemmas.{AreBehind}
 use Rattle.run_engine.proofs.replay.fresh.remember_all.Given as goal

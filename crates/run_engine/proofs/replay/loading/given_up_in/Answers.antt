@@ -3,7 +3,7 @@ use Rattle.std.proofs.lemmas.List.{length-replicate}
 use Rattle.run_engine.specs.RunView.{RunView}
 use Rattle.run_engine.specs.Marks.{load_marks}
 use Rattle.run_engine.specs.GivenUp.{name_at}
-use Rattle.run_engine.specs.Loaded.{loaded_view}
+use Rattle.run_engine.specs.inner.Loaded.{loaded_view}
 use Rattle.run_engine.proofs.GoneLemmas.{IsTouched-first, IsTouched-further, IsTouched-whole}
 use Rattle.run_engine.proofs.replay.loading.given_up_in.Goals as goal
 

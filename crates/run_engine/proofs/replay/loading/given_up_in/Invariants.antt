@@ -1,7 +1,7 @@
 use Rattle.std.proofs.Common.{◌≡◌, ◌+◌, ◌-◌, ◌*◌, ◌%◌, ◌<◌, length}
 use Rattle.run_engine.specs.Marks.{multiples_below, load_marks}
 use Rattle.run_engine.specs.GivenUp.{names_at, IsTouched}
-use Rattle.run_engine.specs.Loaded.{loaded_view}
+use Rattle.run_engine.specs.inner.Loaded.{loaded_view}
 use Rattle.run_engine.proofs.replay.loading.given_up_in.Given as goal
 
 abbrev pub invariant-loop-at : goal.invariant-loop-at

@@ -1,36 +1,36 @@
 use Rattle.std.proofs.Common.{◌≡◌, ◌∙◌, true, false, length, ap, sym, arith}
-use Rattle.run_engine.specs.Loaded.{is_gone}
+use Rattle.run_engine.specs.inner.Loaded.{is_gone}
 use Rattle.run_engine.proofs.LoadLemmas.{IsLoaded-kept, IsLoaded-gone}
 use Rattle.run_engine.proofs.PieceLemmas.{distinct-slice_range, unused-slice_range}
 use Rattle.run_engine.proofs.replay.loading.loaded.Goals as goal
 
 pub stepped-requires-clause-distinct : goal.stepped-requires-clause-distinct
-stepped-requires-clause-distinct c = rw c.in_ok-copies.ensures (distinct-slice_range c.args.ops.now c.loop-front.front.len _ c.requires.trace.distinct)
+stepped-requires-clause-distinct c = rw c.in_ok-copies.ensures (distinct-slice_range c.args.ops.now c.loop-prefix.prefix.len _ c.requires.trace.distinct)
 
 pub stepped-requires-clause-unused : goal.stepped-requires-clause-unused
 stepped-requires-clause-unused c =
-    rw c.in_ok-copies.ensures (unused-slice_range c.args.ops.now c.loop-front.front.end c.loop-front.front.len _ c.requires.trace.distinct c.loop-front.invariant.front.state)
+    rw c.in_ok-copies.ensures (unused-slice_range c.args.ops.now c.loop-prefix.prefix.end c.loop-prefix.prefix.len _ c.requires.trace.distinct c.loop-prefix.invariant.prefix.state)
 
 pub replayed_on-requires-clause-distinct : goal.replayed_on-requires-clause-distinct
-replayed_on-requires-clause-distinct c = rw c.in_ok-copies.ensures (distinct-slice_range c.args.ops.now c.loop-front.front.len _ c.requires.trace.distinct)
+replayed_on-requires-clause-distinct c = rw c.in_ok-copies.ensures (distinct-slice_range c.args.ops.now c.loop-prefix.prefix.len _ c.requires.trace.distinct)
 
 pub replayed_on-requires-clause-unused : goal.replayed_on-requires-clause-unused
 replayed_on-requires-clause-unused c =
-    rw c.in_ok-copies.ensures (unused-slice_range c.args.ops.now c.loop-front.front.end c.loop-front.front.len _ c.requires.trace.distinct c.loop-front.invariant.front.state)
+    rw c.in_ok-copies.ensures (unused-slice_range c.args.ops.now c.loop-prefix.prefix.end c.loop-prefix.prefix.len _ c.requires.trace.distinct c.loop-prefix.invariant.prefix.state)
 
-pub loop-front-preserved-then-is_gone : goal.loop-front-preserved-then-is_gone
-loop-front-preserved-then-is_gone c =
-    let on = c.in_ok-front.ensures in
-    let goes : is_gone c.args.gone.now c.loop-front.front.len ≡ true = sym c.is_gone.ensures ∙ c.if-is_gone.true in
+pub loop-prefix-preserved-then-is_gone : goal.loop-prefix-preserved-then-is_gone
+loop-prefix-preserved-then-is_gone c =
+    let on = c.in_ok-prefix.ensures in
+    let goes : is_gone c.args.gone.now c.loop-prefix.prefix.len ≡ true = sym c.is_gone.ensures ∙ c.if-is_gone.true in
     rw (on.segments, on.end, on.len, on.count)
-    (IsLoaded-gone c.args.ops.now c.in_ok-copies.copies.items c.args.gone.now c.args.meter.now c.loop-front.front.len _ c.loop-front.meter c.loop-front.front.segments c.loop-front.front.end
-    c.loop-front.invariant c.loop-front-test.true (omega arith) c.in_ok-copies.ensures goes)
+    (IsLoaded-gone c.args.ops.now c.in_ok-copies.copies.items c.args.gone.now c.args.meter.now c.loop-prefix.prefix.len _ c.loop-prefix.meter c.loop-prefix.prefix.segments c.loop-prefix.prefix.end
+    c.loop-prefix.invariant c.loop-prefix-test.true (omega arith) c.in_ok-copies.ensures goes)
 
-pub loop-front-preserved : goal.loop-front-preserved
-loop-front-preserved c =
+pub loop-prefix-preserved : goal.loop-prefix-preserved
+loop-prefix-preserved c =
     let piece = rw c.in_ok-copies.ensures at c.in_ok-piece.ensures.piece in
-    let joined = c.in_ok-front-2.ensures in
-    let stays : is_gone c.args.gone.now c.loop-front.front.len ≡ false = sym c.is_gone.ensures ∙ c.if-is_gone.false in
+    let joined = c.in_ok-prefix-2.ensures in
+    let stays : is_gone c.args.gone.now c.loop-prefix.prefix.len ≡ false = sym c.is_gone.ensures ∙ c.if-is_gone.false in
     rw (joined.segments, joined.end, joined.len, c.in_ok-piece.ensures.count)
-    (IsLoaded-kept c.args.ops.now c.args.gone.now c.args.meter.now c.loop-front.front.len _ c.in_ok-piece.piece.len c.loop-front.meter c.loop-front.front.segments c.in_ok-piece.piece.segments c.loop-front.front.end c.in_ok-piece.piece.end
-    c.loop-front.invariant c.loop-front-test.true (omega arith) piece (c.in_ok-piece.ensures.whole ∙ ap length c.in_ok-copies.ensures) stays)
+    (IsLoaded-kept c.args.ops.now c.args.gone.now c.args.meter.now c.loop-prefix.prefix.len _ c.in_ok-piece.piece.len c.loop-prefix.meter c.loop-prefix.prefix.segments c.in_ok-piece.piece.segments c.loop-prefix.prefix.end c.in_ok-piece.piece.end
+    c.loop-prefix.invariant c.loop-prefix-test.true (omega arith) piece (c.in_ok-piece.ensures.whole ∙ ap length c.in_ok-copies.ensures) stays)

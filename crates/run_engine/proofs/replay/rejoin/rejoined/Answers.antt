@@ -1,6 +1,6 @@
 use Rattle.std.proofs.Common.{◌≡◌, ap, subst, sym, drop, map, ◌∙◌}
 use Rattle.std.specs.Prelude.{slice_range}
-use Rattle.run_engine.specs.Exchanged.{exchanged, AreExchangeable}
+use Rattle.run_engine.specs.inner.Exchanged.{exchanged, AreExchangeable}
 use Rattle.run_engine.proofs.PieceLemmas.{take-rest}
 use Rattle.run_engine.specs.Segments.{trace_of, marks_from}
 use Rattle.agreement.specs.Meeting.{AgreeBut}

@@ -8,7 +8,7 @@ use Rattle.run_engine.specs.Segments.{trace_of, BeginsMarked}
 use Rattle.run_engine.specs.HeadAndTail.{AreAlike}
 use Rattle.run_engine.proofs.PieceLemmas.{old-piece}
 use Rattle.run_engine.proofs.MarksLemmas.{old-neighbours, old-stretch-is}
-use Rattle.run_engine.proofs.PlaceLemmas.{trace_of-front}
+use Rattle.run_engine.proofs.PlaceLemmas.{trace_of-prefix}
 use Rattle.run_engine.proofs.StretchLemmas.{stretch-ops, stretch-behind, fork-mark}
 use Rattle.run_engine.proofs.replay.stretch.old_stretch.Goals as goal
 
@@ -46,7 +46,7 @@ returns c =
           (old-piece c.args.revision.now.segments.now c.args.revision.now.end.now c.in-Some-segment_at.i k c.at.result c.args.heap.now c.in-Some-2.after (slice_range ops c.args.at c.args.to) c.ops_len-len.result
           c.args.revision.now.holds.kept.run c.in-Some-segment_at.ensures.within c.at.ensures mark bare fits parts
           (after ∙ ap (λ j. end_from nothing_held (trace_of (take j c.args.revision.now.segments.now))) m));
-      base = after ∙ ap (end_from nothing_held) (trace_of-front c.args.revision.now.segments.now c.next_marked-j.result (c.in-Some.alike.from + (c.args.at - c.in-Some.alike.at) + c.ops_len-len.result)
+      base = after ∙ ap (end_from nothing_held) (trace_of-prefix c.args.revision.now.segments.now c.next_marked-j.result (c.in-Some.alike.from + (c.args.at - c.in-Some.alike.at) + c.ops_len-len.result)
           (stretch-behind c.args.revision.now.segments.now c.in_ok-segments.segments c.in-Some-segment_at.i c.next_marked-j.result _ c.ops_len-len.result (omega arith) c.in_ok-segments.ensures c.in-Some-segment_at.ensures.place c.ops_len-len.ensures.value));
       next = λ chunks. record { start_is = tt; end_is = tt; kept = tt };
     }

@@ -2,7 +2,7 @@ use Rattle.std.proofs.Common.{◌≡◌, ◌-◌, ◌%◌, sym, subst, arith}
 use Rattle.std.specs.Ordering.{nat_cmp}
 use Rattle.std.specs.BTreeSet.{contains}
 use Rattle.run_engine.specs.GivenUp.{names_at}
-use Rattle.run_engine.specs.Onward.{cuts, AreAnswered}
+use Rattle.run_engine.specs.inner.Onward.{cuts, AreAnswered}
 use Rattle.run_engine.proofs.OnwardLemmas.{cuts-none, AreAnswered-none, AreAnswered-cut}
 use Rattle.run_engine.proofs.replay.touching.touch_ahead.Goals as goal
 

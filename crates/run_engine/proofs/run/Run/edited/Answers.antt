@@ -4,7 +4,7 @@ use Rattle.std.specs.BTreeSet.{contains}
 use Rattle.run_engine.specs.Edited.{edited_by}
 use Rattle.run_engine.specs.Bounds.{StepsAtMostFrom}
 use Rattle.run_engine.specs.Segments.{trace_of, all_marks}
-use Rattle.run_engine.specs.Onward.{AreMarksDue}
+use Rattle.run_engine.specs.inner.Onward.{AreMarksDue}
 use Rattle.run_engine.specs.RunView.{RunView}
 use Rattle.run_engine.proofs.HeadAndTailLemmas.{bound-as}
 use Rattle.run_engine.proofs.LeftLemmas.{AreMarksKept-due}

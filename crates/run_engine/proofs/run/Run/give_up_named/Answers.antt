@@ -5,7 +5,7 @@ use Rattle.std.specs.BTreeSet.{contains}
 use Rattle.run_engine.specs.RunView.{RunView}
 use Rattle.run_engine.specs.Segments.{trace_of, all_marks}
 use Rattle.run_engine.specs.GivenUp.{given_up}
-use Rattle.run_engine.specs.Onward.{among}
+use Rattle.run_engine.specs.inner.Onward.{among}
 use Rattle.run_engine.proofs.ClearedLemmas.{trace_of-cleared, IsKept-cleared, all_marks-cleared}
 use Rattle.run_engine.proofs.AnsweredLemmas.{given_up-all, goes-same}
 use Rattle.run_engine.proofs.run.Run.give_up_named.Goals as goal

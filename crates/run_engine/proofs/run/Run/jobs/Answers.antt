@@ -4,7 +4,7 @@ use Rattle.run_engine.specs.Edited.{edited_by}
 use Rattle.run_engine.specs.Jobs.{begin_by, AreJobsAt}
 use Rattle.run_engine.specs.RunView.{RunView}
 use Rattle.run_engine.specs.Segments.{trace_of, all_marks}
-use Rattle.run_engine.specs.Shifts.{shifted}
+use Rattle.run_engine.specs.inner.Shifts.{shifted}
 use Rattle.run_engine.proofs.run.Run.jobs.Goals as goal
 
 pub returns-clause-jobs : goal.returns-clause-jobs

@@ -1,6 +1,6 @@
 use Rattle.std.proofs.Common.{◌∙◌, ◌≡◌, ◌++◌, ◌∷◌, [], ap, sym, arith, take, length, None}
 use Rattle.std.proofs.lemmas.List.{take_more, take_all}
-use Rattle.run_engine.specs.Blocks.{standing}
+use Rattle.run_engine.specs.inner.Blocks.{standing}
 use Rattle.run_engine.proofs.BlockLemmas.{length-standing, stands}
 use Rattle.run_engine.proofs.segments.block.left_of.Goals as goal
 

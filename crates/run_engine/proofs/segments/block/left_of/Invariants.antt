@@ -1,5 +1,5 @@
 use Rattle.std.proofs.Common.{◌≡◌, take}
-use Rattle.run_engine.specs.Blocks.{standing}
+use Rattle.run_engine.specs.inner.Blocks.{standing}
 use Rattle.run_engine.proofs.segments.block.left_of.Given as goal
 
 abbrev pub invariant-loop-i : goal.invariant-loop-i

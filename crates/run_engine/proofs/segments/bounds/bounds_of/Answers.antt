@@ -1,6 +1,6 @@
 use Rattle.std.proofs.Common.{◌≡◌, ◌+◌, [], ◌∷◌, ◌++◌, take, ap, sym, subst, ◌∙◌, arith}
 use Rattle.std.proofs.lemmas.List.{take_more}
-use Rattle.run_engine.specs.Parts.{AreBetween}
+use Rattle.run_engine.specs.inner.Parts.{AreBetween}
 use Rattle.run_engine.proofs.PartLemmas.{between-more}
 use Rattle.run_engine.proofs.segments.bounds.bounds_of.Goals as goal
 

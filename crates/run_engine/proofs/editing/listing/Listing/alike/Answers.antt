@@ -1,8 +1,8 @@
 use Rattle.std.proofs.Common.{◌≡◌, ℕ, ◌-◌, ◌<◌, List, length, subst, arith}
 use Rattle.trace_types.specs.Operation.{Operation}
-use Rattle.run_engine.specs.ListingView.{ListingView}
+use Rattle.run_engine.specs.inner.ListingView.{ListingView}
 use Rattle.run_engine.specs.declared.editing.spans.Span.{Span}
-use Rattle.run_engine.specs.Spans.{laid, total, IsFound}
+use Rattle.run_engine.specs.inner.Spans.{laid, total, IsFound}
 use Rattle.run_engine.specs.HeadAndTail.{AreAlike}
 use Rattle.run_engine.proofs.SpanLemmas.{view-length, found-there, old-at, alike-span}
 use Rattle.run_engine.proofs.editing.listing.Listing.alike.Goals as goal

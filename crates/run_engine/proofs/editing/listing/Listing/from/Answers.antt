@@ -1,9 +1,9 @@
 use Rattle.std.proofs.Common.{◌≡◌, ℕ, ◌+◌, ◌<◌, ◌≤◌, List, ◌∷◌, ◌++◌, length, take, drop, ◌∙◌, ap, sym, arith}
 use Rattle.trace_types.specs.Operation.{Operation}
-use Rattle.run_engine.specs.ListingView.{ListingView}
+use Rattle.run_engine.specs.inner.ListingView.{ListingView}
 use Rattle.run_engine.specs.declared.editing.spans.Span.{Span}
 use Rattle.run_engine.specs.declared.editing.spans.Span.TheVariants.{Old}
-use Rattle.run_engine.specs.Spans.{ops_in, laid, span_length, total, IsFound}
+use Rattle.run_engine.specs.inner.Spans.{ops_in, laid, span_length, total, IsFound}
 use Rattle.std.proofs.lemmas.List.{length-take-le}
 use Rattle.run_engine.proofs.SpanLemmas.{view-length, found-there, found-inside, old-at, laid-from, from-old}
 use Rattle.run_engine.proofs.editing.listing.Listing.from.Goals as goal

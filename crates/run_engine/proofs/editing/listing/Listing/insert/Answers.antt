@@ -2,10 +2,10 @@ use Rattle.std.proofs.Common.{◌≡◌, ◌+◌, ◌≤◌, List, length, take,
 use Rattle.std.specs.Prelude.{insert}
 use Rattle.trace_types.specs.Operation.{Operation}
 use Rattle.trace_types.specs.declared.limits.TheConstants.{MAX_OPS}
-use Rattle.run_engine.specs.ListingView.{ListingView}
+use Rattle.run_engine.specs.inner.ListingView.{ListingView}
 use Rattle.run_engine.specs.declared.editing.spans.Span.{Span}
 use Rattle.run_engine.specs.declared.editing.spans.Span.TheVariants.{New}
-use Rattle.run_engine.specs.Spans.{laid, total, AreFit, IsFound}
+use Rattle.run_engine.specs.inner.Spans.{laid, total, AreFit, IsFound}
 use Rattle.run_engine.proofs.SpanLemmas.{view-length, AreFit-wider, insert-laid, insert-fit, insert-total}
 use Rattle.run_engine.proofs.editing.listing.Listing.insert.Goals as goal
 

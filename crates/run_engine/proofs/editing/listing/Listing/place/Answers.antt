@@ -3,9 +3,9 @@ use Rattle.std.specs.Prelude.{◌==◌, Some, None}
 use Rattle.std.specs.List.{position_from}
 use Rattle.trace_types.specs.Operation.{Operation}
 use Rattle.trace_types.specs.Trace.{place_of}
-use Rattle.run_engine.specs.ListingView.{ListingView}
+use Rattle.run_engine.specs.inner.ListingView.{ListingView}
 use Rattle.run_engine.specs.declared.editing.spans.Span.{Span}
-use Rattle.run_engine.specs.Spans.{ops_in, laid, span_length, total, Fits, AreFit}
+use Rattle.run_engine.specs.inner.Spans.{ops_in, laid, span_length, total, Fits, AreFit}
 use Rattle.run_engine.proofs.ListingLemmas.{around}
 use Rattle.run_engine.proofs.SpanLemmas.{total-next, total-around, fit-at, length-ops_in, view-length}
 use Rattle.run_engine.proofs.NumberLemmas.{place-here, place-next, place_within, some_within}

@@ -2,9 +2,9 @@ use Rattle.std.proofs.Common.{◌≡◌, ◌<◌, List, length, take, ◌∙◌,
 use Rattle.std.specs.Prelude.{remove}
 use Rattle.trace_types.specs.Operation.{Operation}
 use Rattle.trace_types.specs.declared.limits.TheConstants.{MAX_OPS}
-use Rattle.run_engine.specs.ListingView.{ListingView}
+use Rattle.run_engine.specs.inner.ListingView.{ListingView}
 use Rattle.run_engine.specs.declared.editing.spans.Span.{Span}
-use Rattle.run_engine.specs.Spans.{laid, total, AreFit, IsFound}
+use Rattle.run_engine.specs.inner.Spans.{laid, total, AreFit, IsFound}
 use Rattle.run_engine.proofs.SpanLemmas.{view-length, AreFit-wider, found-there}
 use Rattle.run_engine.proofs.editing.listing.Listing.remove.Goals as goal
 

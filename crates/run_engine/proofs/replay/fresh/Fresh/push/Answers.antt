@@ -1,6 +1,6 @@
 use Rattle.std.proofs.Common.{◌≡◌, ◌∙◌, ◌++◌, ◌∷◌, [], None, ap, sym, subst}
 use Rattle.run_engine.specs.declared.replay.fresh.FreshChunk.{FreshChunk}
-use Rattle.run_engine.specs.FreshChunks.{end_after, AreLinked}
+use Rattle.run_engine.specs.inner.FreshChunks.{end_after, AreLinked}
 use Rattle.run_engine.proofs.FreshLemmas.{AreLinked-push, end_after-push}
 use Rattle.run_engine.proofs.replay.fresh.Fresh.push.Goals as goal
 

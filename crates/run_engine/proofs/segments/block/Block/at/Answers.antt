@@ -2,8 +2,8 @@ use Rattle.std.proofs.Common.{◌+◌, ◌∙◌, sym, subst, arith, ap, get_or}
 use Rattle.std.specs.Prelude.{[], ◌∷◌}
 use Rattle.std.specs.Arc.{arc_value}
 use Rattle.std.specs.Option.{option_map}
-use Rattle.run_engine.specs.Cleared.{cleared_if}
-use Rattle.run_engine.specs.Blocks.{laid_over, AreSoundBelow}
+use Rattle.run_engine.specs.inner.Cleared.{cleared_if}
+use Rattle.run_engine.specs.inner.Blocks.{laid_over, AreSoundBelow}
 use Rattle.run_engine.proofs.BlockLemmas.{length-laid, stands-sound, stands-laid}
 use Rattle.run_engine.proofs.segments.block.Block.at.Goals as goal
 

@@ -2,7 +2,7 @@ use Rattle.std.proofs.Common.{◌≡◌, ◌∙◌, sym, subst, arith, ap, map}
 use Rattle.std.specs.Arc.{arc_value}
 use Rattle.std.specs.Option.{option_map}
 use Rattle.run_engine.specs.Segments.{without_mark}
-use Rattle.run_engine.specs.Blocks.{laid_over, AreSoundBelow, standing}
+use Rattle.run_engine.specs.inner.Blocks.{laid_over, AreSoundBelow, standing}
 use Rattle.run_engine.proofs.MeasureLemmas.{measured-as, standing-trace}
 use Rattle.run_engine.proofs.BlockLemmas.{length-laid, standing-without, sound-without, map-without}
 use Rattle.run_engine.proofs.GiveUpLemmas.{has_mark-at}

@@ -2,8 +2,8 @@ use Rattle.std.proofs.Common.{◌∙◌, sym, subst, ap, map, List}
 use Rattle.std.specs.Arc.{arc_value}
 use Rattle.std.specs.Option.{option_map}
 use Rattle.run_engine.specs.SegmentView.{SegmentView}
-use Rattle.run_engine.specs.Exchanged.{exchanged, AreExchangeable}
-use Rattle.run_engine.specs.Blocks.{laid_over, standing}
+use Rattle.run_engine.specs.inner.Exchanged.{exchanged, AreExchangeable}
+use Rattle.run_engine.specs.inner.Blocks.{laid_over, standing}
 use Rattle.std.specs.Prelude.{Some}
 use Rattle.run_engine.proofs.MeasureLemmas.{measured-as, standing-trace}
 use Rattle.run_engine.proofs.BlockLemmas.{laid-both, sound-both}

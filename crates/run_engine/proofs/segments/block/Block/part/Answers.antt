@@ -2,7 +2,7 @@ use Rattle.std.proofs.Common.{◌-◌, ◌∙◌, sym, subst, ap, map, take, dro
 use Rattle.std.specs.Arc.{arc_value}
 use Rattle.std.specs.Option.{option_map}
 use Rattle.run_engine.specs.SegmentView.{SegmentView}
-use Rattle.run_engine.specs.Blocks.{laid_over, AreSoundBelow, standing}
+use Rattle.run_engine.specs.inner.Blocks.{laid_over, AreSoundBelow, standing}
 use Rattle.std.specs.Prelude.{slice_range}
 use Rattle.run_engine.specs.Segments.{trace_of}
 use Rattle.run_engine.proofs.MeasureLemmas.{measured-part}

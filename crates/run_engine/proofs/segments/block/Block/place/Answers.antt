@@ -1,6 +1,6 @@
 use Rattle.std.proofs.Common.{◌∙◌, ap, sym, subst, length, arith}
 use Rattle.trace_types.specs.Trace.{place_of}
-use Rattle.run_engine.specs.Parts.{AreBetween}
+use Rattle.run_engine.specs.inner.Parts.{AreBetween}
 use Rattle.run_engine.specs.Segments.{trace_of}
 use Rattle.run_engine.proofs.MeasureLemmas.{same-trace}
 use Rattle.run_engine.proofs.segments.block.Block.place.Goals as goal

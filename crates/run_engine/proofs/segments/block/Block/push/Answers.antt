@@ -6,7 +6,7 @@ use Rattle.run_engine.proofs.BlockLemmas.{pushed, sound-bare}
 use Rattle.run_engine.proofs.MeasureLemmas.{measured-more}
 use Rattle.run_engine.specs.SegmentView.{SegmentView}
 use Rattle.run_engine.specs.Segments.{trace_of}
-use Rattle.run_engine.specs.Blocks.{laid_over, standing}
+use Rattle.run_engine.specs.inner.Blocks.{laid_over, standing}
 use Rattle.run_engine.proofs.segments.block.Block.push.Goals as goal
 
 pub invariant_of-self-in-Some : goal.invariant_of-self-in-Some

@@ -2,7 +2,7 @@ use Rattle.std.proofs.Common.{◌≡◌, ◌∙◌, ap, sym, subst, map, length,
 use Rattle.std.specs.Arc.{arc_value}
 use Rattle.std.specs.Option.{option_map}
 use Rattle.run_engine.specs.SegmentView.{SegmentView}
-use Rattle.run_engine.specs.Blocks.{laid_over, AreSoundBelow, standing}
+use Rattle.run_engine.specs.inner.Blocks.{laid_over, AreSoundBelow, standing}
 use Rattle.run_engine.specs.Segments.{trace_of}
 use Rattle.run_engine.proofs.MeasureLemmas.{measured-as}
 use Rattle.run_engine.proofs.BlockLemmas.{length-standing, standing-own}

@@ -1,5 +1,5 @@
 use Rattle.std.proofs.Common.{◌∙◌, ap, sym, length}
-use Rattle.run_engine.specs.Parts.{joined, starts_from}
+use Rattle.run_engine.specs.inner.Parts.{joined, starts_from}
 use Rattle.run_engine.specs.Segments.{trace_of}
 use Rattle.run_engine.proofs.SegmentLemmas.{trace_of-without_mark}
 use Rattle.run_engine.proofs.BlocksLemmas.{length-without}

@@ -1,6 +1,6 @@
 use Rattle.std.proofs.Common.{◌∙◌, ap, sym, subst}
-use Rattle.run_engine.specs.Parts.{joined}
-use Rattle.run_engine.specs.Exchanged.{AreExchangeable}
+use Rattle.run_engine.specs.inner.Parts.{joined}
+use Rattle.run_engine.specs.inner.Exchanged.{AreExchangeable}
 use Rattle.run_engine.proofs.BlocksLemmas.{exchangeable-block}
 use Rattle.run_engine.proofs.segments.blocks.Segments.exchanged.Goals as goal
 

@@ -1,6 +1,6 @@
 use Rattle.std.proofs.Common.{◌≡◌, ◌<◌, ◌+◌, ◌∙◌, List, ap, map, length, take, subst, arith, refl}
 use Rattle.run_engine.specs.SegmentView.{SegmentView}
-use Rattle.run_engine.specs.Parts.{joined, IsPartAt}
+use Rattle.run_engine.specs.inner.Parts.{joined, IsPartAt}
 use Rattle.run_engine.specs.Segments.{trace_of, IsLastFrom}
 use Rattle.run_engine.proofs.StartLemmas.{starts-long, start-there}
 use Rattle.run_engine.proofs.PositionLemmas.{block-there, block-before, position-is, start-of, last-joined}

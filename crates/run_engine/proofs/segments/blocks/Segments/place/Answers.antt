@@ -3,12 +3,12 @@ use Rattle.std.specs.Prelude.{◌==◌}
 use Rattle.std.specs.List.{position_from}
 use Rattle.trace_types.specs.Trace.{place_of}
 use Rattle.run_engine.specs.SegmentView.{SegmentView}
-use Rattle.run_engine.specs.Parts.{joined}
+use Rattle.run_engine.specs.inner.Parts.{joined}
 use Rattle.run_engine.specs.Segments.{trace_of}
 use Rattle.run_engine.proofs.ListingLemmas.{around}
 use Rattle.run_engine.proofs.NumberLemmas.{place-here, place-next, place_within}
 use Rattle.run_engine.proofs.SegmentLemmas.{trace_of-append}
-use Rattle.run_engine.proofs.PositionLemmas.{traces-next, front-few}
+use Rattle.run_engine.proofs.PositionLemmas.{traces-next, prefix-few}
 use Rattle.run_engine.proofs.segments.blocks.Segments.place.Goals as goal
 
 pub loop-block-init : goal.loop-block-init
@@ -21,7 +21,7 @@ overflow_add-result c =
     let b : List SegmentView = c.block-item.result in
     let less : c.in-Some.place < length (trace_of c.block-item.result) = place_within c.args.id c.in-Some.place (trace_of b) (sym c.in-Some.ensures) in
     let next : length (trace_of (joined (take (c.loop-block.block-index + 1) c.deref-block-items.result.now))) ≡ length (trace_of (joined (take c.loop-block.block-index c.deref-block-items.result.now))) + length (trace_of c.block-item.result) = ap length (traces-next blocks i b c.loop-block-test.true c.block-item.is) ∙ length-append (trace_of (joined (take i blocks))) (trace_of b) in
-    omega (arith, front-few c.deref-block-items.result.now (c.loop-block.block-index + 1), ap (λ bs. length (trace_of (joined bs))) c.deref-block-items.ensures.value, c.self.invariant.4, c.self.invariant.5, c.loop-block.invariant.at)
+    omega (arith, prefix-few c.deref-block-items.result.now (c.loop-block.block-index + 1), ap (λ bs. length (trace_of (joined bs))) c.deref-block-items.ensures.value, c.self.invariant.4, c.self.invariant.5, c.loop-block.invariant.at)
 
 pub returns-in-Some : goal.returns-in-Some
 returns-in-Some c =
@@ -51,4 +51,4 @@ overflow_add-at c =
     let i : ℕ = c.loop-block.block-index in
     let b : List SegmentView = c.block-item.result in
     let next : length (trace_of (joined (take (c.loop-block.block-index + 1) c.deref-block-items.result.now))) ≡ length (trace_of (joined (take c.loop-block.block-index c.deref-block-items.result.now))) + length (trace_of c.block-item.result) = ap length (traces-next blocks i b c.loop-block-test.true c.block-item.is) ∙ length-append (trace_of (joined (take i blocks))) (trace_of b) in
-    omega (arith, front-few c.deref-block-items.result.now (c.loop-block.block-index + 1), ap (λ bs. length (trace_of (joined bs))) c.deref-block-items.ensures.value, c.self.invariant.4, c.self.invariant.5, c.loop-block.invariant.at, c.ops_len-at.ensures.value)
+    omega (arith, prefix-few c.deref-block-items.result.now (c.loop-block.block-index + 1), ap (λ bs. length (trace_of (joined bs))) c.deref-block-items.ensures.value, c.self.invariant.4, c.self.invariant.5, c.loop-block.invariant.at, c.ops_len-at.ensures.value)

@@ -2,7 +2,7 @@ use Rattle.std.proofs.Common.{◌≡◌, length, take, drop}
 use Rattle.std.specs.Prelude.{◌==◌}
 use Rattle.std.specs.List.{position_from}
 use Rattle.trace_types.specs.Trace.{place_of}
-use Rattle.run_engine.specs.Parts.{joined}
+use Rattle.run_engine.specs.inner.Parts.{joined}
 use Rattle.run_engine.specs.Segments.{trace_of}
 use Rattle.run_engine.proofs.segments.blocks.Segments.place.Given as goal
 

@@ -1,7 +1,7 @@
 use Rattle.std.proofs.Common.{◌≡◌, ◌<◌, ◌≤◌, ◌+◌, ◌∙◌, List, ap, sym, map, length, take, arith, refl}
 use Rattle.std.proofs.lemmas.List.{length-map}
 use Rattle.run_engine.specs.SegmentView.{SegmentView}
-use Rattle.run_engine.specs.Parts.{joined}
+use Rattle.run_engine.specs.inner.Parts.{joined}
 use Rattle.run_engine.specs.Segments.{trace_of}
 use Rattle.run_engine.proofs.BlocksLemmas.{inside-block}
 use Rattle.run_engine.proofs.PlaceLemmas.{place-within}

@@ -1,6 +1,6 @@
 use Rattle.std.proofs.Common.{◌≡◌, ◌+◌, ◌++◌, ◌∷◌, [], ◌∙◌, ap, sym, length, arith, length-append}
 use Rattle.std.proofs.lemmas.List.{append-nil}
-use Rattle.run_engine.specs.Parts.{joined}
+use Rattle.run_engine.specs.inner.Parts.{joined}
 use Rattle.run_engine.specs.Segments.{trace_of}
 use Rattle.run_engine.proofs.SegmentLemmas.{trace_of-append}
 use Rattle.run_engine.proofs.segments.blocks.Segments.push.Goals as goal

@@ -1,6 +1,6 @@
 use Rattle.std.proofs.Common.{◌≡◌, ◌+◌, ◌++◌, ◌∙◌, ap, refl, arith, length, length-append, take}
 use Rattle.std.specs.Prelude.{slice_range}
-use Rattle.run_engine.specs.Parts.{joined}
+use Rattle.run_engine.specs.inner.Parts.{joined}
 use Rattle.run_engine.proofs.PartLemmas.{joined-next, joined-few}
 use Rattle.run_engine.proofs.BlocksLemmas.{stretch-next}
 use Rattle.run_engine.proofs.segments.blocks.Segments.stretch.Goals as goal

@@ -1,6 +1,6 @@
 use Rattle.std.proofs.Common.{◌≡◌, length, take}
 use Rattle.std.specs.Prelude.{slice_range}
-use Rattle.run_engine.specs.Parts.{joined}
+use Rattle.run_engine.specs.inner.Parts.{joined}
 use Rattle.run_engine.proofs.segments.blocks.Segments.stretch.Given as goal
 
 abbrev pub invariant-loop-block : goal.invariant-loop-block

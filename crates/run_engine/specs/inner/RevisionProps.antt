@@ -8,10 +8,10 @@ use Rattle.trace_types.specs.contracts.outcomes.Outcome as outcome
 use Rattle.ownership_model.specs.State.{State}
 use Rattle.ownership_model.specs.Step.{end_from}
 use Rattle.object_heap.specs.StateCode.{state_code}
-use Rattle.run_engine.specs.ListingView.{ListingView}
+use Rattle.run_engine.specs.inner.ListingView.{ListingView}
 use Rattle.run_engine.specs.SegmentView.{SegmentView}
 use Rattle.run_engine.specs.Segments.{ops_of, IsSegmentFrom, AreReplayFrom, AreFull, BeginsMarked, IsRunFrom, IsKept}
-use Rattle.run_engine.specs.Revision.{IsRevision}
+use Rattle.run_engine.specs.inner.Revision.{IsRevision}
 
 -- that a checkpoint, if there is one, is a state
 same_mark-prop : (m : State) (o : Option State) → IsProp (IfSome o (λ n. n ≡ m))

@@ -1,4 +1,4 @@
--- Chunks that were stepped one behind the other (for private functions alone).
+-- Chunks that were stepped one behind the other.
 use Rattle.std.specs.Prelude.{◌≡◌, true, List, [], ◌∷◌, Option, Some, IfSome}
 use Rattle.ownership_model.specs.State.{State}
 use Rattle.ownership_model.specs.Step.{end_from}

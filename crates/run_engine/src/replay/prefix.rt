@@ -1,4 +1,4 @@
-//! Pieces of a replay.
+//! What was replayed so far, and what comes after it.
 ghost use Rattle.std.specs.Prelude.{◌≡◌, ◌++◌, ◌+◌, ◌^◌, ◌<◌, ◌≤◌, ℕ, List, ◌∷◌, [], IfOk, OnOk, IfSome, IsTrue, length};
 ghost use Rattle.std.specs.Map.{lookup};
 ghost use Rattle.trace_types.specs.Trace.{has_distinct_numbers};
@@ -9,8 +9,8 @@ ghost use Rattle.mark_shelf.specs.Joints.{EndsWith};
 ghost use Rattle.mark_shelf.specs.Shelf.{name_of, name_eq};
 ghost use Rattle.run_engine.specs.Segments.{bare_segment, IsPiece};
 ghost use Rattle.run_engine.specs.Memo.{IsAmong, IsSearched};
-ghost use Rattle.run_engine.specs.Origins.{stepped_chunk, behind_of, shelf_number};
-ghost use Rattle.run_engine.specs.Placed.{IsPlaced, IsNext};
+ghost use Rattle.run_engine.specs.inner.Origins.{stepped_chunk, behind_of, shelf_number};
+ghost use Rattle.run_engine.specs.inner.Placed.{IsPlaced, IsNext};
 ghost use Rattle.run_engine.specs.declared.replay.origin.Behind.TheVariants.{Stepped};
 
 use crate::replay::fresh::Fresh;
@@ -27,10 +27,10 @@ use trace_types::ops::Op;
 /// How many operations stand between neighbouring checkpoints where they are stepped.
 pub const STRIDE: usize = 64;
 
-/// A piece of a replay: its segments, the heap after them, how many operations they have, the chunks that were stepped for it, what is known
-/// to end with that heap, and the names of checkpoints that the shelf has answered so far.
+/// The prefix of a trace that was replayed so far: its segments, the heap after them, and how many operations they have. Beside them the
+/// chunks that were stepped for it, what is known to end with that heap, and the names that the shelf has answered.
 #[derive(Drop)]
-pub struct Piece {
+pub struct Prefix {
     pub segments: Segments,
     pub end: Heap,
     pub len: usize,
@@ -41,14 +41,14 @@ pub struct Piece {
 
 /// What a replay goes on with: its segments, the heap after them, how many operations they have, and where they come from.
 #[derive(Drop)]
-pub struct Next {
+pub struct NextStretch {
     pub segments: Segments,
     pub end: Heap,
     pub len: usize,
     pub origin: Origin,
 }
 
-impl Next {
+impl NextStretch {
     /// A chunk to go on with. Whether it was stepped, or which of the shelf's it is, is for the caller to say.
     pub fn of(alloc: Global, chunk: &ChunkRun) -> Result<Self, AllocError>
         requires { 0 < length chunk.now.ops }
@@ -58,7 +58,7 @@ impl Next {
         ensures end { IfOk result (λ p. p.end ≡ end_from chunk.now.start chunk.now.ops) }
     {
         let segments = Segments::empty(alloc).push(alloc, Segment::of(alloc, chunk)?)?;
-        Ok(Next {
+        Ok(NextStretch {
             segments,
             end: chunk.end().share()?,
             len: chunk.ops().len(),
@@ -67,30 +67,30 @@ impl Next {
     }
 }
 
-/// A piece and what it goes on with, with the answered names of the first.
-pub fn joined(alloc: Global, front: Piece, next: Next) -> Result<Piece, AllocError>
-    requires fits { front.len + next.len < 2 ^ 64 }
-    requires behind { front.behind ≡ Stepped →
-        IfSome (stepped_chunk next.origin) (λ c. IfSome front.fresh (λ s. s ≡ c.start)) }
+/// A prefix and what follows it, with the answered names of the prefix.
+pub fn joined(alloc: Global, prefix: Prefix, next: NextStretch) -> Result<Prefix, AllocError>
+    requires fits { prefix.len + next.len < 2 ^ 64 }
+    requires behind { prefix.behind ≡ Stepped →
+        IfSome (stepped_chunk next.origin) (λ c. IfSome prefix.fresh (λ s. s ≡ c.start)) }
     ensures segments { IfOk result
-        (λ p. p.segments ≡ front.segments ++ next.segments) }
+        (λ p. p.segments ≡ prefix.segments ++ next.segments) }
     ensures end { IfOk result (λ p. p.end ≡ next.end) }
-    ensures len { IfOk result (λ p. p.len ≡ front.len + next.len) }
+    ensures len { IfOk result (λ p. p.len ≡ prefix.len + next.len) }
     ensures behind { IfOk result (λ p. p.behind ≡ behind_of next.origin) }
-    ensures gone { IfOk result (λ p. p.gone ≡ front.gone) }
-    ensures placed { (chunks : List (ℕ × Chunk)) → IsNext chunks front.end next →
+    ensures gone { IfOk result (λ p. p.gone ≡ prefix.gone) }
+    ensures placed { (chunks : List (ℕ × Chunk)) → IsNext chunks prefix.end next →
         IfOk result (IsPlaced chunks) }
 {
-    let segments = front.segments.append(alloc, next.segments)?;
-    let mut fresh = front.fresh;
-    let behind = fresh.go_on(front.behind, next.origin)?;
-    Ok(Piece {
+    let segments = prefix.segments.append(alloc, next.segments)?;
+    let mut fresh = prefix.fresh;
+    let behind = fresh.go_on(prefix.behind, next.origin)?;
+    Ok(Prefix {
         segments,
         end: next.end,
-        len: front.len + next.len,
+        len: prefix.len + next.len,
         fresh,
         behind,
-        gone: front.gone,
+        gone: prefix.gone,
     })
 }
 
@@ -100,7 +100,7 @@ pub fn stepped(
     heap: &Heap,
     ops: Vec<Op>,
     meter: &mut Meter,
-) -> Result<Next, AllocError>
+) -> Result<NextStretch, AllocError>
     requires some { 0 < length ops.items }
     requires distinct { IsTrue (has_distinct_numbers ops.items) }
     requires unused { AreUnused heap.now ops.items }
@@ -112,7 +112,7 @@ pub fn stepped(
     ensures next { (chunks : List (ℕ × Chunk)) → IfOk result (IsNext chunks heap.now) }
 {
     let chunk = run_of(alloc, heap, ops, meter)?;
-    let mut piece = Next::of(alloc, &chunk)?;
+    let mut piece = NextStretch::of(alloc, &chunk)?;
     piece.origin = Origin::Stepped(chunk);
     Ok(piece)
 }
@@ -125,7 +125,7 @@ pub fn found(
     ops: &[Op],
     before: Option<u64>,
     shelf: &mut MarkShelf,
-) -> Result<Option<Next>, AllocError>
+) -> Result<Option<NextStretch>, AllocError>
     requires some { 0 < length ops.now }
     requires before { IfSome before (λ k. EndsWith shelf.old.chunks k heap.now) }
     ensures piece { IfOk result
@@ -141,43 +141,43 @@ pub fn found(
     let Some(found) = shelf.find_behind(heap, ops, before) else {
         return Ok(None);
     };
-    let mut piece = Next::of(alloc, &found.chunk)?;
+    let mut piece = NextStretch::of(alloc, &found.chunk)?;
     piece.origin = Origin::Shelf(found.number);
     Ok(Some(piece))
 }
 
-/// Goes on behind a front by operations, all of which are stepped on the front's own heap: they have no checkpoint where they begin, and
+/// Goes on behind a prefix by operations, all of which are stepped on the prefix's own heap: they have no checkpoint where they begin, and
 /// no chunk.
 pub fn replayed_on(
     alloc: Global,
-    front: Piece,
+    prefix: Prefix,
     ops: Vec<Op>,
     meter: &mut Meter,
-) -> Result<Piece, AllocError>
-    requires fits { front.len + length ops.items < 2 ^ 64 }
+) -> Result<Prefix, AllocError>
+    requires fits { prefix.len + length ops.items < 2 ^ 64 }
     requires distinct { IsTrue (has_distinct_numbers ops.items) }
-    requires unused { AreUnused front.end ops.items }
+    requires unused { AreUnused prefix.end ops.items }
     ensures segments { IfOk result
-        (λ p. p.segments ≡ front.segments ++ bare_segment front.end ops.items ∷ []) }
-    ensures end { IfOk result (λ p. p.end ≡ end_from front.end ops.items) }
-    ensures len { IfOk result (λ p. p.len ≡ front.len + length ops.items) }
-    ensures gone { IfOk result (λ p. p.gone ≡ front.gone) }
+        (λ p. p.segments ≡ prefix.segments ++ bare_segment prefix.end ops.items ∷ []) }
+    ensures end { IfOk result (λ p. p.end ≡ end_from prefix.end ops.items) }
+    ensures len { IfOk result (λ p. p.len ≡ prefix.len + length ops.items) }
+    ensures gone { IfOk result (λ p. p.gone ≡ prefix.gone) }
     ensures placed { (chunks : List (ℕ × Chunk)) → IfOk result (IsPlaced chunks) }
     ensures count { OnOk result (meter.new ≡ raised meter.old (length ops.items)) }
     ensures never_less { meter.old ≤ meter.new }
     ensures rise { meter.new ≤ meter.old + length ops.items }
 {
-    let len = front.len + ops.len();
-    front.end.show_sound();
-    let (outcomes, end) = replay_from(alloc, front.end, &ops, meter)?;
+    let len = prefix.len + ops.len();
+    prefix.end.show_sound();
+    let (outcomes, end) = replay_from(alloc, prefix.end, &ops, meter)?;
     let bare = Segment::bare(alloc, ops, outcomes)?;
-    let segments = front.segments.push(alloc, bare)?;
-    Ok(Piece {
+    let segments = prefix.segments.push(alloc, bare)?;
+    Ok(Prefix {
         segments,
         end,
         len,
-        fresh: front.fresh,
+        fresh: prefix.fresh,
         behind: Behind::Nothing,
-        gone: front.gone,
+        gone: prefix.gone,
     })
 }

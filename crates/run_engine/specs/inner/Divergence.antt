@@ -1,4 +1,4 @@
--- Where a replay and the old run beside it may differ (for private functions alone).
+-- Where a replay and the old run beside it may differ.
 use Rattle.std.specs.Prelude.{◌≡◌, ℕ, ◌≤◌, List, length, take, IfSome}
 use Rattle.ownership_model.specs.State.{State, nothing_held}
 use Rattle.ownership_model.specs.Step.{end_from}
@@ -8,7 +8,7 @@ use Rattle.run_engine.specs.declared.replay.progress.Fork.{Fork}
 use Rattle.run_engine.specs.declared.replay.revision.Revision.{Revision}
 use Rattle.run_engine.specs.SegmentView.{SegmentView}
 use Rattle.run_engine.specs.Segments.{trace_of}
-use Rattle.run_engine.specs.OldRun.{old_trace, new_trace}
+use Rattle.run_engine.specs.inner.OldRun.{old_trace, new_trace}
 
 -- both replays have the same heap there
 abbrev pub IsFork : Revision → Fork → Type 0

@@ -1,4 +1,4 @@
--- What edits do to stretches (for private functions alone).
+-- What edits do to stretches.
 use Rattle.std.specs.Prelude.{◌≡◌, ℕ, ◌≤◌, List, ◌++◌, length, take, Option, option_to_list, slice_range}
 use Rattle.trace_types.specs.Operation.{Operation}
 use Rattle.ownership_model.specs.State.{nothing_held}

@@ -1,4 +1,4 @@
--- What edits begin with (for private functions alone).
+-- What edits begin with.
 use Rattle.std.specs.Prelude.{List}
 use Rattle.trace_types.specs.Operation.{Operation}
 use Rattle.run_engine.specs.declared.editing.original.Source.{Source}

@@ -1,4 +1,4 @@
--- A replay that goes on, where the names of its checkpoints are touched ahead of it (for private functions alone).
+-- A replay that goes on, where the names of its checkpoints are touched ahead of it.
 use Rattle.std.specs.Prelude.{◌≡◌, ◌==◌, ◌+◌, ◌-◌, ℕ, Bool, true, List, ◌∷◌, ◌++◌, map, fold}
 use Rattle.std.specs.List.{list_any}
 use Rattle.trace_types.specs.Operation.{Operation}
@@ -59,14 +59,26 @@ pub record IsOnward (trace : List Operation) (old : Reusable) (at to : ℕ) (mar
   pub way : IsWay trace old at to more marks new gone
   pub answered : AreAnswered shelf after (names_at trace more) before gone
 
+-- A replay of an edited trace, which began again at a position: the old trace and the new one, the checkpoints before that position, what may
+-- serve, the checkpoints of the new run, and from where on both traces have the same operations
+pub record Resumed : Type 0 where
+  pub trace : List Operation
+  pub ops : List Operation
+  pub kept : List ℕ
+  pub old : Reusable
+  pub new : List ℕ
+  pub from : ℕ
+  pub base : ℕ
+  pub edited : ℕ
+
 -- a replay with these checkpoints, which leave the same as all that are due as far as a stop: the names of the restart and of those that
 -- are new were touched
-pub record AreMarksLeft (trace ops : List Operation) (kept : List ℕ) (old : Reusable) (new : List ℕ) (r a b : ℕ) (shelf after : Shelf) (before gone : ℕ → Bool) : Type 0 where
+pub record AreMarksLeft (x : Resumed) (shelf after : Shelf) (before gone : ℕ → Bool) : Type 0 where
   pub all : List ℕ
   pub stop : ℕ
-  pub marks : AreMarksOf trace ops kept old all r a b stop
-  pub left : (names : List ℕ) → AreMore gone (among names) → LeaveSame ops names new all
-  pub answered : AreAnswered shelf after (names_at ops (r ∷ marks.fresh)) before gone
+  pub marks : AreMarksOf x.trace x.ops x.kept x.old all x.from x.base x.edited stop
+  pub left : (names : List ℕ) → AreMore gone (among names) → LeaveSame x.ops names x.new all
+  pub answered : AreAnswered shelf after (names_at x.ops (x.from ∷ marks.fresh)) before gone
 
 -- the same of the run of an edited trace, beside the old run
 pub record AreMarksDue (guesses : List Chunk) (old new : RunView) (shelf after : Shelf) (gone : ℕ → Bool) : Type 0 where

@@ -1,4 +1,4 @@
--- What a revision has beside each other: an old run, and the operations that replace its own (for private functions alone).
+-- What a revision has beside each other: an old run, and the operations that replace its own.
 use Rattle.std.specs.Prelude.{ℕ, List, drop}
 use Rattle.trace_types.specs.Operation.{Operation}
 use Rattle.run_engine.specs.declared.replay.rejoin.Rest.{Rest}

@@ -1,4 +1,4 @@
--- A trace that is loaded with checkpoints given up (for private functions alone).
+-- A trace that is loaded with checkpoints given up.
 use Rattle.std.specs.Prelude.{ℕ, ◌/◌, ◌&&◌, Bool, false, not, List, [], ◌∷◌, ◌++◌, length, filter, get_or, nat_lt}
 use Rattle.trace_types.specs.Operation.{Operation}
 use Rattle.run_engine.specs.RunView.{RunView}

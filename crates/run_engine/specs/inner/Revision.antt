@@ -1,8 +1,8 @@
--- An old run beside an edited trace (for private functions alone).
+-- An old run beside an edited trace.
 use Rattle.std.specs.Prelude.{◌≡◌, List}
 use Rattle.trace_types.specs.Trace.{IsTrace}
 use Rattle.ownership_model.specs.State.{State}
-use Rattle.run_engine.specs.ListingView.{ListingView}
+use Rattle.run_engine.specs.inner.ListingView.{ListingView}
 use Rattle.run_engine.specs.SegmentView.{SegmentView}
 use Rattle.run_engine.specs.Segments.{trace_of, IsKept}
 

@@ -1,4 +1,4 @@
--- By what a replay comes to where it stands (for private functions alone).
+-- By what a replay comes to where it stands.
 use Rattle.std.specs.Prelude.{ℕ, Option, Some, None}
 use Rattle.std.specs.Option.{option_map_or}
 use Rattle.ownership_model.specs.State.{State}

@@ -1,4 +1,4 @@
--- Segments whose checkpoints are given up by name (for private functions alone).
+-- Segments whose checkpoints are given up by name.
 use Rattle.std.specs.Prelude.{ℕ, ◌-◌, Bool, true, false, List, [], ◌∷◌, length, slice_get, option_map, Option, Some, None}
 use Rattle.trace_types.specs.Operation.{Operation}
 use Rattle.run_engine.specs.SegmentView.{SegmentView}

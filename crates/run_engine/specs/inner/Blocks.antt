@@ -1,4 +1,4 @@
--- Segments of a run in blocks, over which something is laid (for private functions alone).
+-- Segments of a run in blocks, over which something is laid.
 use Rattle.std.specs.Prelude.{◌≡◌, ℕ, ◌≤◌, length, take, drop, Bool, List, [], ◌∷◌, Option, Some, None, IfSome}
 use Rattle.std.specs.List.{AllByRecursion}
 use Rattle.ownership_model.specs.State.{State, IsSound}
@@ -7,9 +7,9 @@ use Rattle.agreement.specs.Laid.{with_laid}
 use Rattle.trace_types.specs.declared.limits.TheConstants.{MAX_OPS}
 use Rattle.run_engine.specs.SegmentView.{SegmentView}
 use Rattle.run_engine.specs.Segments.{trace_of}
-use Rattle.run_engine.specs.Parts.{AreBetween}
-use Rattle.run_engine.specs.Cleared.{cleared_if}
-use Rattle.run_engine.specs.Exchanged.{exchanged}
+use Rattle.run_engine.specs.inner.Parts.{AreBetween}
+use Rattle.run_engine.specs.inner.Cleared.{cleared_if}
+use Rattle.run_engine.specs.inner.Exchanged.{exchanged}
 
 -- the segments, without the checkpoints that are given up
 abbrev pub left : List Bool → List SegmentView → List SegmentView

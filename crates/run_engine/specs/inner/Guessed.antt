@@ -1,4 +1,4 @@
--- A guess that serves a replay (for private functions alone).
+-- A guess that serves a replay.
 use Rattle.std.specs.Prelude.{◌≡◌, ℕ, ◌-◌, ◌<◌, ◌≤◌, List, length, take, drop}
 use Rattle.trace_types.specs.Operation.{Operation}
 use Rattle.ownership_model.specs.State.{State}

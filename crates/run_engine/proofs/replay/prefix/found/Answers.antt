@@ -1,6 +1,6 @@
 use Rattle.mark_shelf.specs.Shelf.{name_of}
 use Rattle.run_engine.proofs.MemoLemmas.{IsAmong-found, IsSearched-found}
-use Rattle.run_engine.proofs.replay.piece.found.Goals as goal
+use Rattle.run_engine.proofs.replay.prefix.found.Goals as goal
 
 pub returns-clause-there : goal.returns-clause-there
 returns-clause-there c =

@@ -1,4 +1,4 @@
--- Segments of an old run with the remains of two replays exchanged (for private functions alone).
+-- Segments of an old run with the remains of two replays exchanged.
 use Rattle.std.specs.Prelude.{List, [], IfSome, option_map}
 use Rattle.std.specs.List.{AllByRecursion}
 use Rattle.ownership_model.specs.State.{State, IsSound}

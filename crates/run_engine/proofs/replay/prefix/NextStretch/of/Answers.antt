@@ -1,6 +1,6 @@
 use Rattle.std.proofs.Common.{refl}
 use Rattle.run_engine.proofs.PieceLemmas.{IsPiece-one}
-use Rattle.run_engine.proofs.replay.piece.Next.of.Goals as goal
+use Rattle.run_engine.proofs.replay.prefix.NextStretch.of.Goals as goal
 
 pub returns-clause-piece : goal.returns-clause-piece
 returns-clause-piece c =

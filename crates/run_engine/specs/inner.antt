@@ -1,0 +1,20 @@
+-- What only this crate speaks of: no clause of a function that it hands out names any of it.
+pub mod Sources
+pub mod Parts
+pub mod Spans
+pub mod ListingView
+pub mod Exchanged
+pub mod Blocks
+pub mod Onward
+pub mod GoesOn
+pub mod FreshChunks
+pub mod Origins
+pub mod Placed
+pub mod Cleared
+pub mod Loaded
+pub mod Revision
+pub mod RevisionProps
+pub mod OldRun
+pub mod Divergence
+pub mod Guessed
+pub mod Shifts
