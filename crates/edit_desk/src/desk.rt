@@ -69,7 +69,10 @@ impl Desk {
     /// for which the shelf has no room.
     pub fn open(alloc: Global, trace: Trace) -> Result<Desk, AllocError>
         ensures standing { IfOk result (λ d. d.standing ≡ opened trace) }
-        ensures marks { IfOk result (λ d. let all : RunView = record { trace = trace; marks = load_marks (length trace) } in IsTouched all (record { trace = trace; marks = d.marks }) (empty_shelf KEPT_MARKS KEPT_CHUNKS KEPT_NAMES) d.shelf (names_at trace all.marks)) }
+        ensures marks { IfOk result
+            (λ d. let all : RunView = record { trace = trace; marks = load_marks (length trace) }
+            in IsTouched all (record { trace = trace; marks = d.marks })
+            (empty_shelf KEPT_MARKS KEPT_CHUNKS KEPT_NAMES) d.shelf (names_at trace all.marks)) }
         ensures meter { IfOk result (λ d. d.meter ≡ raised 0 (length trace)) }
     {
         let mut meter = Meter::new();
@@ -142,19 +145,35 @@ impl Desk {
     ) -> Result<Reply, AllocError>
         ensures reply { IfOk result (λ r. r ≡ reply_to self.old.standing request) }
         // A full history is told without memory.
-        ensures history_full { MAX_ENTRIES ≤ length self.old.standing.history → result ≡ Ok HistoryFull }
+        ensures history_full { MAX_ENTRIES ≤ length self.old.standing.history →
+            result ≡ Ok HistoryFull }
         ensures after { OnOk result (self.new.standing ≡ after self.old.standing session request) }
         ensures unchanged { OnErr result (self.new.standing ≡ self.old.standing) }
-        ensures run { OnOk result (let next : RunView = record { trace = self.new.standing.trace; marks = self.new.marks } in IsNextRun guesses.items self.old.standing.trace self.old.marks next self.old.shelf self.new.shelf) }
+        ensures run { OnOk result
+            (let next : RunView = record { trace = self.new.standing.trace; marks = self.new.marks }
+            in IsNextRun guesses.items self.old.standing.trace self.old.marks next self.old.shelf
+            self.new.shelf) }
         ensures same_run { OnErr result (self.new.marks ≡ self.old.marks) }
-        ensures bound { length self.old.standing.history < MAX_ENTRIES → request.base ≡ self.old.standing.version → ReplaysWithin self.old.standing.trace self.old.marks request.batch self.old.meter self.new.meter }
-        ensures stepped { OnOk result (length self.old.standing.history < MAX_ENTRIES → request.base ≡ self.old.standing.version → StepsAtLeast self.old.standing.trace self.old.marks (with_guesses guesses.items self.old.shelf.chunks) request.batch self.old.meter self.new.meter) }
-        ensures full { MAX_ENTRIES ≤ length self.old.standing.history → self.new.meter ≡ self.old.meter }
-        ensures full_shelf { MAX_ENTRIES ≤ length self.old.standing.history → self.new.shelf ≡ self.old.shelf }
+        ensures bound { length self.old.standing.history < MAX_ENTRIES →
+            request.base ≡ self.old.standing.version →
+            ReplaysWithin self.old.standing.trace self.old.marks request.batch self.old.meter
+            self.new.meter }
+        ensures stepped { OnOk result (length self.old.standing.history < MAX_ENTRIES →
+            request.base ≡ self.old.standing.version →
+            StepsAtLeast self.old.standing.trace self.old.marks
+            (with_guesses guesses.items self.old.shelf.chunks) request.batch self.old.meter
+            self.new.meter) }
+        ensures full { MAX_ENTRIES ≤ length self.old.standing.history →
+            self.new.meter ≡ self.old.meter }
+        ensures full_shelf { MAX_ENTRIES ≤ length self.old.standing.history →
+            self.new.shelf ≡ self.old.shelf }
         ensures stale { request.base ≢ self.old.standing.version → self.new.meter ≡ self.old.meter }
-        ensures refused { IsErr (edited_by self.old.standing.trace request.batch) → self.new.meter ≡ self.old.meter }
-        ensures stale_shelf { request.base ≢ self.old.standing.version → self.new.shelf ≡ self.old.shelf }
-        ensures refused_shelf { IsErr (edited_by self.old.standing.trace request.batch) → self.new.shelf ≡ self.old.shelf }
+        ensures refused { IsErr (edited_by self.old.standing.trace request.batch) →
+            self.new.meter ≡ self.old.meter }
+        ensures stale_shelf { request.base ≢ self.old.standing.version →
+            self.new.shelf ≡ self.old.shelf }
+        ensures refused_shelf { IsErr (edited_by self.old.standing.trace request.batch) →
+            self.new.shelf ≡ self.old.shelf }
         ensures never_less { self.old.meter ≤ self.new.meter }
     {
         if self.history.len() >= MAX_ENTRIES {
@@ -176,19 +195,33 @@ impl Desk {
     ) -> Result<Prepared, AllocError>
         requires { length self.old.standing.history < MAX_ENTRIES }
         ensures due { IfOk result (λ p. IsDue self.old.standing p) }
-        ensures request { IfOk result (λ p. (p.entry.session ≡ session) × (p.entry.request ≡ request)) }
-        ensures history { IfOk result (λ p. (after self.old.standing p.entry.session p.entry.request).history ≡ self.old.standing.history ++ p.entry ∷ []) }
-        ensures legal { IfOk result (λ p. IsLegal (after self.old.standing p.entry.session p.entry.request)) }
-        ensures run { IfOk result (λ p. IsNextRun guesses.items self.old.standing.trace self.old.marks p.next.run self.old.shelf self.new.shelf) }
+        ensures request { IfOk result
+            (λ p. (p.entry.session ≡ session) × (p.entry.request ≡ request)) }
+        ensures history { IfOk result
+            (λ p. (after self.old.standing p.entry.session p.entry.request).history
+            ≡ self.old.standing.history ++ p.entry ∷ []) }
+        ensures legal { IfOk result
+            (λ p. IsLegal (after self.old.standing p.entry.session p.entry.request)) }
+        ensures run { IfOk result
+            (λ p. IsNextRun guesses.items self.old.standing.trace self.old.marks p.next.run
+            self.old.shelf self.new.shelf) }
         ensures room { OnOk result (0 < self.new.room) }
         ensures unchanged { self.new.standing ≡ self.old.standing }
         ensures same_run { self.new.marks ≡ self.old.marks }
-        ensures bound { request.base ≡ self.old.standing.version → ReplaysWithin self.old.standing.trace self.old.marks request.batch self.old.meter self.new.meter }
-        ensures stepped { OnOk result (request.base ≡ self.old.standing.version → StepsAtLeast self.old.standing.trace self.old.marks (with_guesses guesses.items self.old.shelf.chunks) request.batch self.old.meter self.new.meter) }
+        ensures bound { request.base ≡ self.old.standing.version →
+            ReplaysWithin self.old.standing.trace self.old.marks request.batch self.old.meter
+            self.new.meter }
+        ensures stepped { OnOk result (request.base ≡ self.old.standing.version →
+            StepsAtLeast self.old.standing.trace self.old.marks
+            (with_guesses guesses.items self.old.shelf.chunks) request.batch self.old.meter
+            self.new.meter) }
         ensures stale { request.base ≢ self.old.standing.version → self.new.meter ≡ self.old.meter }
-        ensures refused { IsErr (edited_by self.old.standing.trace request.batch) → self.new.meter ≡ self.old.meter }
-        ensures stale_shelf { request.base ≢ self.old.standing.version → self.new.shelf ≡ self.old.shelf }
-        ensures refused_shelf { IsErr (edited_by self.old.standing.trace request.batch) → self.new.shelf ≡ self.old.shelf }
+        ensures refused { IsErr (edited_by self.old.standing.trace request.batch) →
+            self.new.meter ≡ self.old.meter }
+        ensures stale_shelf { request.base ≢ self.old.standing.version →
+            self.new.shelf ≡ self.old.shelf }
+        ensures refused_shelf { IsErr (edited_by self.old.standing.trace request.batch) →
+            self.new.shelf ≡ self.old.shelf }
         ensures never_less { self.old.meter ≤ self.new.meter }
     {
         let (reply, next) = settle(
@@ -215,8 +248,10 @@ impl Desk {
         requires room { 0 < self.old.room }
         requires due { IsDue self.old.standing prepared }
         ensures reply { result ≡ prepared.entry.reply }
-        ensures after { self.new.standing ≡ after self.old.standing prepared.entry.session prepared.entry.request }
-        ensures history { self.new.standing.history ≡ self.old.standing.history ++ prepared.entry ∷ [] }
+        ensures after { self.new.standing
+            ≡ after self.old.standing prepared.entry.session prepared.entry.request }
+        ensures history { self.new.standing.history ≡ self.old.standing.history
+            ++ prepared.entry ∷ [] }
         ensures marks { self.new.marks ≡ prepared.next.run.marks }
         ensures shelf { self.new.shelf ≡ self.old.shelf }
         ensures meter { self.new.meter ≡ self.old.meter }
@@ -240,13 +275,21 @@ fn settle(
 ) -> Result<(Reply, Published), AllocError>
     requires { published.now.version < MAX_ENTRIES }
     ensures settled { IfOk result (λ r. IsSettled published.now request.now r.0 r.1) }
-    ensures run { IfOk result (λ r. IsNextRun guesses.items published.now.run.trace published.now.run.marks r.1.run shelf.old shelf.new) }
-    ensures bound { request.now.base ≡ published.now.version → ReplaysWithin published.now.run.trace published.now.run.marks request.now.batch meter.old meter.new }
-    ensures stepped { OnOk result (request.now.base ≡ published.now.version → StepsAtLeast published.now.run.trace published.now.run.marks (with_guesses guesses.items shelf.old.chunks) request.now.batch meter.old meter.new) }
+    ensures run { IfOk result
+        (λ r. IsNextRun guesses.items published.now.run.trace published.now.run.marks r.1.run
+        shelf.old shelf.new) }
+    ensures bound { request.now.base ≡ published.now.version →
+        ReplaysWithin published.now.run.trace published.now.run.marks request.now.batch meter.old
+        meter.new }
+    ensures stepped { OnOk result (request.now.base ≡ published.now.version →
+        StepsAtLeast published.now.run.trace published.now.run.marks
+        (with_guesses guesses.items shelf.old.chunks) request.now.batch meter.old meter.new) }
     ensures stale { request.now.base ≢ published.now.version → meter.new ≡ meter.old }
-    ensures refused { IsErr (edited_by published.now.run.trace request.now.batch) → meter.new ≡ meter.old }
+    ensures refused { IsErr (edited_by published.now.run.trace request.now.batch) →
+        meter.new ≡ meter.old }
     ensures stale_shelf { request.now.base ≢ published.now.version → shelf.new ≡ shelf.old }
-    ensures refused_shelf { IsErr (edited_by published.now.run.trace request.now.batch) → shelf.new ≡ shelf.old }
+    ensures refused_shelf { IsErr (edited_by published.now.run.trace request.now.batch) →
+        shelf.new ≡ shelf.old }
     ensures never_less { meter.old ≤ meter.new }
 {
     let version = published.version();

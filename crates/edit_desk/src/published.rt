@@ -81,14 +81,19 @@ pub(crate) fn revised(
     meter: &mut Meter,
 ) -> Result<Run, RunFault>
     ensures trace { IfOk result (λ r. edited_by published.now.run.trace batch.now ≡ Ok r.trace) }
-    ensures marks { IfOk result (λ r. AreMarksKept guesses.items published.now.run r shelf.old shelf.new) }
+    ensures marks { IfOk result
+        (λ r. AreMarksKept guesses.items published.now.run r shelf.old shelf.new) }
     ensures fault { IfErr result (IsFaultOf (edited_by published.now.run.trace batch.now)) }
     ensures empty { length batch.now ≡ 0 → result ≡ Err EmptyBatch }
     ensures too_many { MAX_EDITS < length batch.now → result ≡ Err TooManyEdits }
-    ensures bound { ReplaysWithin published.now.run.trace published.now.run.marks batch.now meter.old meter.new }
-    ensures stepped { IfOk result (λ r. AreSteppedFrom published.now.run.trace r.trace published.now.run.marks (with_guesses guesses.items shelf.old.chunks) meter.old meter.new) }
+    ensures bound { ReplaysWithin published.now.run.trace published.now.run.marks batch.now
+        meter.old meter.new }
+    ensures stepped { IfOk result
+        (λ r. AreSteppedFrom published.now.run.trace r.trace published.now.run.marks
+        (with_guesses guesses.items shelf.old.chunks) meter.old meter.new) }
     ensures refused { IsErr (edited_by published.now.run.trace batch.now) → meter.new ≡ meter.old }
-    ensures refused_shelf { IsErr (edited_by published.now.run.trace batch.now) → shelf.new ≡ shelf.old }
+    ensures refused_shelf { IsErr (edited_by published.now.run.trace batch.now) →
+        shelf.new ≡ shelf.old }
     ensures never_less { meter.old ≤ meter.new }
 {
     published.run.edited(alloc, batch, guesses, shelf, meter)
@@ -103,12 +108,17 @@ pub fn what_if(
     meter: &mut Meter,
 ) -> Result<Run, RunFault>
     ensures trace { IfOk result (λ r. edited_by published.now.run.trace batch.now ≡ Ok r.trace) }
-    ensures marks { IfOk result (λ r. (after : Shelf) × AreMarksKept [] published.now.run r (empty_shelf KEPT_MARKS 1 1) after) }
+    ensures marks { IfOk result
+        (λ r. (after : Shelf) × AreMarksKept [] published.now.run r
+        (empty_shelf KEPT_MARKS 1 1) after) }
     ensures fault { IfErr result (IsFaultOf (edited_by published.now.run.trace batch.now)) }
     ensures empty { length batch.now ≡ 0 → result ≡ Err EmptyBatch }
     ensures too_many { MAX_EDITS < length batch.now → result ≡ Err TooManyEdits }
-    ensures bound { ReplaysWithin published.now.run.trace published.now.run.marks batch.now meter.old meter.new }
-    ensures stepped { IfOk result (λ r. AreSteppedFrom published.now.run.trace r.trace published.now.run.marks [] meter.old meter.new) }
+    ensures bound { ReplaysWithin published.now.run.trace published.now.run.marks batch.now
+        meter.old meter.new }
+    ensures stepped { IfOk result
+        (λ r. AreSteppedFrom published.now.run.trace r.trace published.now.run.marks [] meter.old
+        meter.new) }
     ensures refused { IsErr (edited_by published.now.run.trace batch.now) → meter.new ≡ meter.old }
     ensures never_less { meter.old ≤ meter.new }
 {

@@ -20,7 +20,8 @@ pub enum Reply {
 
 /// Adds the line of a reply, with its newline.
 pub fn push_reply(text: &mut String, reply: Reply) -> Result<(), AllocError>
-    ensures { OnOk result (string_bytes text.new ≡ string_bytes text.old ++ reply_text reply ++ 10 ∷ []) }
+    ensures { OnOk result
+        (string_bytes text.new ≡ string_bytes text.old ++ reply_text reply ++ 10 ∷ []) }
 {
     match reply {
         Reply::Accepted(version) => write!(text, "accepted {version}\n"),
@@ -31,7 +32,9 @@ pub fn push_reply(text: &mut String, reply: Reply) -> Result<(), AllocError>
 }
 
 fn push_refusal(text: &mut String, why: Refusal) -> Result<(), AllocError>
-    ensures { OnOk result (string_bytes text.new ≡ string_bytes text.old ++ reply_text (Reply.Refused why) ++ 10 ∷ []) }
+    ensures { OnOk result
+        (string_bytes text.new ≡ string_bytes text.old ++ reply_text (Reply.Refused why)
+        ++ 10 ∷ []) }
 {
     let cause = cause_str(why);
     let edit = edit_of(why);

@@ -80,10 +80,13 @@ impl CountedDesk {
         guesses: Vec<ChunkRun>,
     ) -> Result<Prepared, AllocError>
         requires room { length self.old.history < MAX_ENTRIES }
-        ensures same { (self.new.history ≡ self.old.history) × (self.new.opening ≡ self.old.opening) }
+        ensures same { (self.new.history ≡ self.old.history)
+            × (self.new.opening ≡ self.old.opening) }
         ensures due { IfOk result (λ p. IsDue (standing_of self.old.opening self.old.history) p) }
-        ensures follows { IfOk result (λ p. Follows self.old.opening self.old.history p.entry p.next) }
-        ensures request { IfOk result (λ p. (p.entry.session ≡ session) × (p.entry.request ≡ request)) }
+        ensures follows { IfOk result
+            (λ p. Follows self.old.opening self.old.history p.entry p.next) }
+        ensures request { IfOk result
+            (λ p. (p.entry.session ≡ session) × (p.entry.request ≡ request)) }
         ensures stored { IfOk result (λ p. is_full p.entry.reply ≡ false) }
         ensures room { OnOk result (0 < self.new.room) }
     {
@@ -98,7 +101,8 @@ impl CountedDesk {
         requires history { length self.old.history < MAX_ENTRIES }
         requires room { 0 < self.old.room }
         ensures reply { result ≡ prepared.entry.reply }
-        ensures after { (self.new.history ≡ self.old.history ++ prepared.entry ∷ []) × (self.new.opening ≡ self.old.opening) }
+        ensures after { (self.new.history ≡ self.old.history ++ prepared.entry ∷ [])
+            × (self.new.opening ≡ self.old.opening) }
     {
         let _opening = self.desk.opening();
         let session = prepared.entry().session as usize;
@@ -109,7 +113,8 @@ impl CountedDesk {
 
     /// The desk alone.
     pub fn into_desk(self) -> Desk
-        ensures value { (result.standing.history ≡ self.history) × (result.standing.opening ≡ self.opening) }
+        ensures value { (result.standing.history ≡ self.history)
+            × (result.standing.opening ≡ self.opening) }
         ensures legal { IsLegal result.standing }
     {
         let _opening = self.desk.opening();

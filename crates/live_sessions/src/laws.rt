@@ -6,7 +6,8 @@ use edit_desk::Desk;
 
 /// The trace that stands is the one after the desk's history, each reply of which was the one that was due.
 pub fn stands_after(desk: &Desk)
-    ensures trace { desk.now.standing.trace ≡ trace_after desk.now.standing.opening desk.now.standing.history }
+    ensures trace { desk.now.standing.trace
+        ≡ trace_after desk.now.standing.opening desk.now.standing.history }
     ensures legal { IsFront desk.now.standing.opening desk.now.standing.history }
 {
     let _opening = desk.opening();

@@ -47,7 +47,9 @@ impl Started {
     /// Opens a desk with this trace, and a book whose history is its opening.
     pub fn new(alloc: Global, trace: Trace) -> Result<Started, AllocError>
         ensures trace { IfOk result (λ s. s.desk.standing.opening ≡ trace) }
-        ensures fresh { IfOk result (λ s. (s.desk.standing.opening ≡ opening_of s.begun.seen.log) × (s.desk.standing.history ≡ [])) }
+        ensures fresh { IfOk result
+            (λ s. (s.desk.standing.opening ≡ opening_of s.begun.seen.log)
+            × (s.desk.standing.history ≡ [])) }
     {
         let desk = Desk::open(alloc, trace)?;
         let begun = Begun::new(desk.opening());
@@ -98,7 +100,8 @@ pub fn open<J: Naming, R: Wait + Drop>(
     requires workers { (1 ≤ workers) × (workers ≤ MAX_WORKERS) }
     requires book { started.begun.seen.book ≡ J.book }
     requires opening { opening_of started.begun.seen.log ≡ J.opening }
-    requires fresh { (started.desk.standing.opening ≡ J.opening) × (started.desk.standing.history ≡ []) }
+    requires fresh { (started.desk.standing.opening ≡ J.opening)
+        × (started.desk.standing.history ≡ []) }
 {
     let Started { begun, desk } = started;
     let desk = CountedDesk::new(desk);
@@ -194,7 +197,8 @@ impl<J: Naming, W: Publisher<Value = Shown<J>>> Live<J, W> {
 
     /// The desk, whose history begins with the front of each receipt.
     pub fn close(self, receipts: Vec<Receipt<J>>) -> Result<Desk, NoMeeting>
-        ensures begun { IfOk result (λ d. All (λ r. IsPrefix r.front d.standing.history) receipts.items) }
+        ensures begun { IfOk result
+            (λ d. All (λ r. IsPrefix r.front d.standing.history) receipts.items) }
         ensures opening { IfOk result (λ d. d.standing.opening ≡ J.opening) }
         ensures legal { IfOk result (λ d. IsLegal d.standing) }
     {

@@ -68,7 +68,9 @@ impl<J: Naming, W: Publisher<Value = Shown<J>>> LockedDesk<J, W> {
         request: Request,
         guesses: Vec<ChunkRun>,
     ) -> Result<Reply, SubmitFault>
-        ensures reply { IfOk result (λ r. Replied J.opening pass.old pass.new request r × Grown self.old self.new pass.old.session request r) }
+        ensures reply { IfOk result
+            (λ r. Replied J.opening pass.old pass.new request r
+            × Grown self.old self.new pass.old.session request r) }
         ensures err { OnErr result ((self.new ≡ self.old) × (pass.new ≡ pass.old)) }
     {
         match self.turn(pass) {
@@ -134,7 +136,9 @@ impl<J: Naming, W: Publisher<Value = Shown<J>>> LockedDesk<J, W> {
     ) -> Result<Reply, SubmitFault>
         requires met { HasMet pass.old self.old }
         requires room { length self.old < MAX_ENTRIES }
-        ensures reply { IfOk result (λ r. Replied J.opening pass.old pass.new request r × Grown self.old self.new pass.old.session request r) }
+        ensures reply { IfOk result
+            (λ r. Replied J.opening pass.old pass.new request r
+            × Grown self.old self.new pass.old.session request r) }
         ensures err { OnErr result ((self.new ≡ self.old) × (pass.new ≡ pass.old)) }
     {
         let session = pass.session();

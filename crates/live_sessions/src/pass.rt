@@ -89,7 +89,8 @@ impl<J: Naming> Pass<J> {
     /// Sees what stands, if it can.
     pub fn look(&mut self)
         ensures front { IsPrefix self.old.front self.new.front }
-        ensures same { (self.new.session ≡ self.old.session) × (self.new.answered ≡ self.old.answered) }
+        ensures same { (self.new.session ≡ self.old.session)
+            × (self.new.answered ≡ self.old.answered) }
     {
         let Some(shown) = self.reader.enter() else {
             return;
@@ -131,7 +132,8 @@ impl<J: Naming> Pass<J> {
     pub(crate) fn adopt(&mut self, front: Front<J>, last: Published, answered: u32)
         requires run { IsAfter J.opening last front }
         requires own { answered ≤ count_of self.old.session front }
-        ensures { (self.new.front ≡ front) × (self.new.session ≡ self.old.session) × (self.new.answered ≡ answered) }
+        ensures { (self.new.front ≡ front) × (self.new.session ≡ self.old.session)
+            × (self.new.answered ≡ answered) }
     {
         // It makes known that the front is legal.
         let _len = front.len();

@@ -59,7 +59,8 @@ impl<J: Naming> Places<J> {
 
     // The lowest place that has a pass.
     fn lowest(&self) -> Option<usize>
-        ensures { MatchOption result (All (λ place. place ≡ None) self.now) (λ at. IsFirst self.now at) }
+        ensures { MatchOption result
+            (All (λ place. place ≡ None) self.now) (λ at. IsFirst self.now at) }
     {
         for at in 0..self.passes.len() {
             if self.passes[at].is_some() {

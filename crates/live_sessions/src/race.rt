@@ -31,7 +31,9 @@ pub fn race<
     S: Threads + Wait + Sync,
 >(rt: &S, alloc: Global, live: Live<J, W>, requests: Vec<Sequence<Request>>) -> Option<Desk>
     requires { vec_len requests ≡ PLACES }
-    ensures asked { IfSome result (λ d. (s : ℕ) → AreAsked (slice_index_or requests.items s []) (asked_by s d.standing.history) (length d.standing.history)) }
+    ensures asked { IfSome result (λ d. (s : ℕ) →
+        AreAsked (slice_index_or requests.items s []) (asked_by s d.standing.history)
+        (length d.standing.history)) }
     ensures opening { IfSome result (λ d. d.standing.opening ≡ J.opening) }
     ensures legal { IfSome result (λ d. IsLegal d.standing × IsFront J.opening d.standing.history) }
 {

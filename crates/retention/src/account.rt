@@ -41,7 +41,8 @@ impl Accounts {
     pub fn of(alloc: Global, end: &Ending, losses: &[Loss]) -> Result<Accounts, AllocError>
         requires { IsEnding end.now }
         ensures accounts { IfOk result (λ a. AreAccounts end.now a) }
-        ensures dated { IfOk result (λ a. AreDated end.now.graph end.now.leaked.items losses.now a.since.items) }
+        ensures dated { IfOk result
+            (λ a. AreDated end.now.graph end.now.leaked.items losses.now a.since.items) }
     {
         let graph = &end.graph;
         let from_cycles = end.cycles.walk_from(alloc, graph)?;
@@ -75,7 +76,9 @@ impl Accounts {
         requires ending { IsEnding end.now }
         requires accounts { AreAccounts end.now self.old }
         requires there { index < size end.now.graph }
-        ensures account { IfOk result (λ a. IsAccountAt end.now self.old.from_cycles.steps.items (date_at self.old.since.items index) index a) }
+        ensures account { IfOk result
+            (λ a. IsAccountAt end.now self.old.from_cycles.steps.items
+            (date_at self.old.since.items index) index a) }
         ensures accounts { OnOk result (AreAccounts end.now self.new) }
         ensures since { OnOk result (self.new.since ≡ self.old.since) }
     {
@@ -113,7 +116,8 @@ fn holders(
 }
 
 fn push_such(holders: &mut Vec<Held>, held: Held, weakly: bool) -> Result<(), AllocError>
-    ensures { OnOk result (holders.new.items ≡ holders.old.items ++ (if definition.is_such weakly held.slot then held ∷ [] else [])) }
+    ensures { OnOk result (holders.new.items ≡ holders.old.items
+        ++ (if definition.is_such weakly held.slot then held ∷ [] else [])) }
 {
     if is_such(held.slot, weakly) {
         holders.push(held)?;
@@ -141,11 +145,13 @@ fn why(
     index: usize,
 ) -> Result<Why, AllocError>
     requires ending { IsEnding end.now }
-    requires cycles { IsWalkFrom end.now.graph (is_field_of end.now.graph end.now.cycles.marks.items) from_cycles.now }
+    requires cycles { IsWalkFrom end.now.graph
+        (is_field_of end.now.graph end.now.cycles.marks.items) from_cycles.now }
     requires own { IsFresh (size end.now.graph) own.old.steps.items own.old.came.items }
     requires there { index < size end.now.graph }
     ensures why { IfOk result (λ y. IsWhyAt end.now from_cycles.now.steps.items date index y) }
-    ensures own { OnOk result (IsFresh (size end.now.graph) own.new.steps.items own.new.came.items) }
+    ensures own { OnOk result
+        (IsFresh (size end.now.graph) own.new.steps.items own.new.came.items) }
 {
     if !end.graph.is_alive(index) {
         return Ok(Why::Husk);
@@ -167,7 +173,8 @@ fn reached(alloc: Global, end: &Ending, index: usize) -> Result<Why, AllocError>
     requires there { index < size end.now.graph }
     requires alive { alive_at end.now.graph index ≡ true }
     requires kept { is_marked end.now.leaked.items index ≡ false }
-    ensures { IfOk result (λ y. (came : List Step) (date : Option ℕ) → IsWhyAt end.now came date index y) }
+    ensures { IfOk result (λ y. (came : List Step) (date : Option ℕ) →
+        IsWhyAt end.now came date index y) }
 {
     let way = way(alloc, &end.graph, &end.from_roots, index)?;
     Ok(Why::Reached(way))
@@ -185,7 +192,8 @@ fn in_cycle(
     requires there { index < size end.now.graph }
     requires cyclic { IsCyclic end.now.graph end.now.leaked.items index }
     ensures why { IfOk result (λ y. (came : List Step) → IsWhyAt end.now came date index y) }
-    ensures own { OnOk result (IsFresh (size end.now.graph) own.new.steps.items own.new.came.items) }
+    ensures own { OnOk result
+        (IsFresh (size end.now.graph) own.new.steps.items own.new.came.items) }
 {
     let parts = end.cycles.parts();
     let since = date.unwrap_or(0);
@@ -202,7 +210,8 @@ fn under(
     date: Option<u32>,
     index: usize,
 ) -> Result<Why, AllocError>
-    requires cycles { IsWalkFrom end.now.graph (is_field_of end.now.graph end.now.cycles.marks.items) from_cycles.now }
+    requires cycles { IsWalkFrom end.now.graph
+        (is_field_of end.now.graph end.now.cycles.marks.items) from_cycles.now }
     requires there { index < size end.now.graph }
     requires leaked { is_marked end.now.leaked.items index ≡ true }
     requires apart { IsCyclic end.now.graph end.now.leaked.items index → ⊥ }
@@ -217,7 +226,8 @@ fn under(
 fn way(alloc: Global, graph: &Graph, walk: &Walk, index: usize) -> Result<Vec<Held>, AllocError>
     requires walked { (from : ℕ → Bool) × IsWalkFrom graph.now from walk.now }
     requires there { index < size graph.now }
-    ensures { IfOk result (λ v. (from : ℕ → Bool) → IsWalkFrom graph.now from walk.now → has_come walk.now.steps.items index ≡ true → IsToldWay graph.now from index v.items) }
+    ensures { IfOk result (λ v. (from : ℕ → Bool) → IsWalkFrom graph.now from walk.now →
+        has_come walk.now.steps.items index ≡ true → IsToldWay graph.now from index v.items) }
 {
     if !walk.is_seen(index) {
         return Ok(Vec::new(alloc));
@@ -235,7 +245,8 @@ fn retains(
     requires ready { IsReady graph.now retained.old.missing.items retained.old.passed.items }
     requires there { index < size graph.now }
     ensures retained { IfOk result (λ count. RetainsAt graph.now index count) }
-    ensures ready { OnOk result (IsReady graph.now retained.new.missing.items retained.new.passed.items) }
+    ensures ready { OnOk result
+        (IsReady graph.now retained.new.missing.items retained.new.passed.items) }
 {
     if !graph.is_alive(index) {
         return Ok(None);

@@ -21,7 +21,8 @@ pub fn root_places(alloc: Global, graph: &Graph) -> Result<Vec<usize>, AllocErro
 /// The fields of the objects that are marked.
 pub fn marked_fields(alloc: Global, graph: &Graph, marks: &[bool]) -> Result<Vec<usize>, AllocError>
     requires { length marks.now ≡ size graph.now }
-    ensures { IfOk result (λ v. v.items ≡ filter (is_field_of graph.now marks.now) (upto (places graph.now))) }
+    ensures { IfOk result (λ v.
+        v.items ≡ filter (is_field_of graph.now marks.now) (upto (places graph.now))) }
 {
     let mut begins = Vec::new(alloc);
     for place in 0..graph.places() {
@@ -47,7 +48,9 @@ fn is_marked(graph: &Graph, marks: &[bool], place: usize) -> bool
 /// The fields of an object.
 pub fn field_places(alloc: Global, graph: &Graph, index: usize) -> Result<Vec<usize>, AllocError>
     requires { index < size graph.now }
-    ensures { IfOk result (λ v. v.items ≡ range_with_len (start_at graph.now index) (start_at graph.now (index + 1) - start_at graph.now index)) }
+    ensures { IfOk result (λ v.
+        v.items ≡ range_with_len (start_at graph.now index)
+        (start_at graph.now (index + 1) - start_at graph.now index)) }
 {
     let fields = graph.fields(index);
     let mut begins = Vec::new(alloc);

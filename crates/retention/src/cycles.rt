@@ -81,7 +81,8 @@ impl Cycles {
     /// A walk from the fields of all objects in cycles.
     pub fn walk_from(&self, alloc: Global, graph: &Graph) -> Result<Walk, AllocError>
         requires { vec_len self.now.marks ≡ size graph.now }
-        ensures { IfOk result (λ w. IsWalkFrom graph.now (is_field_of graph.now self.now.marks.items) w) }
+        ensures { IfOk result (λ w.
+            IsWalkFrom graph.now (is_field_of graph.now self.now.marks.items) w) }
     {
         Walk::from_fields(alloc, graph, &self.marks)
     }
@@ -90,7 +91,8 @@ impl Cycles {
 fn sizes_of(alloc: Global, parts: &[usize]) -> Result<Vec<usize>, AllocError>
     requires { (i : ℕ) → i < length parts.now → slice_index parts.now i < length parts.now }
     ensures long { IfOk result (λ v. length v.items ≡ length parts.now) }
-    ensures each { IfOk result (λ v. (i : ℕ) → i < length parts.now → slice_index v.items i ≡ size_of parts.now i) }
+    ensures each { IfOk result
+        (λ v. (i : ℕ) → i < length parts.now → slice_index v.items i ≡ size_of parts.now i) }
 {
     let mut sizes = zeros(alloc, parts.len())?;
     for part in parts {
@@ -109,7 +111,8 @@ fn marks_of(
     requires long { length leaked.now ≡ size graph.now }
     requires parts { AreParts graph.now parts.now }
     ensures long { IfOk result (λ v. vec_len v ≡ size graph.now) }
-    ensures each { IfOk result (λ v. (i : ℕ) → i < size graph.now → (slice_index_or v.items i false ≡ true) ↔ IsCyclic graph.now leaked.now i) }
+    ensures each { IfOk result (λ v. (i : ℕ) → i < size graph.now →
+        (slice_index_or v.items i false ≡ true) ↔ IsCyclic graph.now leaked.now i) }
 {
     let mut marks = Vec::with_capacity(alloc, graph.len())?;
     for index in 0..graph.len() {
@@ -121,7 +124,8 @@ fn marks_of(
 // The least object of each component that is a cycle.
 fn least_in_cycles(alloc: Global, parts: &[usize], marks: &[bool]) -> Result<Vec<usize>, AllocError>
     requires { length marks.now ≡ length parts.now }
-    ensures { IfOk result (λ v. v.items ≡ filter (is_least_of parts.now marks.now) (upto (length parts.now))) }
+    ensures { IfOk result (λ v.
+        v.items ≡ filter (is_least_of parts.now marks.now) (upto (length parts.now))) }
 {
     let mut least = Vec::new(alloc);
     for index in 0..parts.len() {

@@ -60,7 +60,9 @@ impl Dates {
         id: u32,
         moved: &mut Vec<Moved>,
     ) -> Result<(), AllocError>
-        ensures { OnOk result (Looks (λ p. is_looked_at p plan.now events.now) heap.now id self.old self.new moved.old.items moved.new.items) }
+        ensures { OnOk result
+            (Looks (λ p. is_looked_at p plan.now events.now) heap.now id self.old self.new
+            moved.old.items moved.new.items) }
     {
         self.follow_plan(heap, plan, id, moved)?;
         self.follow_events(heap, events, id, moved)
@@ -73,7 +75,9 @@ impl Dates {
         id: u32,
         moved: &mut Vec<Moved>,
     ) -> Result<(), AllocError>
-        ensures { OnOk result (Looks (λ p. is_set p plan.now) heap.now id self.old self.new moved.old.items moved.new.items) }
+        ensures { OnOk result
+            (Looks (λ p. is_set p plan.now) heap.now id self.old self.new moved.old.items
+            moved.new.items) }
     {
         match plan {
             Plan::Skip(_) => Ok(()),
@@ -88,7 +92,9 @@ impl Dates {
         id: u32,
         moved: &mut Vec<Moved>,
     ) -> Result<(), AllocError>
-        ensures { OnOk result (Looks (λ p. list_any (sets p) changes.now) heap.now id self.old self.new moved.old.items moved.new.items) }
+        ensures { OnOk result
+            (Looks (λ p. list_any (sets p) changes.now) heap.now id self.old self.new
+            moved.old.items moved.new.items) }
     {
         for change in changes {
             self.follow_change(heap, change, id, moved)?;
@@ -103,7 +109,9 @@ impl Dates {
         id: u32,
         moved: &mut Vec<Moved>,
     ) -> Result<(), AllocError>
-        ensures { OnOk result (Looks (λ p. list_any (tells p) events.now) heap.now id self.old self.new moved.old.items moved.new.items) }
+        ensures { OnOk result
+            (Looks (λ p. list_any (tells p) events.now) heap.now id self.old self.new
+            moved.old.items moved.new.items) }
     {
         for event in events {
             self.follow_event(heap, *event, id, moved)?;
@@ -118,7 +126,9 @@ impl Dates {
         id: u32,
         moved: &mut Vec<Moved>,
     ) -> Result<(), AllocError>
-        ensures { OnOk result (Looks (λ p. tells p event) heap.now id self.old self.new moved.old.items moved.new.items) }
+        ensures { OnOk result
+            (Looks (λ p. tells p event) heap.now id self.old self.new moved.old.items
+            moved.new.items) }
     {
         self.redate_object(heap, object_of(event), id, moved)
     }
@@ -130,7 +140,9 @@ impl Dates {
         id: u32,
         moved: &mut Vec<Moved>,
     ) -> Result<(), AllocError>
-        ensures { OnOk result (Looks (λ p. sets p change.now) heap.now id self.old self.new moved.old.items moved.new.items) }
+        ensures { OnOk result
+            (Looks (λ p. sets p change.now) heap.now id self.old self.new moved.old.items
+            moved.new.items) }
     {
         match change {
             Change::SetHandle(_, handle, _) | Change::EndHandle(handle) => {
@@ -153,7 +165,9 @@ impl Dates {
         id: u32,
         moved: &mut Vec<Moved>,
     ) -> Result<(), AllocError>
-        ensures { OnOk result (Looks (is_of_handle handle) heap.now id self.old self.new moved.old.items moved.new.items) }
+        ensures { OnOk result
+            (Looks (is_of_handle handle) heap.now id self.old self.new moved.old.items
+            moved.new.items) }
     {
         let slot = slot_held(heap, handle);
         let fields = fields_held(heap, handle);
@@ -181,7 +195,8 @@ impl Dates {
         id: u32,
         moved: &mut Vec<Moved>,
     ) -> Result<(), AllocError>
-        ensures { OnOk result (Looks (is_cell cell) heap.now id self.old self.new moved.old.items moved.new.items) }
+        ensures { OnOk result
+            (Looks (is_cell cell) heap.now id self.old self.new moved.old.items moved.new.items) }
     {
         let slot = heap.cell(cell);
         let old = self.take_cell(cell);
@@ -203,7 +218,9 @@ impl Dates {
         id: u32,
         moved: &mut Vec<Moved>,
     ) -> Result<(), AllocError>
-        ensures { OnOk result (Looks (is_of_object object) heap.now id self.old self.new moved.old.items moved.new.items) }
+        ensures { OnOk result
+            (Looks (is_of_object object) heap.now id self.old self.new moved.old.items
+            moved.new.items) }
     {
         let fields = fields_alive(heap, object);
         let old = self.take_object(object);
@@ -216,9 +233,12 @@ impl Dates {
     // What was kept of a handle, which it no longer is.
     fn take_handle(&mut self, handle: u32) -> DatedHolding
         ensures slot { result.slot ≡ dated_in (get nat_cmp self.old.handles handle) None }
-        ensures fields { (i : ℕ) → slice_get result.fields.slots.items i ≡ dated_in (get nat_cmp self.old.handles handle) (Some i) }
+        ensures fields { (i : ℕ) →
+            slice_get result.fields.slots.items i
+            ≡ dated_in (get nat_cmp self.old.handles handle) (Some i) }
         ensures gone { get nat_cmp self.new.handles handle ≡ None }
-        ensures others { (g : ℕ) → (handle == g) ≡ false → get nat_cmp self.new.handles g ≡ get nat_cmp self.old.handles g }
+        ensures others { (g : ℕ) → (handle == g) ≡ false →
+            get nat_cmp self.new.handles g ≡ get nat_cmp self.old.handles g }
         ensures cells { self.new.cells ≡ self.old.cells }
         ensures objects { self.new.objects ≡ self.old.objects }
     {
@@ -228,9 +248,14 @@ impl Dates {
     // Keeps what a handle of which nothing is kept holds, where it holds anything.
     fn keep_handle(&mut self, handle: u32, holding: DatedHolding) -> Result<(), AllocError>
         requires { get nat_cmp self.old.handles handle ≡ None }
-        ensures slot { OnOk result (dated_in (get nat_cmp self.new.handles handle) None ≡ holding.slot) }
-        ensures fields { OnOk result ((i : ℕ) → dated_in (get nat_cmp self.new.handles handle) (Some i) ≡ slice_get holding.fields.slots.items i) }
-        ensures others { OnOk result ((g : ℕ) → (handle == g) ≡ false → get nat_cmp self.new.handles g ≡ get nat_cmp self.old.handles g) }
+        ensures slot { OnOk result
+            (dated_in (get nat_cmp self.new.handles handle) None ≡ holding.slot) }
+        ensures fields { OnOk result
+            ((i : ℕ) → dated_in (get nat_cmp self.new.handles handle) (Some i)
+            ≡ slice_get holding.fields.slots.items i) }
+        ensures others { OnOk result
+            ((g : ℕ) → (handle == g) ≡ false →
+            get nat_cmp self.new.handles g ≡ get nat_cmp self.old.handles g) }
         ensures cells { self.new.cells ≡ self.old.cells }
         ensures objects { self.new.objects ≡ self.old.objects }
     {
@@ -244,7 +269,8 @@ impl Dates {
     fn take_cell(&mut self, cell: u32) -> Option<Dated>
         ensures dated { result ≡ get nat_cmp self.old.cells cell }
         ensures gone { get nat_cmp self.new.cells cell ≡ None }
-        ensures others { (d : ℕ) → (cell == d) ≡ false → get nat_cmp self.new.cells d ≡ get nat_cmp self.old.cells d }
+        ensures others { (d : ℕ) → (cell == d) ≡ false →
+            get nat_cmp self.new.cells d ≡ get nat_cmp self.old.cells d }
         ensures handles { self.new.handles ≡ self.old.handles }
         ensures objects { self.new.objects ≡ self.old.objects }
     {
@@ -255,7 +281,9 @@ impl Dates {
     fn keep_cell(&mut self, cell: u32, dated: Option<Dated>) -> Result<(), AllocError>
         requires { get nat_cmp self.old.cells cell ≡ None }
         ensures dated { OnOk result (get nat_cmp self.new.cells cell ≡ dated) }
-        ensures others { OnOk result ((d : ℕ) → (cell == d) ≡ false → get nat_cmp self.new.cells d ≡ get nat_cmp self.old.cells d) }
+        ensures others { OnOk result
+            ((d : ℕ) → (cell == d) ≡ false →
+            get nat_cmp self.new.cells d ≡ get nat_cmp self.old.cells d) }
         ensures handles { self.new.handles ≡ self.old.handles }
         ensures objects { self.new.objects ≡ self.old.objects }
     {
@@ -267,9 +295,11 @@ impl Dates {
 
     // What was kept of an object, which it no longer is.
     fn take_object(&mut self, object: u32) -> DatedFields
-        ensures fields { (i : ℕ) → slice_get result.slots.items i ≡ dated_field (get nat_cmp self.old.objects object) i }
+        ensures fields { (i : ℕ) →
+            slice_get result.slots.items i ≡ dated_field (get nat_cmp self.old.objects object) i }
         ensures gone { get nat_cmp self.new.objects object ≡ None }
-        ensures others { (q : ℕ) → (object == q) ≡ false → get nat_cmp self.new.objects q ≡ get nat_cmp self.old.objects q }
+        ensures others { (q : ℕ) → (object == q) ≡ false →
+            get nat_cmp self.new.objects q ≡ get nat_cmp self.old.objects q }
         ensures handles { self.new.handles ≡ self.old.handles }
         ensures cells { self.new.cells ≡ self.old.cells }
     {
@@ -279,8 +309,12 @@ impl Dates {
     // Keeps the fields of an object of which nothing is kept, where it has any.
     fn keep_object(&mut self, object: u32, fields: DatedFields) -> Result<(), AllocError>
         requires { get nat_cmp self.old.objects object ≡ None }
-        ensures fields { OnOk result ((i : ℕ) → dated_field (get nat_cmp self.new.objects object) i ≡ slice_get fields.slots.items i) }
-        ensures others { OnOk result ((q : ℕ) → (object == q) ≡ false → get nat_cmp self.new.objects q ≡ get nat_cmp self.old.objects q) }
+        ensures fields { OnOk result
+            ((i : ℕ) → dated_field (get nat_cmp self.new.objects object) i
+            ≡ slice_get fields.slots.items i) }
+        ensures others { OnOk result
+            ((q : ℕ) → (object == q) ≡ false →
+            get nat_cmp self.new.objects q ≡ get nat_cmp self.old.objects q) }
         ensures handles { self.new.handles ≡ self.old.handles }
         ensures cells { self.new.cells ≡ self.old.cells }
     {
@@ -336,7 +370,8 @@ fn slot_held(heap: &Heap, handle: u32) -> Option<Slot>
 
 // The fields of the value that a handle itself holds.
 fn fields_held(heap: &Heap, handle: u32) -> &[Slot]
-    ensures fields { (i : ℕ) → slice_get result.now i ≡ held_at (map.get heap.now.handles handle) (Some i) }
+    ensures fields { (i : ℕ) →
+        slice_get result.now i ≡ held_at (map.get heap.now.handles handle) (Some i) }
     ensures few { length result.now ≤ MAX_FIELDS }
 {
     match heap.holding(handle) {
@@ -347,7 +382,8 @@ fn fields_held(heap: &Heap, handle: u32) -> &[Slot]
 
 // The fields of an object whose value lives.
 fn fields_alive(heap: &Heap, object: u32) -> &[Slot]
-    ensures fields { (i : ℕ) → slice_get result.now i ≡ field_at (map.get heap.now.objects object) i }
+    ensures fields { (i : ℕ) →
+        slice_get result.now i ≡ field_at (map.get heap.now.objects object) i }
     ensures few { length result.now ≤ MAX_FIELDS }
 {
     heap.show_sound();
@@ -421,7 +457,9 @@ fn push_dated_fields(
     owner: Owner,
     fields: &DatedFields,
 ) -> Result<(), AllocError>
-    ensures { OnOk result (held.new.items ≡ held.old.items ++ held_fields (field_place owner) 0 fields.now.slots.items) }
+    ensures { OnOk result
+        (held.new.items ≡ held.old.items
+        ++ held_fields (field_place owner) 0 fields.now.slots.items) }
 {
     for i in 0..fields.slots.len() {
         push_dated(held, owner.field(i as u32), fields.slots.get(i).copied())?;

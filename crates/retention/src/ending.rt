@@ -45,7 +45,8 @@ impl Ending {
     /// How many objects leaked, how many cycles they form, and how many husks are left.
     pub fn totals(&self) -> Totals
         requires { IsEnding self.now }
-        ensures { (ops : List Operation) → IsEndOf ops self.now → AreTotals (end_from nothing_held ops) result }
+        ensures { (ops : List Operation) → IsEndOf ops self.now →
+            AreTotals (end_from nothing_held ops) result }
     {
         self.counted()
     }

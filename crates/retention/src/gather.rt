@@ -16,7 +16,9 @@ pub fn gather(
     requires long { vec_len marks.old ≡ size graph.now }
     requires within { All (λ i. i < size graph.now) members.old.items }
     requires begun { All (λ i. marked marks.old.items i ≡ true) members.old.items }
-    ensures gathered { OnOk result (IsGathered (Points graph.now) members.old.items marks.old.items members.new.items marks.new.items) }
+    ensures gathered { OnOk result
+        (IsGathered (Points graph.now) members.old.items marks.old.items members.new.items
+        marks.new.items) }
     ensures within { OnOk result (All (λ i. i < size graph.now) members.new.items) }
 {
     let mut at = 0;
@@ -39,7 +41,9 @@ fn join_sources(
     requires within { member < size graph.now }
     requires all { All (λ i. i < size graph.now) members.old.items }
     requires begun { All (λ i. marked marks.old.items i ≡ true) members.old.items }
-    ensures joined { OnOk result (IsJoined (Points graph.now) member members.old.items marks.old.items members.new.items marks.new.items) }
+    ensures joined { OnOk result
+        (IsJoined (Points graph.now) member members.old.items marks.old.items members.new.items
+        marks.new.items) }
     ensures within { OnOk result (All (λ i. i < size graph.now) members.new.items) }
 {
     for place in graph.holders(member) {
@@ -56,7 +60,8 @@ pub fn join(
     marks: &mut Vec<bool>,
 ) -> Result<(), AllocError>
     requires { IfSome index (λ i. i < vec_len marks.old) }
-    ensures members { OnOk result (members.new.items ≡ with_member index marks.old.items members.old.items) }
+    ensures members { OnOk result
+        (members.new.items ≡ with_member index marks.old.items members.old.items) }
     ensures marks { OnOk result (marks.new.items ≡ with_mark index marks.old.items) }
 {
     match index {
@@ -67,8 +72,14 @@ pub fn join(
 
 fn join_one(index: usize, members: &mut Vec<usize>, marks: &mut Vec<bool>) -> Result<(), AllocError>
     requires { index < vec_len marks.old }
-    ensures members { OnOk result (members.new.items ≡ (if marked marks.old.items index then members.old.items else members.old.items ++ index ∷ [])) }
-    ensures marks { OnOk result (marks.new.items ≡ (if marked marks.old.items index then marks.old.items else slice_set marks.old.items index true)) }
+    ensures members { OnOk result
+        (members.new.items
+        ≡ (if marked marks.old.items index then members.old.items else members.old.items
+        ++ index ∷ [])) }
+    ensures marks { OnOk result
+        (marks.new.items
+        ≡ (if marked marks.old.items index then marks.old.items else slice_set marks.old.items index
+        true)) }
 {
     if !marks[index] {
         members.push(index)?;
@@ -80,8 +91,11 @@ fn join_one(index: usize, members: &mut Vec<usize>, marks: &mut Vec<bool>) -> Re
 // The object of which a place is a field, where it holds an object.
 fn strong_source(graph: &Graph, place: usize) -> Option<usize>
     requires { place < places graph.now }
-    ensures own { IfSome result (λ s. (s < size graph.now) × IsFieldAt graph.now s place × (holds graph.now place ≡ Some (target_at graph.now place))) }
-    ensures all { (i t : ℕ) → IsFieldAt graph.now i place → holds graph.now place ≡ Some t → result ≡ Some i }
+    ensures own { IfSome result
+        (λ s. (s < size graph.now) × IsFieldAt graph.now s place
+        × (holds graph.now place ≡ Some (target_at graph.now place))) }
+    ensures all { (i t : ℕ) → IsFieldAt graph.now i place → holds graph.now place ≡ Some t →
+        result ≡ Some i }
 {
     match graph.strong_target(place) {
         Some(_) => graph.source(place),

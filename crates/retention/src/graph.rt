@@ -44,7 +44,8 @@ impl Graph {
     /// The graph of a heap, of which these are the dates.
     pub fn of(alloc: Global, heap: &Heap, dates: &Dates) -> Result<Graph, AllocError>
         requires { (since : Place → ℕ) × Tell dates.now heap.now since }
-        ensures { IfOk result (λ g. (since : Place → ℕ) → Tell dates.now heap.now since → of.IsGraphOf heap.now since g) }
+        ensures { IfOk result (λ g. (since : Place → ℕ) → Tell dates.now heap.now since →
+            of.IsGraphOf heap.now since g) }
     {
         let objects = heap.objects(alloc)?;
         let alive = which_live(alloc, heap, &objects)?;
@@ -88,7 +89,8 @@ impl Graph {
 
     /// Where an object with this number stands, if it is there.
     pub fn index_of(&self, object: u32) -> Option<usize>
-        ensures { MatchOption result (has object self.now.objects.items ≡ false) (λ i. (i < of.size self.now) × (of.object_at self.now i ≡ object)) }
+        ensures { MatchOption result (has object self.now.objects.items ≡ false)
+            (λ i. (i < of.size self.now) × (of.object_at self.now i ≡ object)) }
     {
         match self.objects.binary_search(&object) {
             Ok(index) => Some(index),
@@ -134,7 +136,9 @@ impl Graph {
     // The object that a place names.
     fn target(&self, place: usize) -> Option<usize>
         requires { place < of.places self.now }
-        ensures value { result ≡ (if nat_lt (of.target_at self.now place) (of.size self.now) then Some (of.target_at self.now place) else None) }
+        ensures value { result ≡
+            (if nat_lt (of.target_at self.now place) (of.size self.now) then Some
+            (of.target_at self.now place) else None) }
         ensures within { IfSome result (λ t. t < of.size self.now) }
     {
         let target = self.targets[place];
@@ -148,9 +152,12 @@ impl Graph {
     /// The object of whose fields a place is one.
     pub fn source(&self, place: usize) -> Option<usize>
         requires { place < of.places self.now }
-        ensures own { MatchOption result (place < of.start_at self.now 0) (λ i. (i < of.size self.now) × of.IsFieldAt self.now i place) }
+        ensures own { MatchOption result (place < of.start_at self.now 0)
+            (λ i. (i < of.size self.now) × of.IsFieldAt self.now i place) }
         ensures field { (i : ℕ) → of.IsFieldAt self.now i place → result ≡ Some i }
-        ensures value { result ≡ (if nat_lt place (of.start_at self.now 0) then None else Some (slice_index self.now.sources.items place)) }
+        ensures value { result ≡
+            (if nat_lt place (of.start_at self.now 0) then None else Some
+            (slice_index self.now.sources.items place)) }
     {
         if place < self.starts[0] {
             None

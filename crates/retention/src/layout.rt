@@ -12,8 +12,11 @@ use trace_types::slots::Slot;
 /// Of each place the object of which it is a field, where these are the starts of the fields of each object, and their end.
 pub fn sources_of(alloc: Global, starts: &[usize]) -> Result<Vec<usize>, AllocError>
     requires some { 0 < length starts.now }
-    requires rising { (i : ℕ) → i + 1 < length starts.now → slice_index starts.now i ≤ slice_index starts.now (i + 1) }
-    ensures { IfOk result (λ v. AreSources (length starts.now - 1) (slice_index starts.now (length starts.now - 1)) starts.now v.items) }
+    requires rising { (i : ℕ) → i + 1 < length starts.now →
+        slice_index starts.now i ≤ slice_index starts.now (i + 1) }
+    ensures { IfOk result (λ v.
+        AreSources (length starts.now - 1)
+        (slice_index starts.now (length starts.now - 1)) starts.now v.items) }
 {
     let mut sources = zeros(alloc, starts[0])?;
     for index in 0..starts.len() - 1 {

@@ -51,7 +51,9 @@ fn date_lost(
     ensures long { OnOk result (length since.new.items ≡ size graph.now) }
     ensures closed { OnOk result (IsClosed graph.now leaked.now since.new.items) }
     ensures empty { OnOk result (todo.new.items ≡ []) }
-    ensures dated { OnOk result ((losses : List Loss) → AreDated graph.now leaked.now losses since.old.items → AreDated graph.now leaked.now (loss ∷ losses) since.new.items) }
+    ensures dated { OnOk result ((losses : List Loss) →
+        AreDated graph.now leaked.now losses since.old.items →
+        AreDated graph.now leaked.now (loss ∷ losses) since.new.items) }
 {
     let Some(index) = graph.index_of(loss.object) else {
         return Ok(());
@@ -78,7 +80,8 @@ fn date_all(
     requires empty { todo.old.items ≡ [] }
     requires there { index < size graph.now }
     requires marked { is_marked leaked.now index ≡ true }
-    ensures dated { OnOk result (IsDatedFrom graph.now leaked.now index id since.old.items since.new.items) }
+    ensures dated { OnOk result
+        (IsDatedFrom graph.now leaked.now index id since.old.items since.new.items) }
     ensures empty { OnOk result (todo.new.items ≡ []) }
 {
     date(index, id, since, todo)?;
@@ -100,7 +103,8 @@ fn date_fields(
     requires marks { length leaked.now ≡ size graph.now }
     requires long { length since.old.items ≡ size graph.now }
     requires there { source < size graph.now }
-    ensures { OnOk result (AreDatedBefore graph.now leaked.now source id since.old.items since.new.items todo.old.items todo.new.items (start_at graph.now (source + 1))) }
+    ensures { OnOk result (AreDatedBefore graph.now leaked.now source id since.old.items
+        since.new.items todo.old.items todo.new.items (start_at graph.now (source + 1))) }
 {
     let fields = graph.fields(source);
     for place in fields.start..fields.end {
@@ -121,7 +125,9 @@ fn date_place(
     requires marks { length leaked.now ≡ size graph.now }
     requires long { length since.old.items ≡ size graph.now }
     requires there { place < places graph.now }
-    ensures { OnOk result (IsPlaceDated graph.now leaked.now place id since.old.items since.new.items todo.old.items todo.new.items) }
+    ensures { OnOk result
+        (IsPlaceDated graph.now leaked.now place id since.old.items since.new.items todo.old.items
+        todo.new.items) }
 {
     let Some(target) = graph.strong_target(place) else {
         return Ok(());
@@ -141,7 +147,8 @@ fn date(
     todo: &mut Vec<usize>,
 ) -> Result<(), AllocError>
     requires { index < length since.old.items }
-    ensures { OnOk result (IsDate index id since.old.items since.new.items todo.old.items todo.new.items) }
+    ensures { OnOk result
+        (IsDate index id since.old.items since.new.items todo.old.items todo.new.items) }
 {
     let old = since[index];
     if old.is_some() {

@@ -42,8 +42,10 @@ pub fn note(
 
 /// Puts what moved in the order of places.
 pub fn sort_moved(moved: &mut Vec<Moved>) -> Result<(), AllocError>
-    ensures each { OnOk result ((p : Place) → at_place p moved.new.items ≡ at_place p moved.old.items) }
-    ensures in_order { OnOk result (IsSortedBy (λ x y. stands_before x.place y.place) moved.new.items) }
+    ensures each { OnOk result
+        ((p : Place) → at_place p moved.new.items ≡ at_place p moved.old.items) }
+    ensures in_order { OnOk result
+        (IsSortedBy (λ x y. stands_before x.place y.place) moved.new.items) }
 {
     moved.sort_by_key(|one: &Moved| one.place.order())
 }
@@ -68,7 +70,8 @@ pub fn push_marks(
     moved: &[Moved],
     events: &[Event],
 ) -> Result<(), AllocError>
-    ensures { OnOk result (marked.new.items ≡ marked.old.items ++ marks_by position heap.now moved.now events.now) }
+    ensures { OnOk result
+        (marked.new.items ≡ marked.old.items ++ marks_by position heap.now moved.now events.now) }
 {
     push_lost(marked, heap, position, moved)?;
     push_gained(marked, heap, position, moved)?;
@@ -81,7 +84,8 @@ fn push_lost(
     position: usize,
     moved: &[Moved],
 ) -> Result<(), AllocError>
-    ensures { OnOk result (marked.new.items ≡ marked.old.items ++ flat_map (lost_mark position heap.now) moved.now) }
+    ensures { OnOk result
+        (marked.new.items ≡ marked.old.items ++ flat_map (lost_mark position heap.now) moved.now) }
 {
     for one in moved {
         let mark = Mark::Lost(one.place, is_weak(one.before));
@@ -96,7 +100,9 @@ fn push_gained(
     position: usize,
     moved: &[Moved],
 ) -> Result<(), AllocError>
-    ensures { OnOk result (marked.new.items ≡ marked.old.items ++ flat_map (gained_mark position heap.now) moved.now) }
+    ensures { OnOk result
+        (marked.new.items ≡ marked.old.items
+        ++ flat_map (gained_mark position heap.now) moved.now) }
 {
     for one in moved {
         let mark = Mark::Gained(one.place, is_weak(one.after));
@@ -111,7 +117,8 @@ fn push_ended(
     position: usize,
     events: &[Event],
 ) -> Result<(), AllocError>
-    ensures { OnOk result (marked.new.items ≡ marked.old.items ++ map (ended_mark position heap.now) events.now) }
+    ensures { OnOk result
+        (marked.new.items ≡ marked.old.items ++ map (ended_mark position heap.now) events.now) }
 {
     for event in events {
         marked.push(ended_by(heap, position, *event))?;
@@ -133,7 +140,9 @@ fn push_named(
     slot: Slot,
     mark: Mark,
 ) -> Result<(), AllocError>
-    ensures { OnOk result (marked.new.items ≡ marked.old.items ++ if_named slot (turns.marked position heap.now mark)) }
+    ensures { OnOk result
+        (marked.new.items ≡ marked.old.items
+        ++ if_named slot (turns.marked position heap.now mark)) }
 {
     match slot {
         Slot::Strong(object) | Slot::Weak(object) => {

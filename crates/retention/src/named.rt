@@ -17,7 +17,8 @@ use trace_types::slots::Entry;
 
 /// Whether the value of each object lives.
 pub fn which_live(alloc: Global, heap: &Heap, objects: &[u32]) -> Result<Vec<bool>, AllocError>
-    ensures { IfOk result (λ v. v.items ≡ map (λ o. definition.is_alive (get heap.now.objects o)) objects.now) }
+    ensures { IfOk result (λ v.
+        v.items ≡ map (λ o. definition.is_alive (get heap.now.objects o)) objects.now) }
 {
     let mut alive = Vec::with_capacity(alloc, objects.len())?;
     for object in objects {
@@ -37,7 +38,8 @@ fn is_alive(entry: Option<&Entry>) -> bool
 
 /// The places of handles and cells that name an object, in order.
 pub fn held_roots(alloc: Global, heap: &Heap, dates: &Dates) -> Result<Vec<Held>, AllocError>
-    ensures { IfOk result (λ v. (since : Place → ℕ) → Tell dates.now heap.now since → v.items ≡ held_among heap.now since (root_places_of heap.now)) }
+    ensures { IfOk result (λ v. (since : Place → ℕ) → Tell dates.now heap.now since →
+        v.items ≡ held_among heap.now since (root_places_of heap.now)) }
 {
     let mut held = Vec::new(alloc);
     let handles = heap.handles(alloc)?;
@@ -59,8 +61,10 @@ pub fn push_all_fields(
     held: &mut Vec<Held>,
 ) -> Result<Vec<usize>, AllocError>
     requires told { (m : State) × ((since : Place → ℕ) × Tell dates.now m since) }
-    ensures held { OnOk result ((m : State) (since : Place → ℕ) → Tell dates.now m since → held.new.items ≡ held.old.items ++ held_among m since (field_places_of m objects.now)) }
-    ensures starts { IfOk result (λ v. AreStarts (length objects.now) (length held.new.items) v.items) }
+    ensures held { OnOk result ((m : State) (since : Place → ℕ) → Tell dates.now m since →
+        held.new.items ≡ held.old.items ++ held_among m since (field_places_of m objects.now)) }
+    ensures starts { IfOk result
+        (λ v. AreStarts (length objects.now) (length held.new.items) v.items) }
     ensures each { IfOk result (λ v. (m : State) (since : Place → ℕ) → Tell dates.now m since → (i : ℕ) → i < length objects.now + 1
         → slice_index v.items i ≡ length held.old.items + length (held_among m since (field_places_of m (take i objects.now)))) }
 {

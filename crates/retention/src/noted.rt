@@ -15,7 +15,8 @@ use std::alloc::{AllocError, Global};
 /// Of each cycle its least object, and each husk, rising.
 pub fn objects_of_note(alloc: Global, end: &Ending) -> Result<Vec<u32>, AllocError>
     requires { IsEnding end.now }
-    ensures { IfOk result (λ v. (ops : List Operation) → IsEndOf ops end.now → AreAll (end_from nothing_held ops) (IsOfNote (end_from nothing_held ops)) v.items) }
+    ensures { IfOk result (λ v. (ops : List Operation) → IsEndOf ops end.now →
+        AreAll (end_from nothing_held ops) (IsOfNote (end_from nothing_held ops)) v.items) }
 {
     let count = end.graph.len();
     let mut noted = Vec::new(alloc);
@@ -29,7 +30,8 @@ pub fn objects_of_note(alloc: Global, end: &Ending) -> Result<Vec<u32>, AllocErr
 fn push_noted(noted: &mut Vec<u32>, end: &Ending, index: usize) -> Result<(), AllocError>
     requires ending { IsEnding end.now }
     requires there { index < size end.now.graph }
-    ensures { OnOk result (noted.new.items ≡ noted.old.items ++ (if definition.is_noted end.now index then object_at end.now.graph index ∷ [] else [])) }
+    ensures { OnOk result (noted.new.items ≡ noted.old.items
+        ++ (if definition.is_noted end.now index then object_at end.now.graph index ∷ [] else [])) }
 {
     if is_noted(end, index) {
         noted.push(end.graph.object(index))?;

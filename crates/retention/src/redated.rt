@@ -52,7 +52,8 @@ impl DatedHolding {
     /// What a handle held, which is nothing where nothing was kept of it.
     pub fn of(alloc: Global, holding: Option<DatedHolding>) -> DatedHolding
         ensures slot { result.slot ≡ dated_in holding None }
-        ensures fields { (i : ℕ) → slice_get result.fields.slots.items i ≡ dated_in holding (Some i) }
+        ensures fields { (i : ℕ) →
+            slice_get result.fields.slots.items i ≡ dated_in holding (Some i) }
     {
         match holding {
             Some(holding) => holding,

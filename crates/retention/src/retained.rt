@@ -40,8 +40,10 @@ impl Retained {
     pub fn count(&mut self, graph: &Graph, index: usize) -> Result<usize, AllocError>
         requires ready { IsReady graph.now self.old.missing.items self.old.passed.items }
         requires there { index < size graph.now }
-        ensures retained { IfOk result (λ n. (xs : List ℕ) × AreRetained graph.now index xs × (n ≡ length xs)) }
-        ensures ready { OnOk result (IsReady graph.now self.new.missing.items self.new.passed.items) }
+        ensures retained { IfOk result
+            (λ n. (xs : List ℕ) × AreRetained graph.now index xs × (n ≡ length xs)) }
+        ensures ready { OnOk result
+            (IsReady graph.now self.new.missing.items self.new.passed.items) }
     {
         self.members.clear();
         self.members.push(index)?;
@@ -57,11 +59,17 @@ impl Retained {
 
     // Goes through the fields of a member.
     fn pass_fields(&mut self, graph: &Graph, at: usize, first: usize) -> Result<(), AllocError>
-        requires front { IsRetaining graph.now first at self.old.missing.items self.old.members.items self.old.passed.items }
+        requires front { IsRetaining graph.now first at self.old.missing.items
+            self.old.members.items self.old.passed.items }
         requires there { at < length self.old.members.items }
-        ensures front { OnOk result (IsRetaining graph.now first (at + 1) self.new.missing.items self.new.members.items self.new.passed.items) }
-        ensures work { OnOk result (positives self.new.missing.items + length self.new.members.items ≤ positives self.old.missing.items + length self.old.members.items) }
-        ensures longer { OnOk result (length self.old.members.items ≤ length self.new.members.items) }
+        ensures front { OnOk result
+            (IsRetaining graph.now first
+            (at + 1) self.new.missing.items self.new.members.items self.new.passed.items) }
+        ensures work { OnOk result
+            (positives self.new.missing.items + length self.new.members.items ≤ positives
+            self.old.missing.items + length self.old.members.items) }
+        ensures longer { OnOk result
+            (length self.old.members.items ≤ length self.new.members.items) }
     {
         let member = self.members[at];
         let fields = graph.fields(member);
@@ -75,7 +83,8 @@ impl Retained {
     fn pass_place(&mut self, graph: &Graph, place: usize, first: usize) -> Result<(), AllocError>
         requires long { length self.old.missing.items ≡ size graph.now }
         requires there { place < places graph.now }
-        requires missing { (t : ℕ) → holds graph.now place ≡ Some t → t ≢ first → 0 < slice_index self.old.missing.items t }
+        requires missing { (t : ℕ) → holds graph.now place ≡ Some t → t ≢ first →
+            0 < slice_index self.old.missing.items t }
         ensures { OnOk result (IsPlacePassed graph.now first place self.old.missing.items self.old.members.items self.old.passed.items
             self.new.missing.items self.new.members.items self.new.passed.items) }
     {
@@ -107,10 +116,14 @@ impl Retained {
 
     // Takes back what was passed.
     fn restore(&mut self)
-        requires within { (t : ℕ) → 0 < times t self.old.passed.items → t < length self.old.missing.items }
-        requires fits { (t : ℕ) → slice_index self.old.missing.items t + times t self.old.passed.items < 2 ^ 64 }
+        requires within { (t : ℕ) → 0 < times t self.old.passed.items →
+            t < length self.old.missing.items }
+        requires fits { (t : ℕ) →
+            slice_index self.old.missing.items t + times t self.old.passed.items < 2 ^ 64 }
         ensures long { length self.new.missing.items ≡ length self.old.missing.items }
-        ensures each { (t : ℕ) → slice_index self.new.missing.items t ≡ slice_index self.old.missing.items t + times t self.old.passed.items }
+        ensures each { (t : ℕ) →
+            slice_index self.new.missing.items t
+            ≡ slice_index self.old.missing.items t + times t self.old.passed.items }
         ensures none { self.new.passed.items ≡ [] }
     {
         while let Some(target) = self.passed.pop() {

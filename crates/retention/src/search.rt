@@ -35,7 +35,9 @@ pub fn leaving_order(alloc: Global, graph: &Graph) -> Result<Vec<usize>, AllocEr
 
 impl Search {
     fn new(alloc: Global, graph: &Graph) -> Result<Search, AllocError>
-        ensures searching { IfOk result (λ s. IsSearching (Points graph.now) (of.size graph.now) s.seen.items s.path.items s.order.items) }
+        ensures searching { IfOk result
+            (λ s. IsSearching (Points graph.now)
+            (of.size graph.now) s.seen.items s.path.items s.order.items) }
         ensures left { IfOk result (λ s. AreLeft graph.now s.seen.items s.left.items) }
         ensures path { IfOk result (λ s. s.path.items ≡ []) }
     {
@@ -51,15 +53,19 @@ impl Search {
 
     // Sees all that can be come to from an object, and leaves it.
     fn visit(&mut self, graph: &Graph, index: usize) -> Result<(), AllocError>
-        requires searching { IsSearching (Points graph.now) (of.size graph.now) self.old.seen.items self.old.path.items self.old.order.items }
+        requires searching { IsSearching (Points graph.now)
+            (of.size graph.now) self.old.seen.items self.old.path.items self.old.order.items }
         requires left { AreLeft graph.now self.old.seen.items self.old.left.items }
         requires path { self.old.path.items ≡ [] }
         requires within { index < of.size graph.now }
         requires unseen { marked self.old.seen.items index ≡ false }
-        ensures searching { OnOk result (IsSearching (Points graph.now) (of.size graph.now) self.new.seen.items self.new.path.items self.new.order.items) }
+        ensures searching { OnOk result
+            (IsSearching (Points graph.now)
+            (of.size graph.now) self.new.seen.items self.new.path.items self.new.order.items) }
         ensures left { OnOk result (AreLeft graph.now self.new.seen.items self.new.left.items) }
         ensures path { OnOk result (self.new.path.items ≡ []) }
-        ensures still { OnOk result ((x : ℕ) → marked self.old.seen.items x ≡ true → marked self.new.seen.items x ≡ true) }
+        ensures still { OnOk result
+            ((x : ℕ) → marked self.old.seen.items x ≡ true → marked self.new.seen.items x ≡ true) }
         ensures here { OnOk result (marked self.new.seen.items index ≡ true) }
     {
         self.enter(graph, index)?;
@@ -75,14 +81,19 @@ impl Search {
 
     // Goes on to an object that the last one of the path points to.
     fn enter(&mut self, graph: &Graph, index: usize) -> Result<(), AllocError>
-        requires searching { IsSearching (Points graph.now) (of.size graph.now) self.old.seen.items self.old.path.items self.old.order.items }
+        requires searching { IsSearching (Points graph.now)
+            (of.size graph.now) self.old.seen.items self.old.path.items self.old.order.items }
         requires left { AreLeft graph.now self.old.seen.items self.old.left.items }
         requires within { index < of.size graph.now }
         requires unseen { marked self.old.seen.items index ≡ false }
-        requires from { (i : ℕ) → i < vec_len self.old.path → Path (Points graph.now) (slice_index self.old.path.items i) index }
-        ensures searching { OnOk result (IsSearching (Points graph.now) (of.size graph.now) self.new.seen.items self.new.path.items self.new.order.items) }
+        requires from { (i : ℕ) → i < vec_len self.old.path →
+            Path (Points graph.now) (slice_index self.old.path.items i) index }
+        ensures searching { OnOk result
+            (IsSearching (Points graph.now)
+            (of.size graph.now) self.new.seen.items self.new.path.items self.new.order.items) }
         ensures left { OnOk result (AreLeft graph.now self.new.seen.items self.new.left.items) }
-        ensures seen { OnOk result (self.new.seen.items ≡ slice_set self.old.seen.items index true) }
+        ensures seen { OnOk result
+            (self.new.seen.items ≡ slice_set self.old.seen.items index true) }
         ensures path { OnOk result (self.new.path.items ≡ self.old.path.items ++ index ∷ []) }
         ensures same { OnOk result (self.new.left.items ≡ self.old.left.items) }
     {
@@ -93,15 +104,21 @@ impl Search {
 
     // Goes through the next field of the last object of the path.
     fn pass(&mut self, graph: &Graph, last: usize) -> Result<(), AllocError>
-        requires searching { IsSearching (Points graph.now) (of.size graph.now) self.old.seen.items self.old.path.items self.old.order.items }
+        requires searching { IsSearching (Points graph.now)
+            (of.size graph.now) self.old.seen.items self.old.path.items self.old.order.items }
         requires left { AreLeft graph.now self.old.seen.items self.old.left.items }
         requires some { 0 < vec_len self.old.path }
         requires last { slice_index self.old.path.items (vec_len self.old.path - 1) ≡ last }
         requires more { 0 < slice_index self.old.left.items last }
-        ensures searching { OnOk result (IsSearching (Points graph.now) (of.size graph.now) self.new.seen.items self.new.path.items self.new.order.items) }
+        ensures searching { OnOk result
+            (IsSearching (Points graph.now)
+            (of.size graph.now) self.new.seen.items self.new.path.items self.new.order.items) }
         ensures left { OnOk result (AreLeft graph.now self.new.seen.items self.new.left.items) }
-        ensures less { OnOk result (2 * sum self.new.left.items + vec_len self.new.path < 2 * sum self.old.left.items + vec_len self.old.path) }
-        ensures still { OnOk result ((x : ℕ) → marked self.old.seen.items x ≡ true → marked self.new.seen.items x ≡ true) }
+        ensures less { OnOk result
+            (2 * sum self.new.left.items + vec_len self.new.path < 2 * sum
+            self.old.left.items + vec_len self.old.path) }
+        ensures still { OnOk result
+            ((x : ℕ) → marked self.old.seen.items x ≡ true → marked self.new.seen.items x ≡ true) }
     {
         let place = graph.fields(last).end - self.left[last];
         let target = graph.strong_target(place);
@@ -116,13 +133,19 @@ impl Search {
 
     // Leaves the last object of the path, all of whose fields it went through.
     fn leave(&mut self, graph: &Graph) -> Result<(), AllocError>
-        requires searching { IsSearching (Points graph.now) (of.size graph.now) self.old.seen.items self.old.path.items self.old.order.items }
+        requires searching { IsSearching (Points graph.now)
+            (of.size graph.now) self.old.seen.items self.old.path.items self.old.order.items }
         requires left { AreLeft graph.now self.old.seen.items self.old.left.items }
         requires some { 0 < vec_len self.old.path }
-        requires none { slice_index self.old.left.items (slice_index self.old.path.items (vec_len self.old.path - 1)) ≡ 0 }
-        ensures searching { OnOk result (IsSearching (Points graph.now) (of.size graph.now) self.new.seen.items self.new.path.items self.new.order.items) }
+        requires none { slice_index self.old.left.items
+            (slice_index self.old.path.items (vec_len self.old.path - 1)) ≡ 0 }
+        ensures searching { OnOk result
+            (IsSearching (Points graph.now)
+            (of.size graph.now) self.new.seen.items self.new.path.items self.new.order.items) }
         ensures left { OnOk result (AreLeft graph.now self.new.seen.items self.new.left.items) }
-        ensures less { OnOk result (2 * sum self.new.left.items + vec_len self.new.path < 2 * sum self.old.left.items + vec_len self.old.path) }
+        ensures less { OnOk result
+            (2 * sum self.new.left.items + vec_len self.new.path < 2 * sum
+            self.old.left.items + vec_len self.old.path) }
         ensures seen { OnOk result (self.new.seen.items ≡ self.old.seen.items) }
     {
         if let Some(last) = self.path.pop() {
@@ -135,7 +158,8 @@ impl Search {
 // How many fields each object has.
 fn field_counts(alloc: Global, graph: &Graph) -> Result<Vec<usize>, AllocError>
     ensures long { IfOk result (λ v. vec_len v ≡ of.size graph.now) }
-    ensures all { IfOk result (λ v. (x : ℕ) → x < of.size graph.now → of.start_at graph.now x + slice_index v.items x ≡ of.start_at graph.now (x + 1)) }
+    ensures all { IfOk result (λ v. (x : ℕ) → x < of.size graph.now →
+        of.start_at graph.now x + slice_index v.items x ≡ of.start_at graph.now (x + 1)) }
 {
     let mut counts = Vec::with_capacity(alloc, graph.len())?;
     for index in 0..graph.len() {

@@ -23,7 +23,9 @@ pub fn shown_for(
     requires long { length leaked.now ≡ size graph.now }
     requires within { All (λ i. i < size graph.now) given.now }
     ensures long { IfOk result (λ v. length v.items ≡ size graph.now) }
-    ensures each { IfOk result (λ v. (i : ℕ) → (marked v.items i ≡ true) ↔ IsShownAt graph.now (IsAskedAt graph.now leaked.now given.now) i) }
+    ensures each { IfOk result (λ v. (i : ℕ) →
+        (marked v.items i ≡ true) ↔ IsShownAt graph.now
+        (IsAskedAt graph.now leaked.now given.now) i) }
 {
     let mut shown = falses(alloc, graph.len())?;
     let mut near = Vec::new(alloc);
@@ -48,7 +50,8 @@ fn push_asked(
     requires none { near.old.items ≡ [] }
     ensures marked { OnOk result (AreTheMarked near.new.items shown.new.items) }
     ensures long { OnOk result (length shown.new.items ≡ size graph.now) }
-    ensures each { OnOk result ((i : ℕ) → (marked shown.new.items i ≡ true) ↔ IsAskedAt graph.now leaked.now given.now i) }
+    ensures each { OnOk result
+        ((i : ℕ) → (marked shown.new.items i ≡ true) ↔ IsAskedAt graph.now leaked.now given.now i) }
 {
     if given.is_empty() {
         return push_of_interest(graph, leaked, near, shown);
@@ -68,7 +71,8 @@ fn push_of_interest(
     requires none { near.old.items ≡ [] }
     ensures marked { OnOk result (AreTheMarked near.new.items shown.new.items) }
     ensures long { OnOk result (length shown.new.items ≡ size graph.now) }
-    ensures each { OnOk result ((i : ℕ) → (marked shown.new.items i ≡ true) ↔ IsAskedAt graph.now leaked.now [] i) }
+    ensures each { OnOk result
+        ((i : ℕ) → (marked shown.new.items i ≡ true) ↔ IsAskedAt graph.now leaked.now [] i) }
 {
     for index in 0..graph.len() {
         let one = if_of_interest(graph, leaked, index);
@@ -121,7 +125,10 @@ fn push_weak_holders(
     requires marked { AreTheMarked near.old.items shown.old.items }
     ensures marked { OnOk result (AreTheMarked near.new.items shown.new.items) }
     ensures long { OnOk result (length shown.new.items ≡ size graph.now) }
-    ensures each { OnOk result ((i : ℕ) → (marked shown.new.items i ≡ true) ↔ ((marked shown.old.items i ≡ true) ⊎ ((j : ℕ) × (marked shown.old.items j ≡ true) × HoldsWeaklyAt graph.now i j))) }
+    ensures each { OnOk result
+        ((i : ℕ) → (marked shown.new.items i ≡ true) ↔
+        ((marked shown.old.items i ≡ true) ⊎
+        ((j : ℕ) × (marked shown.old.items j ≡ true) × HoldsWeaklyAt graph.now i j))) }
 {
     for at in 0..near.len() {
         let index = near[at];
@@ -136,8 +143,11 @@ fn push_weak_holders(
 // The object of which a place is a field, where it names an object weakly.
 fn weak_source(graph: &Graph, place: usize) -> Option<usize>
     requires { place < places graph.now }
-    ensures own { IfSome result (λ s. (s < size graph.now) × IsFieldAt graph.now s place × (is_weak_slot (held_at graph.now place).slot ≡ true)) }
-    ensures all { (i : ℕ) → IsFieldAt graph.now i place → is_weak_slot (held_at graph.now place).slot ≡ true → result ≡ Some i }
+    ensures own { IfSome result
+        (λ s. (s < size graph.now) × IsFieldAt graph.now s place
+        × (is_weak_slot (held_at graph.now place).slot ≡ true)) }
+    ensures all { (i : ℕ) → IsFieldAt graph.now i place →
+        is_weak_slot (held_at graph.now place).slot ≡ true → result ≡ Some i }
 {
     match graph.held(place).slot {
         Slot::Weak(_) => graph.source(place),

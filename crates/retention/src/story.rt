@@ -35,9 +35,11 @@ pub fn tell(alloc: Global, ops: &[Op], with_marks: bool) -> Result<Story, AllocE
     requires { AreNew nothing_held ops.now }
     ensures outcomes { IfOk result (λ s. s.outcomes.items ≡ outcomes_from nothing_held ops.now) }
     ensures end { IfOk result (λ s. s.end ≡ end_from nothing_held ops.now) }
-    ensures dates { IfOk result (λ s. Tell s.dates s.end (λ p. since_from nothing_held ops.now p 0)) }
+    ensures dates { IfOk result
+        (λ s. Tell s.dates s.end (λ p. since_from nothing_held ops.now p 0)) }
     ensures losses { IfOk result (λ s. AreLosses nothing_held ops.now s.losses.items) }
-    ensures marked { IfOk result (λ s. with_marks ≡ true → AreMarked nothing_held ops.now s.marked.items) }
+    ensures marked { IfOk result
+        (λ s. with_marks ≡ true → AreMarked nothing_held ops.now s.marked.items) }
 {
     let mut story = Story::begin(alloc);
     let mut moved = Vec::new(alloc);
@@ -90,7 +92,9 @@ impl Story {
     ) -> Result<Outcome, AllocError>
         requires { get self.old.end.objects op.now.id ≡ None }
         ensures outcome { IfOk result (λ x. x ≡ (step self.old.end op.now).outcome) }
-        ensures moves { OnOk result (MovesTo op.now self.old.end self.old.dates self.new.end self.new.dates moved.new.items) }
+        ensures moves { OnOk result
+            (MovesTo op.now self.old.end self.old.dates self.new.end self.new.dates
+            moved.new.items) }
         ensures outcomes { self.new.outcomes.items ≡ self.old.outcomes.items }
         ensures losses { self.new.losses.items ≡ self.old.losses.items }
         ensures marked { self.new.marked.items ≡ self.old.marked.items }

@@ -63,7 +63,9 @@ impl Walk {
     fn from_places(alloc: Global, graph: &Graph, begins: &[usize]) -> Result<Walk, AllocError>
         requires rising { IsRising begins.now }
         requires within { All (λ p. p < of.places graph.now) begins.now }
-        ensures { IfOk result (λ w. (from : ℕ → Bool) → ((p : ℕ) → p < of.places graph.now → from p ≡ has p begins.now) → IsWalkFrom graph.now from w) }
+        ensures { IfOk result (λ w. (from : ℕ → Bool) →
+            ((p : ℕ) → p < of.places graph.now → from p ≡ has p begins.now) →
+            IsWalkFrom graph.now from w) }
     {
         let mut walk = Walk::new(alloc, graph)?;
         walk.run(graph, begins, &[], 0)?;
@@ -121,8 +123,12 @@ impl Walk {
     ) -> Result<(), AllocError>
         requires long { vec_len self.old.steps ≡ of.size graph.now }
         requires within { place < of.places graph.now }
-        ensures steps { OnOk result (self.new.steps.items ≡ stepped (holds_in graph.now parts.now part place) self.old.steps.items (Step.First place)) }
-        ensures came { OnOk result (self.new.came.items ≡ joined (holds_in graph.now parts.now part place) self.old.steps.items self.old.came.items) }
+        ensures steps { OnOk result
+            (self.new.steps.items ≡ stepped
+            (holds_in graph.now parts.now part place) self.old.steps.items (Step.First place)) }
+        ensures came { OnOk result
+            (self.new.came.items ≡ joined
+            (holds_in graph.now parts.now part place) self.old.steps.items self.old.came.items) }
     {
         let target = target_in(graph, parts, part, place);
         self.come(target, Step::First(place))
@@ -138,8 +144,12 @@ impl Walk {
     ) -> Result<(), AllocError>
         requires long { vec_len self.old.steps ≡ of.size graph.now }
         requires within { place < of.places graph.now }
-        ensures steps { OnOk result (self.new.steps.items ≡ stepped (holds_in graph.now parts.now part place) self.old.steps.items (Step.Further place)) }
-        ensures came { OnOk result (self.new.came.items ≡ joined (holds_in graph.now parts.now part place) self.old.steps.items self.old.came.items) }
+        ensures steps { OnOk result
+            (self.new.steps.items ≡ stepped
+            (holds_in graph.now parts.now part place) self.old.steps.items (Step.Further place)) }
+        ensures came { OnOk result
+            (self.new.came.items ≡ joined
+            (holds_in graph.now parts.now part place) self.old.steps.items self.old.came.items) }
     {
         let target = target_in(graph, parts, part, place);
         self.come(target, Step::Further(place))
@@ -153,7 +163,9 @@ impl Walk {
         index: usize,
     ) -> Result<Vec<Held>, AllocError>
         requires long { vec_len self.now.steps ≡ of.size graph.now }
-        requires came { (way : List ℕ) × CameBy (of.IsFieldAt graph.now) self.now.steps.items index way × All (λ p. p < of.places graph.now) way }
+        requires came { (way : List ℕ) × CameBy
+            (of.IsFieldAt graph.now) self.now.steps.items index way
+            × All (λ p. p < of.places graph.now) way }
         requires within { index < of.size graph.now }
         ensures { IfOk result (λ v. (way : List ℕ) → CameBy (of.IsFieldAt graph.now) self.now.steps.items index way
             → length way ≤ of.size graph.now → v.items ≡ map (of.held_at graph.now) (reverse way)) }
@@ -182,7 +194,8 @@ impl Walk {
     fn step_before(&self, graph: &Graph, place: usize) -> Step
         requires long { vec_len self.now.steps ≡ of.size graph.now }
         requires within { place < of.places graph.now }
-        ensures { (i : ℕ) → of.IsFieldAt graph.now i place → result ≡ slice_index_or self.now.steps.items i Step.Never }
+        ensures { (i : ℕ) → of.IsFieldAt graph.now i place →
+            result ≡ slice_index_or self.now.steps.items i Step.Never }
     {
         match graph.source(place) {
             Some(source) => self.steps[source],
@@ -203,8 +216,10 @@ impl Walk {
         requires parts { AreParts graph.now parts.now }
         requires within { index < of.size graph.now }
         requires cyclic { Keeps graph.now index index }
-        ensures told { IfOk result (λ v. IsToldWay graph.now (of.is_field_at graph.now index) index v.items) }
-        ensures fresh { OnOk result (IsFresh (of.size graph.now) self.new.steps.items self.new.came.items) }
+        ensures told { IfOk result
+            (λ v. IsToldWay graph.now (of.is_field_at graph.now index) index v.items) }
+        ensures fresh { OnOk result
+            (IsFresh (of.size graph.now) self.new.steps.items self.new.came.items) }
     {
         let begins = field_places(alloc, graph, index)?;
         self.run(graph, &begins, parts, parts[index])?;
@@ -228,8 +243,10 @@ impl Walk {
     // Comes to an object by a step, if there is one, and unless it came to it before.
     fn come(&mut self, target: Option<usize>, step: Step) -> Result<(), AllocError>
         requires { IfSome target (λ t. t < vec_len self.old.steps) }
-        ensures steps { OnOk result (self.new.steps.items ≡ stepped target self.old.steps.items step) }
-        ensures came { OnOk result (self.new.came.items ≡ joined target self.old.steps.items self.old.came.items) }
+        ensures steps { OnOk result
+            (self.new.steps.items ≡ stepped target self.old.steps.items step) }
+        ensures came { OnOk result
+            (self.new.came.items ≡ joined target self.old.steps.items self.old.came.items) }
     {
         match target {
             None => Ok(()),
@@ -239,8 +256,14 @@ impl Walk {
 
     fn come_to(&mut self, index: usize, step: Step) -> Result<(), AllocError>
         requires { index < vec_len self.old.steps }
-        ensures steps { OnOk result (self.new.steps.items ≡ (if has_come self.old.steps.items index then self.old.steps.items else slice_set self.old.steps.items index step)) }
-        ensures came { OnOk result (self.new.came.items ≡ (if has_come self.old.steps.items index then self.old.came.items else self.old.came.items ++ index ∷ [])) }
+        ensures steps { OnOk result
+            (self.new.steps.items
+            ≡ (if has_come self.old.steps.items index then self.old.steps.items else slice_set
+            self.old.steps.items index step)) }
+        ensures came { OnOk result
+            (self.new.came.items
+            ≡ (if has_come self.old.steps.items index then self.old.came.items else
+            self.old.came.items ++ index ∷ [])) }
     {
         if !self.is_seen(index) {
             self.came.push(index)?;

@@ -15,7 +15,8 @@ use std::alloc::AllocError;
 /// Adds the handles and cells with a drawn place, each once.
 pub fn push_roots(text: &mut String, graph: &Graph, shown: &[bool]) -> Result<(), AllocError>
     requires { length shown.now ≡ size graph.now }
-    ensures { OnOk result (string_bytes text.new ≡ string_bytes text.old ++ roots_text graph.now shown.now) }
+    ensures { OnOk result
+        (string_bytes text.new ≡ string_bytes text.old ++ roots_text graph.now shown.now) }
 {
     let mut last = None;
     for place in 0..graph.places() {
@@ -57,7 +58,9 @@ pub fn push_objects(
     requires ending { IsEnding end.now }
     requires shown { length shown.now ≡ size end.now.graph }
     requires given { length given.now ≡ size end.now.graph }
-    ensures { OnOk result (string_bytes text.new ≡ string_bytes text.old ++ objects_text end.now heap.now shown.now given.now) }
+    ensures { OnOk result
+        (string_bytes text.new ≡ string_bytes text.old
+        ++ objects_text end.now heap.now shown.now given.now) }
 {
     for index in 0..end.graph.len() {
         push_if_shown(text, end, heap, shown, given, index)?;
@@ -96,7 +99,8 @@ fn push_if_shown(
 pub fn push_edges(text: &mut String, end: &Ending, shown: &[bool]) -> Result<(), AllocError>
     requires ending { IsEnding end.now }
     requires shown { length shown.now ≡ size end.now.graph }
-    ensures { OnOk result (string_bytes text.new ≡ string_bytes text.old ++ edges_text end.now shown.now) }
+    ensures { OnOk result
+        (string_bytes text.new ≡ string_bytes text.old ++ edges_text end.now shown.now) }
 {
     for place in 0..end.graph.places() {
         push_if_drawn(text, end, shown, end.graph.held(place))?;
@@ -112,7 +116,8 @@ fn push_if_drawn(
 ) -> Result<(), AllocError>
     requires ending { IsEnding end.now }
     requires shown { length shown.now ≡ size end.now.graph }
-    ensures { OnOk result (string_bytes text.new ≡ string_bytes text.old ++ if_so (definition.is_drawn end.now.graph.objects.items shown.now held) (edge_of end.now held)) }
+    ensures { OnOk result (string_bytes text.new ≡ string_bytes text.old ++ if_so
+        (definition.is_drawn end.now.graph.objects.items shown.now held) (edge_of end.now held)) }
 {
     if is_drawn(&end.graph, shown, held) {
         push_edge(text, end, held)
@@ -162,7 +167,8 @@ fn is_joined(end: &Ending, first: u32, second: u32) -> bool
 // The least object of the cycle that an object is in.
 fn cycle_at(end: &Ending, object: u32) -> Option<usize>
     requires { IsEnding end.now }
-    ensures { result ≡ definition.cycle_at end.now.cycles (definition.index_in end.now.graph.objects.items object) }
+    ensures { result ≡ definition.cycle_at end.now.cycles
+        (definition.index_in end.now.graph.objects.items object) }
 {
     match index_of(&end.graph, object) {
         Some(index) => end.cycles.cycle_of(index),

@@ -22,7 +22,8 @@ pub fn explain(
     with_lives: bool,
 ) -> Result<Answer, AllocError>
     requires { IsTrace ops.now }
-    ensures { IfOk result (λ a. Explains with_lives ops.now objects.now (string_bytes a.text) a.is_missing) }
+    ensures { IfOk result (λ a.
+        Explains with_lives ops.now objects.now (string_bytes a.text) a.is_missing) }
 {
     let story = tell(alloc, ops, with_lives)?;
     let lives = lives_in(alloc, ops, &story.outcomes)?;
@@ -76,7 +77,8 @@ fn push_summary(
 ) -> Result<(), AllocError>
     requires told { IsToldOf with_lives ops.now told.old }
     requires lives { AreLivesIn ops.now lives.now }
-    ensures { OnOk result ((piece : List ℕ) × IsSummary with_lives ops.now piece × (string_bytes text.new ≡ string_bytes text.old ++ piece)) }
+    ensures { OnOk result ((piece : List ℕ) × IsSummary with_lives ops.now piece
+        × (string_bytes text.new ≡ string_bytes text.old ++ piece)) }
 {
     let noted = objects_of_note(alloc, &told.end)?;
     push_lines(text, alloc, ops, lives, told, &noted, with_lives)?;

@@ -34,7 +34,9 @@ pub fn indices_of(alloc: Global, graph: &Graph, objects: &[u32]) -> Result<Vec<u
 }
 
 fn push_index(indices: &mut Vec<usize>, graph: &Graph, object: u32) -> Result<(), AllocError>
-    ensures { OnOk result (indices.new.items ≡ indices.old.items ++ listed (index_in graph.now.objects.items object)) }
+    ensures { OnOk result
+        (indices.new.items ≡ indices.old.items
+        ++ listed (index_in graph.now.objects.items object)) }
 {
     match index_of(graph, object) {
         Some(index) => indices.push(index)?,

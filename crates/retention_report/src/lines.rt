@@ -33,7 +33,9 @@ pub fn push_lines(
     requires told { IsToldOf with_lives ops.now told.old }
     requires lives { AreLivesIn ops.now lives.now }
     requires made { AreMade ops.now objects.now }
-    ensures lines { OnOk result ((lines : List ℕ) × AreLines with_lives ops.now objects.now lines × (string_bytes text.new ≡ string_bytes text.old ++ lines)) }
+    ensures lines { OnOk result
+        ((lines : List ℕ) × AreLines with_lives ops.now objects.now lines
+        × (string_bytes text.new ≡ string_bytes text.old ++ lines)) }
     ensures told { OnOk result (IsToldOf with_lives ops.now told.new) }
 {
     for object in objects {
@@ -55,7 +57,9 @@ fn push_object(
     requires told { IsToldOf with_lives ops.now told.old }
     requires lives { AreLivesIn ops.now lives.now }
     requires made { has object (made_after [] (outcomes_from nothing_held ops.now)) ≡ true }
-    ensures lines { OnOk result ((lines : List ℕ) × IsObjectText with_lives ops.now object lines × (string_bytes text.new ≡ string_bytes text.old ++ lines)) }
+    ensures lines { OnOk result
+        ((lines : List ℕ) × IsObjectText with_lives ops.now object lines
+        × (string_bytes text.new ≡ string_bytes text.old ++ lines)) }
     ensures told { OnOk result (IsToldOf with_lives ops.now told.new) }
 {
     push_report_line(text, ops, lives, object)?;
@@ -72,7 +76,8 @@ fn push_report_line(
 ) -> Result<(), AllocError>
     requires lives { AreLivesIn ops.now lives.now }
     requires made { has object (made_after [] (outcomes_from nothing_held ops.now)) ≡ true }
-    ensures { OnOk result (string_bytes text.new ≡ string_bytes text.old ++ life_text (leak_lives.life_of (outcomes_from nothing_held ops.now) object)) }
+    ensures { OnOk result (string_bytes text.new ≡ string_bytes text.old
+        ++ life_text (leak_lives.life_of (outcomes_from nothing_held ops.now) object)) }
 {
     let Some(life) = life_of(lives, object) else {
         return Ok(());
@@ -89,7 +94,8 @@ fn push_life_lines(
     with_lives: bool,
 ) -> Result<(), AllocError>
     requires { AreLivesOf with_lives ops.now lines.now }
-    ensures { OnOk result ((piece : List ℕ) × AreLifeLines with_lives ops.now object piece × (string_bytes text.new ≡ string_bytes text.old ++ piece)) }
+    ensures { OnOk result ((piece : List ℕ) × AreLifeLines with_lives ops.now object piece
+        × (string_bytes text.new ≡ string_bytes text.old ++ piece)) }
 {
     let Some(lines) = lines else {
         return Ok(());
@@ -107,7 +113,9 @@ fn push_account_lines(
     with_lives: bool,
 ) -> Result<(), AllocError>
     requires { IsToldOf with_lives ops.now told.old }
-    ensures lines { OnOk result ((piece : List ℕ) × AreAccountLines ops.now object piece × (string_bytes text.new ≡ string_bytes text.old ++ piece)) }
+    ensures lines { OnOk result
+        ((piece : List ℕ) × AreAccountLines ops.now object piece
+        × (string_bytes text.new ≡ string_bytes text.old ++ piece)) }
     ensures told { OnOk result (IsToldOf with_lives ops.now told.new) }
 {
     let Some(index) = told.end.graph.index_of(object) else {
@@ -126,7 +134,8 @@ pub fn push_totals_line(
     with_lives: bool,
 ) -> Result<(), AllocError>
     requires { IsToldOf with_lives ops.now told.now }
-    ensures { OnOk result ((t : Totals) × AreTotals (end_from nothing_held ops.now) t × (string_bytes text.new ≡ string_bytes text.old ++ totals_text t ++ 10 ∷ [])) }
+    ensures { OnOk result ((t : Totals) × AreTotals (end_from nothing_held ops.now) t
+        × (string_bytes text.new ≡ string_bytes text.old ++ totals_text t ++ 10 ∷ [])) }
 {
     push_totals(text, told.end.totals())?;
     text.push_str("\n")?;

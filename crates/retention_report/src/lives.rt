@@ -60,7 +60,8 @@ fn is_made(lives: &[Life], object: u32) -> bool
 /// The life of an object.
 pub fn life_of(lives: &[Life], object: u32) -> Option<Life>
     requires { HasRisingObjects lives.now }
-    ensures { MatchOption result (has object (objects_of lives.now) ≡ false) (λ l. (outs : List OutcomeOf) → lives.now ≡ lives_of outs → l ≡ told.life_of outs object) }
+    ensures { MatchOption result (has object (objects_of lives.now) ≡ false)
+        (λ l. (outs : List OutcomeOf) → lives.now ≡ lives_of outs → l ≡ told.life_of outs object) }
 {
     let Some(place) = place_of(lives, object) else {
         return None;
@@ -71,7 +72,9 @@ pub fn life_of(lives: &[Life], object: u32) -> Option<Life>
 // Where the life of an object stands, if it has one.
 fn place_of(lives: &[Life], object: u32) -> Option<usize>
     requires { HasRisingObjects lives.now }
-    ensures { MatchOption result (has object (objects_of lives.now) ≡ false) (λ place. (place < length lives.now) × ((d : Life) → (slice_index_or lives.now place d).object ≡ object)) }
+    ensures { MatchOption result (has object (objects_of lives.now) ≡ false)
+        (λ place. (place < length lives.now)
+        × ((d : Life) → (slice_index_or lives.now place d).object ≡ object)) }
 {
     lives.binary_search_by_key(&object, |life| life.object).ok()
 }

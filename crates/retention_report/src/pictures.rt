@@ -30,7 +30,8 @@ pub fn picture(
     with_all: bool,
 ) -> Result<Answer, AllocError>
     requires { IsTrace ops.now }
-    ensures { IfOk result (λ a. Pictures with_all ops.now objects.now (string_bytes a.text) a.is_missing) }
+    ensures { IfOk result (λ a.
+        Pictures with_all ops.now objects.now (string_bytes a.text) a.is_missing) }
 {
     let story = tell(alloc, ops, false)?;
     let end = end_of(alloc, &story)?;
@@ -53,7 +54,8 @@ pub fn picture(
 fn end_of(alloc: Global, story: &Story) -> Result<Ending, AllocError>
     requires { (ops : List Operation) × IsStoryOfEnd ops story.now }
     ensures ending { IfOk result (λ e. IsEnding e) }
-    ensures of { IfOk result (λ e. (ops : List Operation) → IsStoryOfEnd ops story.now → IsEndOf ops e) }
+    ensures of { IfOk result
+        (λ e. (ops : List Operation) → IsStoryOfEnd ops story.now → IsEndOf ops e) }
 {
     let graph = Graph::of(alloc, &story.end, &story.dates)?;
     let end = Ending::of(alloc, graph)?;
@@ -69,7 +71,8 @@ fn text_of(
     with_all: bool,
 ) -> Result<String, AllocError>
     requires { IsEnding end.now }
-    ensures { IfOk result (λ s. IsDrawnText with_all heap.now end.now objects.now (string_bytes s)) }
+    ensures { IfOk result (λ s.
+        IsDrawnText with_all heap.now end.now objects.now (string_bytes s)) }
 {
     let indices = indices_of(alloc, &end.graph, objects)?;
     let given = marks_of(alloc, end.graph.len(), &indices)?;

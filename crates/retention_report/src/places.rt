@@ -13,7 +13,9 @@ use trace_types::slots::Slot;
 /// The handle or cell of a place, where that is drawn.
 pub fn drawn_root(graph: &Graph, shown: &[bool], held: Held) -> Option<Place>
     requires { length shown.now ≡ size graph.now }
-    ensures { listed result ≡ (if definition.is_drawn graph.now.objects.items shown.now held then picture.roots_of held.place else []) }
+    ensures { listed result ≡
+        (if definition.is_drawn graph.now.objects.items shown.now held then picture.roots_of
+        held.place else []) }
 {
     if is_drawn(graph, shown, held) {
         root_of(held.place)
@@ -74,7 +76,8 @@ pub fn is_drawn(graph: &Graph, shown: &[bool], held: Held) -> bool
 
 fn stands_in_shown(graph: &Graph, shown: &[bool], place: Place) -> bool
     requires { length shown.now ≡ size graph.now }
-    ensures { result ≡ picture.stands_in_shown (is_marked_in graph.now.objects.items shown.now) place }
+    ensures { result ≡ picture.stands_in_shown
+        (is_marked_in graph.now.objects.items shown.now) place }
 {
     match place {
         Place::Handle(_, _) | Place::Cell(_) => true,
@@ -84,7 +87,8 @@ fn stands_in_shown(graph: &Graph, shown: &[bool], place: Place) -> bool
 
 fn names_shown(graph: &Graph, shown: &[bool], slot: Slot) -> bool
     requires { length shown.now ≡ size graph.now }
-    ensures { result ≡ picture.names_shown (is_marked_in graph.now.objects.items shown.now) (named_by slot) }
+    ensures { result ≡ picture.names_shown (is_marked_in graph.now.objects.items shown.now)
+        (named_by slot) }
 {
     match slot.object() {
         Some(object) => is_shown(graph, shown, object),

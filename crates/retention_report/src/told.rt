@@ -21,7 +21,8 @@ impl Told {
     /// Of a replay.
     pub fn of(alloc: Global, story: Story, with_lives: bool) -> Result<Told, AllocError>
         requires { (ops : List Operation) × IsStoryOf with_lives ops story }
-        ensures { IfOk result (λ t. (ops : List Operation) → IsStoryOf with_lives ops story → IsToldOf with_lives ops t) }
+        ensures { IfOk result (λ t. (ops : List Operation) → IsStoryOf with_lives ops story →
+            IsToldOf with_lives ops t) }
     {
         let Story {
             outcomes,
@@ -48,7 +49,9 @@ impl Told {
 
 // The lives of objects by the marks of all operations, where they are wanted.
 fn lines_of(marked: Vec<Marked>, with_lives: bool) -> Result<Option<Lifelines>, AllocError>
-    ensures { IfOk result (λ lines. (ops : List Operation) → (with_lives ≡ true → AreMarked nothing_held ops marked.items) → AreLivesOf with_lives ops lines) }
+    ensures { IfOk result (λ lines. (ops : List Operation) →
+        (with_lives ≡ true → AreMarked nothing_held ops marked.items) →
+        AreLivesOf with_lives ops lines) }
 {
     if !with_lives {
         return Ok(None);

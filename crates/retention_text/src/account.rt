@@ -10,7 +10,8 @@ use text_pieces::{push_decimal, push_labelled};
 
 /// Adds the lines.
 pub fn push_account(text: &mut String, account: &Account) -> Result<(), AllocError>
-    ensures { OnOk result (string_bytes text.new ≡ string_bytes text.old ++ account_text account.now) }
+    ensures { OnOk result
+        (string_bytes text.new ≡ string_bytes text.old ++ account_text account.now) }
 {
     push_places(text, "  held by ", &account.held)?;
     push_places(text, "  kept by weak ", &account.kept)?;
@@ -20,7 +21,9 @@ pub fn push_account(text: &mut String, account: &Account) -> Result<(), AllocErr
 
 // Adds a line for each place, behind a label.
 fn push_places(text: &mut String, label: &str, places: &[Held]) -> Result<(), AllocError>
-    ensures { OnOk result (string_bytes text.new ≡ string_bytes text.old ++ flat_map (held_text label.now) places.now) }
+    ensures { OnOk result
+        (string_bytes text.new ≡ string_bytes text.old
+        ++ flat_map (held_text label.now) places.now) }
 {
     for held in places {
         push_held(text, label, *held)?;
@@ -40,7 +43,8 @@ fn push_why(text: &mut String, why: &Why) -> Result<(), AllocError>
 }
 
 fn push_in_cycle(text: &mut String, since: u32, way: &[Held], size: usize) -> Result<(), AllocError>
-    ensures { OnOk result (string_bytes text.new ≡ string_bytes text.old ++ in_cycle_text since way.now size) }
+    ensures { OnOk result
+        (string_bytes text.new ≡ string_bytes text.old ++ in_cycle_text since way.now size) }
 {
     push_labelled(text, "  leaked since ", since as u64)?;
     push_labelled(text, " in a cycle among ", size as u64)?;
@@ -50,7 +54,8 @@ fn push_in_cycle(text: &mut String, since: u32, way: &[Held], size: usize) -> Re
 }
 
 fn push_under(text: &mut String, since: u32, way: &[Held]) -> Result<(), AllocError>
-    ensures { OnOk result (string_bytes text.new ≡ string_bytes text.old ++ under_text since way.now) }
+    ensures { OnOk result
+        (string_bytes text.new ≡ string_bytes text.old ++ under_text since way.now) }
 {
     push_labelled(text, "  leaked since ", since as u64)?;
     text.push_str(" under ")?;
@@ -89,7 +94,8 @@ fn push_owner(text: &mut String, way: &[Held]) -> Result<(), AllocError>
 }
 
 fn push_field_owner(text: &mut String, place: Place) -> Result<(), AllocError>
-    ensures { OnOk result (string_bytes text.new ≡ string_bytes text.old ++ field_owner_text place) }
+    ensures { OnOk result
+        (string_bytes text.new ≡ string_bytes text.old ++ field_owner_text place) }
 {
     match place {
         Place::Field(object, _) => push_decimal(text, object as u64),
@@ -98,7 +104,8 @@ fn push_field_owner(text: &mut String, place: Place) -> Result<(), AllocError>
 }
 
 fn push_retained(text: &mut String, retained: Option<usize>) -> Result<(), AllocError>
-    ensures { OnOk result (string_bytes text.new ≡ string_bytes text.old ++ retained_text retained) }
+    ensures { OnOk result
+        (string_bytes text.new ≡ string_bytes text.old ++ retained_text retained) }
 {
     let Some(count) = retained else {
         return Ok(());

@@ -14,7 +14,8 @@ pub fn push_slot(
     is_weak: bool,
     is_in_cycle: bool,
 ) -> Result<(), AllocError>
-    ensures { OnOk result (string_bytes text.new ≡ string_bytes text.old ++ edge_text held.place object held.since is_weak is_in_cycle) }
+    ensures { OnOk result (string_bytes text.new ≡ string_bytes text.old
+        ++ edge_text held.place object held.since is_weak is_in_cycle) }
 {
     push_end(text, held.place)?;
     push_labelled(text, " -> o", object as u64)?;
@@ -25,7 +26,8 @@ pub fn push_slot(
 
 // Which field a slot is, and since when.
 fn push_label(text: &mut String, held: Held) -> Result<(), AllocError>
-    ensures { OnOk result (string_bytes text.new ≡ string_bytes text.old ++ label_text held.place held.since) }
+    ensures { OnOk result
+        (string_bytes text.new ≡ string_bytes text.old ++ label_text held.place held.since) }
 {
     text.push_str(" [label=\"")?;
     push_index(text, held.place)?;
@@ -36,7 +38,8 @@ fn push_label(text: &mut String, held: Held) -> Result<(), AllocError>
 
 // How the line is drawn, where it is not plain.
 fn push_line(text: &mut String, is_weak: bool, is_in_cycle: bool) -> Result<(), AllocError>
-    ensures { OnOk result (string_bytes text.new ≡ string_bytes text.old ++ line_text is_weak is_in_cycle) }
+    ensures { OnOk result
+        (string_bytes text.new ≡ string_bytes text.old ++ line_text is_weak is_in_cycle) }
 {
     match (is_weak, is_in_cycle) {
         (true, _) => text.push_str(" style=dashed color=\"#0072b2\""),

@@ -48,7 +48,9 @@ pub fn push_object(text: &mut String, counts: Counts, look: Look) -> Result<(), 
 
 // Its number, and how many slots name it.
 fn push_counts(text: &mut String, counts: Counts) -> Result<(), AllocError>
-    ensures { OnOk result (string_bytes text.new ≡ string_bytes text.old ++ counts_text counts.object counts.strong counts.weak) }
+    ensures { OnOk result
+        (string_bytes text.new ≡ string_bytes text.old
+        ++ counts_text counts.object counts.strong counts.weak) }
 {
     push_labelled(text, "  o", counts.object as u64)?;
     push_labelled(text, " [label=\"#", counts.object as u64)?;
@@ -59,7 +61,9 @@ fn push_counts(text: &mut String, counts: Counts) -> Result<(), AllocError>
 }
 
 fn push_look(text: &mut String, look: Look) -> Result<(), AllocError>
-    ensures { OnOk result (string_bytes text.new ≡ string_bytes text.old ++ look_text look.is_leaked look.is_husk look.is_given) }
+    ensures { OnOk result
+        (string_bytes text.new ≡ string_bytes text.old
+        ++ look_text look.is_leaked look.is_husk look.is_given) }
 {
     push_if(text, look.is_leaked, " fillcolor=\"#f6b26b\"")?;
     push_if(text, look.is_husk, " style=\"rounded,dashed\"")?;
@@ -68,7 +72,8 @@ fn push_look(text: &mut String, look: Look) -> Result<(), AllocError>
 }
 
 fn push_if(text: &mut String, is_so: bool, piece: &str) -> Result<(), AllocError>
-    ensures { OnOk result (string_bytes text.new ≡ string_bytes text.old ++ (if is_so then piece.now else [])) }
+    ensures { OnOk result
+        (string_bytes text.new ≡ string_bytes text.old ++ (if is_so then piece.now else [])) }
 {
     if is_so { text.push_str(piece) } else { Ok(()) }
 }

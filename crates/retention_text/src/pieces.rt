@@ -34,7 +34,8 @@ fn push_index(text: &mut String, field: Option<u32>) -> Result<(), AllocError>
 
 /// Adds a place and since when it holds what it does, behind a label.
 pub fn push_held(text: &mut String, label: &str, held: Held) -> Result<(), AllocError>
-    ensures { OnOk result (string_bytes text.new ≡ string_bytes text.old ++ held_text label.now held) }
+    ensures { OnOk result
+        (string_bytes text.new ≡ string_bytes text.old ++ held_text label.now held) }
 {
     text.push_str(label)?;
     push_place(text, held.place)?;

@@ -14,7 +14,8 @@ use trace_types::outcomes::Event;
 
 /// Adds the lines of a life, by its marks: those of one operation stand in one line.
 pub fn push_life(text: &mut String, ops: &[Op], life: &[Marked]) -> Result<(), AllocError>
-    ensures { OnOk result (string_bytes text.new ≡ string_bytes text.old ++ life_lines ops.now life.now) }
+    ensures { OnOk result
+        (string_bytes text.new ≡ string_bytes text.old ++ life_lines ops.now life.now) }
 {
     let mut last = None;
     for marked in life {
@@ -32,7 +33,8 @@ fn push_start(
     last: Option<usize>,
     marked: &Marked,
 ) -> Result<(), AllocError>
-    ensures { OnOk result (string_bytes text.new ≡ string_bytes text.old ++ line_start ops.now last marked.now) }
+    ensures { OnOk result
+        (string_bytes text.new ≡ string_bytes text.old ++ line_start ops.now last marked.now) }
 {
     if is_at(last, marked.position) {
         return Ok(());
@@ -44,7 +46,8 @@ fn push_start(
 
 // Begins the line of the operation that left a mark.
 fn push_line_head(text: &mut String, ops: &[Op], marked: &Marked) -> Result<(), AllocError>
-    ensures { OnOk result (string_bytes text.new ≡ string_bytes text.old ++ line_head (slice_get ops.now marked.now.position) marked.now) }
+    ensures { OnOk result (string_bytes text.new ≡ string_bytes text.old
+        ++ line_head (slice_get ops.now marked.now.position) marked.now) }
 {
     match op_at(ops, marked.position) {
         Some(op) => push_head(text, op, marked),
@@ -79,7 +82,8 @@ fn push_end(text: &mut String, last: Option<usize>) -> Result<(), AllocError>
 }
 
 fn push_head(text: &mut String, op: &Op, marked: &Marked) -> Result<(), AllocError>
-    ensures { OnOk result (string_bytes text.new ≡ string_bytes text.old ++ head_text op.now marked.now) }
+    ensures { OnOk result
+        (string_bytes text.new ≡ string_bytes text.old ++ head_text op.now marked.now) }
 {
     push_labelled(text, "  ", op.id() as u64)?;
     text.push_str(" ")?;
@@ -106,7 +110,8 @@ fn push_mark(text: &mut String, mark: Mark) -> Result<(), AllocError>
 }
 
 fn push_slot_place(text: &mut String, place: Place, is_weak: bool) -> Result<(), AllocError>
-    ensures { OnOk result (string_bytes text.new ≡ string_bytes text.old ++ (weak_text is_weak ++ place_text place)) }
+    ensures { OnOk result
+        (string_bytes text.new ≡ string_bytes text.old ++ (weak_text is_weak ++ place_text place)) }
 {
     if is_weak {
         text.push_str("weak ")?;
