@@ -45,21 +45,24 @@ impl Answers for Explaining<'_> {
 
     ghost IsDue = { λ asked. IsExplainDue asked.objects.now asked.with_lives };
 
-    fn answer(&self, alloc: Global, input: &[u8]) -> Result<Due, AllocError> {
+    fn answer(&self, alloc: Global, input: Vec<u8>) -> Result<Due, AllocError> {
         explain_due(alloc, input, self.objects, self.with_lives)
     }
 }
 
 fn explain_due(
     alloc: Global,
-    input: &[u8],
+    input: Vec<u8>,
     objects: &[u32],
     with_lives: bool,
 ) -> Result<Due, AllocError>
-    ensures { IfOk result (IsExplainDue objects.now with_lives input.now) }
+    ensures { IfOk result (IsExplainDue objects.now with_lives input.items) }
 {
-    match read_trace(alloc, input) {
-        Ok(trace) => told(alloc, &trace, objects, with_lives),
+    match read_trace(alloc, &input) {
+        Ok(trace) => {
+            drop(input);
+            told(alloc, &trace, objects, with_lives)
+        }
         Err(fault) => fault_due(alloc, &fault),
     }
 }

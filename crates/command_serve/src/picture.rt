@@ -42,21 +42,24 @@ impl Answers for Picturing<'_> {
 
     ghost IsDue = { λ asked. IsPictureDue asked.objects.now asked.with_all };
 
-    fn answer(&self, alloc: Global, input: &[u8]) -> Result<Due, AllocError> {
+    fn answer(&self, alloc: Global, input: Vec<u8>) -> Result<Due, AllocError> {
         picture_due(alloc, input, self.objects, self.with_all)
     }
 }
 
 fn picture_due(
     alloc: Global,
-    input: &[u8],
+    input: Vec<u8>,
     objects: &[u32],
     with_all: bool,
 ) -> Result<Due, AllocError>
-    ensures { IfOk result (IsPictureDue objects.now with_all input.now) }
+    ensures { IfOk result (IsPictureDue objects.now with_all input.items) }
 {
-    match read_trace(alloc, input) {
-        Ok(trace) => told(alloc, &trace, objects, with_all),
+    match read_trace(alloc, &input) {
+        Ok(trace) => {
+            drop(input);
+            told(alloc, &trace, objects, with_all)
+        }
         Err(fault) => fault_due(alloc, &fault),
     }
 }

@@ -37,17 +37,20 @@ impl Answers for Replay {
 
     ghost IsDue = { λ _. IsReplayDue };
 
-    fn answer(&self, alloc: Global, input: &[u8]) -> Result<Due, AllocError> {
+    fn answer(&self, alloc: Global, input: Vec<u8>) -> Result<Due, AllocError> {
         replay_due(alloc, input)
     }
 }
 
 #[tactic(auto, unfolding(crate::specs::Replay::IsReplayDue))]
-fn replay_due(alloc: Global, input: &[u8]) -> Result<Due, AllocError>
-    ensures { IfOk result (IsReplayDue input.now) }
+fn replay_due(alloc: Global, input: Vec<u8>) -> Result<Due, AllocError>
+    ensures { IfOk result (IsReplayDue input.items) }
 {
-    match read_trace(alloc, input) {
-        Ok(trace) => Ok(Due::answer(report_on(alloc, &trace)?)),
+    match read_trace(alloc, &input) {
+        Ok(trace) => {
+            drop(input);
+            Ok(Due::answer(report_on(alloc, &trace)?))
+        }
         Err(fault) => fault_due(alloc, &fault),
     }
 }

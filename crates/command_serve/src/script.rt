@@ -31,17 +31,20 @@ impl Answers for Replies {
 
     ghost IsDue = { λ _. IsScriptDue };
 
-    fn answer(&self, alloc: Global, input: &[u8]) -> Result<Due, AllocError> {
+    fn answer(&self, alloc: Global, input: Vec<u8>) -> Result<Due, AllocError> {
         script_due(alloc, input)
     }
 }
 
 #[tactic(auto, unfolding(crate::specs::Script::IsScriptDue))]
-fn script_due(alloc: Global, input: &[u8]) -> Result<Due, AllocError>
-    ensures { IfOk result (IsScriptDue input.now) }
+fn script_due(alloc: Global, input: Vec<u8>) -> Result<Due, AllocError>
+    ensures { IfOk result (IsScriptDue input.items) }
 {
-    match read_script(alloc, input, false) {
-        Ok(script) => Ok(Due::answer(text_of(alloc, script)?)),
+    match read_script(alloc, &input, false) {
+        Ok(script) => {
+            drop(input);
+            Ok(Due::answer(text_of(alloc, script)?))
+        }
         Err(fault) => fault_due(alloc, &fault),
     }
 }

@@ -15,9 +15,9 @@ pub trait Answers {
     /// This is due for an input that is not too long.
     ghost IsDue: { Self → List ℕ → Due → Type 0 };
 
-    /// Makes what is due for an input.
-    fn answer(&self, alloc: Global, input: &[u8]) -> Result<Due, AllocError>
-        ensures { IfOk result (IsDue self.now input.now) };
+    /// Makes what is due for an input, which is let go once it is read.
+    fn answer(&self, alloc: Global, input: Vec<u8>) -> Result<Due, AllocError>
+        ensures { IfOk result (IsDue self.now input.items) };
 }
 
 /// Reads all input, and writes what the command has due for it.
@@ -31,10 +31,11 @@ pub fn serve<C: Answers, S: Source, K: Sink>(
     source: &mut S,
     sink: &mut K,
 ) -> Exit
-    ensures { Serves (C.IsDue command.now) S.Source source.old source.new K.Sink sink.old sink.new result }
+    ensures { Serves (C.IsDue command.now) S.Source source.old source.new K.Sink sink.old sink.new
+        result }
 {
     match read_all(alloc, source) {
-        Ok(input) => write_due(sink, command.answer(alloc, input.as_slice())),
+        Ok(input) => write_due(sink, command.answer(alloc, input)),
         Err(InputFault::TooLong) => write_due(sink, too_long(alloc)),
         Err(InputFault::Device) => Exit::Device,
         Err(InputFault::Memory) => Exit::Memory,

@@ -40,16 +40,16 @@ impl Answers for Whatif {
 
     ghost IsDue = { λ _. IsWhatifDue };
 
-    fn answer(&self, alloc: Global, input: &[u8]) -> Result<Due, AllocError> {
+    fn answer(&self, alloc: Global, input: Vec<u8>) -> Result<Due, AllocError> {
         whatif_due(alloc, input)
     }
 }
 
 #[tactic(auto, unfolding(crate::specs::Whatif::IsWhatifDue))]
-fn whatif_due(alloc: Global, input: &[u8]) -> Result<Due, AllocError>
-    ensures { IfOk result (IsWhatifDue input.now) }
+fn whatif_due(alloc: Global, input: Vec<u8>) -> Result<Due, AllocError>
+    ensures { IfOk result (IsWhatifDue input.items) }
 {
-    match read_script(alloc, input, true) {
+    match read_script(alloc, &input, true) {
         Ok(script) => {
             let batch = only_batch(alloc, script.requests);
             edited_due(alloc, &script.trace, &batch)

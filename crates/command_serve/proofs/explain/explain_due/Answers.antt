@@ -4,8 +4,8 @@ use Rattle.command_serve.proofs.explain.explain_due.Goals as goal
 
 pub returns-in-Ok : goal.returns-in-Ok
 returns-in-Ok c =
-    IfOk-weaker c.told.result _ _ (λ due is. explained c.args.objects.now c.args.with_lives c.args.input.now c.in-Ok.trace due c.in-Ok.ensures.ok is) c.told.ensures
+    IfOk-weaker c.told.result _ _ (λ due is. explained c.args.objects.now c.args.with_lives c.args.input.items c.in-Ok.trace due (rw c.deref.ensures.value at c.in-Ok.ensures.ok) is) c.told.ensures
 
 pub returns-in-Err : goal.returns-in-Err
 returns-in-Err c =
-    explained_fault c.args.objects.now c.args.with_lives c.args.input.now c.in-Err.fault c.fault_due.result c.fault_due.ensures.due c.fault_due.ensures.cause c.in-Err.ensures.fault
+    explained_fault c.args.objects.now c.args.with_lives c.args.input.items c.in-Err.fault c.fault_due.result c.fault_due.ensures.due c.fault_due.ensures.cause (rw c.deref.ensures.value at c.in-Err.ensures.fault)

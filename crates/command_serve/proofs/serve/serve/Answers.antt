@@ -1,4 +1,4 @@
-use Rattle.std.proofs.Common.{◌≤◌, List, length, ap, subst, arith}
+use Rattle.std.proofs.Common.{rules, ◌≡◌, ◌≤◌, length, vec_len, arith}
 use Rattle.std.proofs.lemmas.Result.{IfOk-weaker}
 use Rattle.trace_types.specs.declared.limits.TheConstants.{MAX_INPUT}
 use Rattle.command_serve.specs.Serve.{IsDueOrTooLong}
@@ -10,8 +10,8 @@ returns-in-Ok g c =
     let is = g.C.Answers.IsDue c.args.command.now in
     let input = c.in-Ok.input.items in
     let read = c.in-Ok.ensures in
-    let same = c.as_slice.ensures.value in
-    let short : length input ≤ MAX_INPUT = omega (arith, ap length same, c.as_slice.ensures.len, read.ok.2) in
-    let may = IfOk-weaker c.answer.result _ (IsDueOrTooLong is input) (λ d h. due-short is input d short (subst (λ (x : List _). is x d) same h)) c.answer.ensures in
+    let long : vec_len c.in-Ok.input ≡ length input = search rules in
+    let short : length input ≤ MAX_INPUT = omega (arith, long, read.ok.2) in
+    let may = IfOk-weaker c.answer.result _ (IsDueOrTooLong is input) (λ d h. due-short is input d short h) c.answer.ensures in
     let done = c.write_due.ensures in
     served is g.S.Source _ _ g.K.Sink _ _ input c.answer.result _ read.input.0 read.input.1 read.read may done.written done.memory done.device done.other
