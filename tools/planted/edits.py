@@ -5,7 +5,8 @@ import re
 
 PARTS = ("src/", "specs/", "proofs/")
 # What may refuse an edit beside a clause, where its line 'refused by:' says so.
-OTHER = ("safety", "requires", "loop invariant")
+AT_A_LIMIT = "clause, at a limit"
+OTHER = ("safety", "requires", "loop invariant", AT_A_LIMIT)
 
 
 class Edit:
@@ -120,6 +121,11 @@ class Edit:
 
     def plant(self, function, number):
         self.function, self.symbol = function, f"{function.name}_planted_{number}"
+
+    @property
+    def wants_control(self):
+        """Whether the plain call of the real function has to meet the clauses as well."""
+        return bool(self.wraps) or AT_A_LIMIT in self.refused_by
 
     @property
     def in_place(self):

@@ -4,8 +4,10 @@ import re
 
 # Only these refuse an edit: what a clause, or the invariant of a type, says of the result is not so.
 GOOD = ("clause, at values", "clause", "clause, answer by hand")
-# An edit's line 'refused by:' lets one of these refuse it too.
-ALLOWED = ("safety", "requires", "loop invariant")
+# An edit's line 'refused by:' lets one of these refuse it too. At a limit the search for a proof of a clause ended without one, as it
+# does not for the real function; rt must-fail counts that as well.
+LIMIT = "clause, at a limit"
+ALLOWED = ("safety", "requires", "loop invariant", LIMIT)
 KINDS = (*GOOD, *ALLOWED, "limit", "name gone", "unclear", "not tried", "let through", "not read")
 
 FN = re.compile(r"^fn (\S+): (.*)")
@@ -46,7 +48,9 @@ def kind_of(goal, text, more):
     kind = sort_of(goal, text)
     if "is false" in more or "goal fails" in more:
         return "clause, at values" if kind == "clause" else kind
-    return "limit" if "gave up" in more else kind
+    if "gave up" in more:
+        return LIMIT if kind == "clause" else "limit"
+    return kind
 
 
 def read(said, crate):
@@ -104,7 +108,7 @@ def judge(edit, told, control):
     goals = sorted(told.goals, key=lambda it: KINDS.index(it[0]))
     edit.goals = sorted({(it[0], it[1]) for it in goals})
     edit.kind, edit.told = (goals[0][0], goals[0][2]) if goals else ("not tried", told.verdict)
-    if edit.kind == "clause" and control is not None and not control.is_proved:
+    if edit.kind in ("clause", LIMIT) and control is not None and not control.is_proved:
         edit.kind = "unclear"
         edit.told = f"the plain call of the real function is not shown to meet the clauses either: {edit.told}"
 
