@@ -18,7 +18,7 @@ pub GoesOn-none : (old ops : List Operation) (known : Reusable) (prefix : Prefix
     → IsReached ops prefix.len prefix.segments prefix.end → GoesOn old ops known prefix prefix shelf shelf count count
 GoesOn-none old ops known prefix shelf count reached = record {
   reached = reached;
-  onward = IsOnward-none ops known prefix.len (marks_from 0 prefix.segments) shelf (contains nat_cmp prefix.gone);
+  onward = IsOnward-none ops known prefix.len (marks_from 0 prefix.segments) shelf (contains nat_cmp prefix.answered);
   stepped = λ r start chunks h all. h;
 }
 
@@ -28,7 +28,7 @@ pub GoesOn-next : (old ops : List Operation) (known : Reusable) (a b c : Prefix)
 GoesOn-next old ops known a b c s t u l m n h k = record {
   reached = k.reached;
   onward = IsOnward-next ops known a.len b.len c.len (marks_from 0 a.segments) (marks_from 0 b.segments) (marks_from 0 c.segments) s t u
-      (contains nat_cmp a.gone) (contains nat_cmp b.gone) (contains nat_cmp c.gone) h.onward k.onward;
+      (contains nat_cmp a.answered) (contains nat_cmp b.answered) (contains nat_cmp c.answered) h.onward k.onward;
   stepped = λ r start chunks before all.
       k.stepped r start chunks (h.stepped r start chunks before all) (λ e there. all e (AreSome-guesses known.guesses t.chunks s.chunks h.onward.answered.touched.fewer e there));
 }

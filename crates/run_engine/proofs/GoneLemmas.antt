@@ -14,7 +14,7 @@ use Rattle.run_engine.specs.RunView.{RunView}
 use Rattle.run_engine.specs.Segments.{without}
 use Rattle.run_engine.specs.Marks.{multiples_below, load_marks}
 use Rattle.run_engine.specs.GivenUp.{given_up, name_at, names_at, IsTouched}
-use Rattle.run_engine.specs.inner.Loaded.{is_gone, kept_below, loaded_view}
+use Rattle.run_engine.specs.inner.Loaded.{is_given_up, kept_below, loaded_view}
 use Rattle.run_engine.proofs.LoadLemmas.{multiples_below-next, range-append}
 use Rattle.run_engine.proofs.TouchLemmas.{IsTouched-append}
 use Rattle.run_engine.proofs.NameLemmas.{due-name}
@@ -64,21 +64,21 @@ goes-alone f g m at (p ∷ ps) off same =
 zero-rest : (p : ℕ) → nat_eq (p % 64) 0 ≡ true → p % 64 ≡ 0
 zero-rest p h = eqb_yes (subst T (sym h) tt)
 
-gone-there : (gone : List Bool) (at : ℕ) → 0 < at → at / 64 < length gone → is_gone (set gone (at / 64) true) at ≡ true
+gone-there : (gone : List Bool) (at : ℕ) → 0 < at → at / 64 < length gone → is_given_up (set gone (at / 64) true) at ≡ true
 gone-there gone at pos lt = ap (λ b. b && get_or (set gone (at / 64) true) (at / 64) false) (lt-ltb 0 at pos) ∙ get_or-set_same gone (at / 64) true false lt
 
-gone-other : (gone : List Bool) (at p : ℕ) → at % 64 ≡ 0 → p % 64 ≡ 0 → p ≢ at → is_gone (set gone (at / 64) true) p ≡ is_gone gone p
+gone-other : (gone : List Bool) (at p : ℕ) → at % 64 ≡ 0 → p % 64 ≡ 0 → p ≢ at → is_given_up (set gone (at / 64) true) p ≡ is_given_up gone p
 gone-other gone at p z y ne =
     let apart : p / 64 ≢ at / 64 = λ e. ne (omega arith) in
     ap (λ b. nat_lt 0 p && b) (get_or-set_other gone (at / 64) (p / 64) true false apart)
 
 kept-set : (gone : List Bool) (n at : ℕ) → at % 64 ≡ 0 → 0 < at → at / 64 < length gone → kept_below (set gone (at / 64) true) n ≡ without at (kept_below gone n)
 kept-set gone n at z pos lt =
-    goes-alone (λ p. not (is_gone gone p)) (λ p. not (is_gone (set gone (at / 64) true) p)) is_multiple at (range_with_len 0 n)
+    goes-alone (λ p. not (is_given_up gone p)) (λ p. not (is_given_up (set gone (at / 64) true) p)) is_multiple at (range_with_len 0 n)
     (ap not (gone-there gone at pos lt)) (λ p t ne. ap not (gone-other gone at p z (zero-rest p t) ne))
 
 kept-other : (gone : List Bool) (n at : ℕ) → nat_eq (at % 64) 0 ≡ false → without at (kept_below gone n) ≡ kept_below gone n
-kept-other gone n at f = stay-all (λ p. not (is_gone gone p)) is_multiple at (range_with_len 0 n)
+kept-other gone n at f = stay-all (λ p. not (is_given_up gone p)) is_multiple at (range_with_len 0 n)
     (λ p t. ne_eqb p at (λ is. let same : nat_eq (p % 64) 0 ≡ nat_eq (at % 64) 0 = ap (λ q. nat_eq (q % 64) 0) is in cc))
 
 -- the end stays
@@ -128,12 +128,12 @@ get-false zero i = get-none i
 get-false (suc k) zero = refl
 get-false (suc k) (suc i) = get-false k i
 
-none-gone : (k p : ℕ) → is_gone (replicate k false) p ≡ false
+none-gone : (k p : ℕ) → is_given_up (replicate k false) p ≡ false
 none-gone k p = elim (nat_lt 0 p) as (λ b. (b && get_or (replicate k false) (p / 64) false) ≡ false) [ true ↦ get-false k (p / 64) | false ↦ refl ]
 
-keep-all : (k : ℕ) (ps : List ℕ) → filter (λ p. not (is_gone (replicate k false) p)) ps ≡ ps
+keep-all : (k : ℕ) (ps : List ℕ) → filter (λ p. not (is_given_up (replicate k false) p)) ps ≡ ps
 keep-all k [] = refl
-keep-all k (p ∷ ps) = ap (λ b. cond (not b) (p ∷ filter (λ q. not (is_gone (replicate k false) q)) ps) (filter (λ q. not (is_gone (replicate k false) q)) ps)) (none-gone k p) ∙ ap (λ qs. p ∷ qs) (keep-all k ps)
+keep-all k (p ∷ ps) = ap (λ b. cond (not b) (p ∷ filter (λ q. not (is_given_up (replicate k false) q)) ps) (filter (λ q. not (is_given_up (replicate k false) q)) ps)) (none-gone k p) ∙ ap (λ qs. p ∷ qs) (keep-all k ps)
 
 names-append : (trace : List Operation) (ms more : List ℕ) → names_at trace (ms ++ more) ≡ names_at trace ms ++ names_at trace more
 names-append trace ms more =

@@ -9,7 +9,6 @@ use Rattle.trace_types.specs.Operation.{Operation}
 use Rattle.ownership_model.specs.State.{State}
 use Rattle.op_step.specs.Chunk.{Chunk}
 use Rattle.run_engine.specs.Guesses.{with_guesses, IsGuessed}
-use Rattle.run_engine.specs.inner.Guessed.{Serves}
 use Rattle.run_engine.specs.Memo.{IsAmong, AreSome}
 use Rattle.run_engine.proofs.ListingLemmas.{take-shorter}
 
@@ -52,6 +51,13 @@ listed-more others ops next at i few same is le more =
     ∙ ap (λ xs. xs ++ take few (drop i others)) same
     ∙ ap (λ xs. take i (drop at ops) ++ xs) (sym more ∙ ap (take few) is ∙ take-shorter few (length next) (drop (at + i) ops) le ∙ ap (take few) (sym (drop-drop i at ops)))
     ∙ sym (take-add i few (drop at ops))
+
+-- a guess begins with the heap, and has operations from a position on, one at least and none behind another position
+pub record Serves (guess : Chunk) (heap : State) (ops : List Operation) (at to : ℕ) : Type 0 where
+  pub start_is : guess.start ≡ heap
+  pub some : 0 < length guess.ops
+  pub short : length guess.ops ≤ to - at
+  pub ops_are : guess.ops ≡ take (length guess.ops) (drop at ops)
 
 -- a guess that serves is one of them, as long as what is taken of it
 pub guess-there : (guesses : List Chunk) (k : ℕ) (guess : Chunk) (heap : State) (ops : List Operation) (at to len : ℕ) → k < length guesses → guess ≡ get_or guesses k guess → Serves guess heap ops at to → len ≡ length guess.ops

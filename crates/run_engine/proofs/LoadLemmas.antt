@@ -12,7 +12,7 @@ use Rattle.op_step.specs.Meter.{raised}
 use Rattle.run_engine.specs.SegmentView.{SegmentView}
 use Rattle.run_engine.specs.Segments.{trace_of, marks_from, bare_segment, IsReached, IsPiece}
 use Rattle.run_engine.specs.Marks.{multiples_below}
-use Rattle.run_engine.specs.inner.Loaded.{is_gone, kept_below}
+use Rattle.run_engine.specs.inner.Loaded.{is_given_up, kept_below}
 use Rattle.run_engine.proofs.PieceLemmas.{IsReached-next, IsReached-bare, marks_from-bare, marks_from-piece}
 
 pub range-append : (a n m : ℕ) → range_with_len a (n + m) ≡ range_with_len a n ++ range_with_len (a + n) m
@@ -50,20 +50,20 @@ pub record IsLoaded (ops : List Operation) (gone : List Bool) (before at : ℕ) 
   pub count_is : count ≡ raised before at
 
 -- the checkpoint at 0 stays
-pub gone-behind : (gone : List Bool) (p : ℕ) → is_gone gone p ≡ true → 0 < p
+pub gone-behind : (gone : List Bool) (p : ℕ) → is_given_up gone p ≡ true → 0 < p
 gone-behind gone zero h = cc
 gone-behind gone (suc p) h = omega arith
 
 -- what is kept as far as the next cut
-kept-next : (gone : List Bool) (at to : ℕ) (b : Bool) → multiples_below to ≡ multiples_below at ++ at ∷ [] → is_gone gone at ≡ b → kept_below gone to ≡ kept_below gone at ++ cond (not b) (at ∷ []) []
+kept-next : (gone : List Bool) (at to : ℕ) (b : Bool) → multiples_below to ≡ multiples_below at ++ at ∷ [] → is_given_up gone at ≡ b → kept_below gone to ≡ kept_below gone at ++ cond (not b) (at ∷ []) []
 kept-next gone at to b next is =
-    ap (filter (λ p. not (is_gone gone p))) next ∙ filter-append (λ p. not (is_gone gone p)) (multiples_below at) (at ∷ [])
+    ap (filter (λ p. not (is_given_up gone p))) next ∙ filter-append (λ p. not (is_given_up gone p)) (multiples_below at) (at ∷ [])
     ∙ ap (λ x. kept_below gone at ++ cond (not x) (at ∷ []) []) is
 
 -- it goes on by a piece, whose checkpoint is kept
 pub IsLoaded-kept : (ops : List Operation) (gone : List Bool) (before at to len count : ℕ) (segments more : List SegmentView) (heap end : State)
     → IsLoaded ops gone before at segments heap count → at < length ops → to ≡ at + min (length ops - at) 64 → IsPiece heap (slice_range ops at to) more end len → len ≡ length (slice_range ops at to)
-    → is_gone gone at ≡ false → IsLoaded ops gone before (at + len) (segments ++ more) end (raised count len)
+    → is_given_up gone at ≡ false → IsLoaded ops gone before (at + len) (segments ++ more) end (raised count len)
 IsLoaded-kept ops gone before at to len count segments more heap end h lt there piece whole stays =
     let within = h.prefix.within in
     let pos : 0 < len = piece.some in
@@ -80,7 +80,7 @@ IsLoaded-kept ops gone before at to len count segments more heap end h lt there 
 
 -- it goes on with no checkpoint
 pub IsLoaded-gone : (ops next : List Operation) (gone : List Bool) (before at to count : ℕ) (segments : List SegmentView) (heap : State)
-    → IsLoaded ops gone before at segments heap count → at < length ops → to ≡ at + min (length ops - at) 64 → next ≡ slice_range ops at to → is_gone gone at ≡ true
+    → IsLoaded ops gone before at segments heap count → at < length ops → to ≡ at + min (length ops - at) 64 → next ≡ slice_range ops at to → is_given_up gone at ≡ true
     → IsLoaded ops gone before (at + length next) (segments ++ bare_segment heap next ∷ []) (end_from heap next) (raised count (length next))
 IsLoaded-gone ops next gone before at to count segments heap h lt there is goes =
     let counted = h.count_is in
@@ -103,12 +103,12 @@ get-none : (n : ℕ) → get_or [] n false ≡ false
 get-none zero = refl
 get-none (suc n) = refl
 
-none-gone : (p : ℕ) → is_gone [] p ≡ false
+none-gone : (p : ℕ) → is_given_up [] p ≡ false
 none-gone p = elim (nat_lt 0 p) as (λ b. (b && get_or [] (p / 64) false) ≡ false) [ true ↦ get-none (p / 64) | false ↦ refl ]
 
-all-stay : (ps : List ℕ) → filter (λ p. not (is_gone [] p)) ps ≡ ps
+all-stay : (ps : List ℕ) → filter (λ p. not (is_given_up [] p)) ps ≡ ps
 all-stay [] = refl
-all-stay (p ∷ ps) = ap (λ b. cond (not b) (p ∷ filter (λ q. not (is_gone [] q)) ps) (filter (λ q. not (is_gone [] q)) ps)) (none-gone p) ∙ ap (λ qs. p ∷ qs) (all-stay ps)
+all-stay (p ∷ ps) = ap (λ b. cond (not b) (p ∷ filter (λ q. not (is_given_up [] q)) ps) (filter (λ q. not (is_given_up [] q)) ps)) (none-gone p) ∙ ap (λ qs. p ∷ qs) (all-stay ps)
 
 -- where none is given up
 pub kept-all : (n : ℕ) → kept_below [] n ≡ multiples_below n

@@ -11,7 +11,7 @@ use Rattle.op_step.specs.Chunk.{Chunk}
 use Rattle.run_engine.specs.Memo.{IsAmong, AreSome}
 use Rattle.run_engine.specs.Bounds.{AgreesAt}
 use Rattle.std.specs.List.{AllByRecursion}
-use Rattle.run_engine.specs.Steps.{IsOldStretch, IsKnown, AreTaken, IsCovered, AreRising, HaveStepped, Beside, MustStep, AreStepped}
+use Rattle.run_engine.specs.Steps.{IsOldStretch, IsKnown, AreTaken, IsCovered, AreRising, HaveStepped, EditedReplay, MustStep, AreStepped}
 use Rattle.run_engine.proofs.ListingLemmas.{take-shorter}
 
 AllByRecursion-prefix : (P : ℕ → Type 0) (a b : List ℕ) → AllByRecursion P (a ++ b) → AllByRecursion P a
@@ -91,12 +91,12 @@ HaveStepped-next old ops marks some chunks heap r at to len before count counted
     (λ (e : counted ≡ raised count len). omega arith)
     taken
 
-pub AreStepped-stop : (x : Beside) (r to q before after : ℕ) → to ≡ q - x.base + x.edited → Contains x.marks q → x.base ≤ q → AgreesAt x.old x.ops x.base x.edited q
+pub AreStepped-stop : (x : EditedReplay) (r to q before after : ℕ) → to ≡ q - x.base + x.edited → Contains x.marks q → x.base ≤ q → AgreesAt x.old x.ops x.base x.edited q
     → HaveStepped x.old x.ops x.marks x.chunks r to before after → AreStepped x r before after
 AreStepped-stop x r to q before after there mark behind agrees h ps rising must =
     h ps (narrowed ps r (length x.ops) to rising (AllByRecursion-map (MustStep x) (λ p. p < to) (λ p m. let lt : p < q - x.base + x.edited = m.early q mark behind agrees in omega arith) ps must))
     (AllByRecursion-map (MustStep x) (λ p. IsCovered x.old x.ops x.marks x.chunks p → ⊥) (λ p m. m.bare) ps must)
 
-pub AreStepped-end : (x : Beside) (r to before after : ℕ) → to ≡ length x.ops → HaveStepped x.old x.ops x.marks x.chunks r to before after → AreStepped x r before after
+pub AreStepped-end : (x : EditedReplay) (r to before after : ℕ) → to ≡ length x.ops → HaveStepped x.old x.ops x.marks x.chunks r to before after → AreStepped x r before after
 AreStepped-end x r to before after there h ps rising must =
     h ps (subst (λ n. AreRising r n ps) (sym there) rising) (AllByRecursion-map (MustStep x) (λ p. IsCovered x.old x.ops x.marks x.chunks p → ⊥) (λ p m. m.bare) ps must)

@@ -52,7 +52,7 @@ HaveSteppedOn old ops marks some at to before after =
 
 -- a replay of an edited trace beside an old run: both traces, from where on they have the same operations, the old checkpoints, and the chunks
 -- that may serve
-pub record Beside : Type 0 where
+pub record EditedReplay : Type 0 where
   pub old : List Operation
   pub ops : List Operation
   pub base : ℕ
@@ -61,12 +61,12 @@ pub record Beside : Type 0 where
   pub chunks : List (ℕ × Chunk)
 
 -- the operation at p of the edited trace is before each place where the replay may stop, and is not covered
-pub record MustStep (x : Beside) (p : ℕ) : Type 0 where
+pub record MustStep (x : EditedReplay) (p : ℕ) : Type 0 where
   pub early : (q : ℕ) → Contains x.marks q → x.base ≤ q → AgreesAt x.old x.ops x.base x.edited q → p < q - x.base + x.edited
   pub bare : IsCovered x.old x.ops x.marks x.chunks p → ⊥
 
 -- each such operation from r on was stepped
-abbrev pub AreStepped : Beside → ℕ → ℕ → ℕ → Type 0
+abbrev pub AreStepped : EditedReplay → ℕ → ℕ → ℕ → Type 0
 AreStepped x r before after =
     (ps : List ℕ) → AreRising r (length x.ops) ps → AllByRecursion (MustStep x) ps → raised before (length ps) ≤ after
 

@@ -10,11 +10,11 @@ pub mod GoesOn
 pub mod FreshChunks
 pub mod Origins
 pub mod Placed
+pub mod Metered
 pub mod Cleared
 pub mod Loaded
 pub mod Revision
 pub mod RevisionProps
 pub mod OldRun
 pub mod Divergence
-pub mod Guessed
 pub mod Shifts

@@ -84,10 +84,10 @@ impl Run {
         ensures never_less { meter.old ≤ meter.new }
         ensures rise { meter.new ≤ meter.old + length trace.now }
     {
-        let prefix = loaded(alloc, trace.as_slice(), &[], meter)?;
+        let replay = loaded(alloc, trace.as_slice(), &[], meter)?;
         Ok(Run {
-            segments: prefix.segments,
-            end: prefix.end,
+            segments: replay.segments,
+            end: replay.end,
         })
     }
 
@@ -106,11 +106,11 @@ impl Run {
         ensures never_less { meter.old ≤ meter.new }
         ensures rise { meter.new ≤ meter.old + length trace.now }
     {
-        let gone = given_up_in(alloc, trace, shelf)?;
-        let prefix = loaded(alloc, trace.as_slice(), &gone, meter)?;
+        let given_up = given_up_in(alloc, trace, shelf)?;
+        let replay = loaded(alloc, trace.as_slice(), &given_up, meter)?;
         Ok(Run {
-            segments: prefix.segments,
-            end: prefix.end,
+            segments: replay.segments,
+            end: replay.end,
         })
     }
 
@@ -166,7 +166,7 @@ impl Run {
             segments: replay.segments,
             end: replay.end,
         };
-        run.give_up_named(&replay.gone);
+        run.give_up_named(&replay.answered);
         let run = run.renewed(alloc)?;
         remember_all(shelf, replay.fresh);
         Ok(run)
@@ -211,12 +211,12 @@ impl Run {
     }
 
     // Gives up the inner checkpoints with these names, in one pass.
-    fn give_up_named(&mut self, gone: &BTreeSet<u32>)
+    fn give_up_named(&mut self, answered: &BTreeSet<u32>)
         ensures trace { self.new.trace ≡ self.old.trace }
-        ensures marks { (names : List ℕ) → AreNames (contains nat_cmp gone.now) names →
+        ensures marks { (names : List ℕ) → AreNames (contains nat_cmp answered.now) names →
             self.new.marks ≡ fold (given_up self.old.trace) self.old.marks names }
     {
-        clear_named(&mut self.segments, gone);
+        clear_named(&mut self.segments, answered);
     }
 
     // The same run, without the heaps of checkpoints that are given up.

@@ -4,7 +4,7 @@ pub mod block_list;
 pub mod blocks;
 pub mod bounds;
 pub mod contents;
-pub mod gone;
+pub mod given_up;
 pub mod laid;
 pub mod names;
 pub mod seek;

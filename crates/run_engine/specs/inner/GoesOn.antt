@@ -28,7 +28,7 @@ pub record GoesOn (old ops : List Operation) (known : Reusable) (prefix next : P
   -- by cuts whose names were touched, and no chunk is new on the shelf
   pub onward :
       IsOnward ops known prefix.len next.len (marks_from 0 prefix.segments) (marks_from 0 next.segments) shelf after
-      (contains nat_cmp prefix.gone) (contains nat_cmp next.gone)
+      (contains nat_cmp prefix.answered) (contains nat_cmp next.answered)
   -- the operations between that are not covered were stepped
   pub stepped : HaveSteppedOn old ops known.marks (with_guesses known.guesses shelf.chunks) prefix.len next.len before count
 
@@ -42,6 +42,6 @@ pub record GoesAhead (ops : List Operation) (prefix next : Prefix) (more : List 
   -- the next prefix is the replay of the first operations, as many as it has
   pub reached : IsReached ops next.len next.segments next.end
   -- whatever may be reused, the new checkpoints leave what is due
-  pub way : (known : Reusable) → IsWay ops known prefix.len next.len more (marks_from 0 prefix.segments) (marks_from 0 next.segments) (contains nat_cmp prefix.gone)
+  pub way : (known : Reusable) → IsWay ops known prefix.len next.len more (marks_from 0 prefix.segments) (marks_from 0 next.segments) (contains nat_cmp prefix.answered)
   -- no name is answered
-  pub gone : next.gone ≡ prefix.gone
+  pub answered : next.answered ≡ prefix.answered

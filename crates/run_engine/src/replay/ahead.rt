@@ -8,6 +8,7 @@ ghost use Rattle.run_engine.specs.inner.Onward.{cuts};
 ghost use Rattle.run_engine.specs.Steps.{AreTaken, HaveSteppedOn};
 ghost use Rattle.run_engine.specs.inner.GoesOn.{MayGoOn, GoesOn, GoesAhead};
 ghost use Rattle.run_engine.specs.inner.Placed.{IsPlaced};
+ghost use Rattle.run_engine.specs.inner.Metered.{IsMetered};
 
 use crate::editing::listing::Listing;
 use crate::replay::prefix::{Prefix, STRIDE, found, joined, replayed_on, stepped};
@@ -35,11 +36,10 @@ pub fn go_ahead(
         GoesOn old ops.now.ops known prefix f shelf.old shelf.new meter.old meter.new) }
     ensures placed { IfOk result (IsPlaced shelf.new.chunks) }
     ensures there { IfOk result (λ f. f.len ≡ to) }
-    ensures never_less { meter.old ≤ meter.new }
-    ensures rise { meter.new + prefix.len ≤ meter.old + to }
+    ensures metered { IsMetered meter.old meter.new prefix.len to }
 {
     let mut prefix = prefix;
-    touch_ahead(ops, prefix.len, to, shelf, &mut prefix.gone)?;
+    touch_ahead(ops, prefix.len, to, shelf, &mut prefix.answered)?;
     let prefix = step_ahead(alloc, ops, prefix, to, shelf, meter)?;
     Ok(prefix)
 }
@@ -62,8 +62,7 @@ fn step_ahead(
     ensures stepped { (old : List Operation) (marks : List ℕ) → IfOk result (λ f.
         HaveSteppedOn old ops.now.ops marks shelf.old.chunks prefix.len f.len meter.old meter.new) }
     ensures there { IfOk result (λ f. f.len ≡ to) }
-    ensures never_less { meter.old ≤ meter.new }
-    ensures rise { meter.new + prefix.len ≤ meter.old + to }
+    ensures metered { IsMetered meter.old meter.new prefix.len to }
 {
     let mut prefix = prefix;
     while prefix.len < to {
@@ -98,15 +97,14 @@ fn next_cut(
         AreTaken old marks shelf.old.chunks prefix.end next.items (length next.items)
         meter.old meter.new) }
     ensures len { IfOk result (λ f. f.len ≡ prefix.len + length next.items) }
-    ensures never_less { meter.old ≤ meter.new }
-    ensures rise { meter.new ≤ meter.old + length next.items }
+    ensures metered { IsMetered meter.old meter.new 0 (length next.items) }
 {
     let known = found(alloc, &prefix.end, &next, prefix.behind.number(), shelf)?;
     if let Some(piece) = known {
         let prefix = joined(alloc, prefix, piece)?;
         return Ok(prefix);
     }
-    if is_among(inner_name(ops, prefix.len), &prefix.gone) {
+    if is_among(inner_name(ops, prefix.len), &prefix.answered) {
         let prefix = replayed_on(alloc, prefix, next, meter)?;
         return Ok(prefix);
     }

@@ -14,6 +14,7 @@ ghost use Rattle.run_engine.specs.Steps.{AreTaken, AreStepped};
 ghost use Rattle.run_engine.specs.inner.GoesOn.{MayGoOn, GoesOnBeside};
 ghost use Rattle.run_engine.specs.inner.Placed.{IsPlaced, IsNext};
 ghost use Rattle.run_engine.specs.inner.Divergence.{IsFork};
+ghost use Rattle.run_engine.specs.inner.Metered.{IsMetered};
 
 use crate::replay::ahead::go_ahead;
 use crate::replay::divergence::Divergence;
@@ -72,8 +73,7 @@ fn next_piece(
         p.0.len meter.old meter.new) }
     ensures next { IfOk result (λ p. IsNext shelf.new.chunks progress.now.prefix.end p.0) }
     ensures searched { IsSearched shelf.old shelf.new }
-    ensures never_less { meter.old ≤ meter.new }
-    ensures rise { meter.new + progress.now.prefix.len ≤ meter.old + to }
+    ensures metered { IsMetered meter.old meter.new progress.now.prefix.len to }
 {
     let prefix = &progress.prefix;
     let fork = progress.fork;
@@ -153,8 +153,7 @@ fn serve(
     ensures order { IfOk result (λ p. p.prefix.len ≤ limits.to) }
     ensures steps { IfOk result
         (λ p. meter.new + progress.prefix.len ≤ meter.old + p.prefix.len) }
-    ensures never_less { meter.old ≤ meter.new }
-    ensures rise { meter.new + progress.prefix.len ≤ meter.old + limits.to }
+    ensures metered { IsMetered meter.old meter.new progress.prefix.len limits.to }
 {
     let mut progress = progress;
     while progress.prefix.len < served(revision, limits) {
@@ -165,7 +164,7 @@ fn serve(
             let prefix = go_ahead(alloc, revision.ops, progress.prefix, next, shelf, meter)?;
             progress = Progress { prefix, fork };
         } else {
-            touch_at(revision.ops, at, shelf, &mut progress.prefix.gone)?;
+            touch_at(revision.ops, at, shelf, &mut progress.prefix.answered)?;
             let (piece, fork) = next_piece(alloc, revision, &progress, limits.to, shelf, meter)?;
             let prefix = joined(alloc, progress.prefix, piece)?;
             progress = Progress { prefix, fork };
@@ -192,8 +191,7 @@ fn advance(
     ensures fork { IfOk result (λ p. IsFork revision.now p.fork) }
     ensures placed { IfOk result (λ p. IsPlaced shelf.new.chunks p.prefix) }
     ensures there { IfOk result (λ p. p.prefix.len ≡ limits.to) }
-    ensures never_less { meter.old ≤ meter.new }
-    ensures rise { meter.new + progress.prefix.len ≤ meter.old + limits.to }
+    ensures metered { IsMetered meter.old meter.new progress.prefix.len limits.to }
 {
     let progress = serve(alloc, revision, progress, limits, shelf, meter)?;
     let fork = progress.fork;
@@ -218,7 +216,7 @@ fn spliced(
 ) -> Result<Prefix, AllocError>
     ensures segments { IfOk result (λ p. p.segments ≡ prefix.segments ++ rest) }
     ensures end { IfOk result (λ p. p.end ≡ end) }
-    ensures gone { IfOk result (λ p. p.gone ≡ prefix.gone) }
+    ensures answered { IfOk result (λ p. p.answered ≡ prefix.answered) }
 {
     let segments = prefix.segments.append(alloc, rest)?;
     Ok(Prefix {
@@ -227,7 +225,7 @@ fn spliced(
         len,
         fresh: prefix.fresh,
         behind: Behind::Nothing,
-        gone: prefix.gone,
+        answered: prefix.answered,
     })
 }
 
@@ -260,7 +258,7 @@ pub fn converge(
           from = prefix.len;
           base = seam.base;
           edited = seam.edited;
-        }) shelf.old shelf.new (contains nat_cmp prefix.gone) (contains nat_cmp r.gone)) }
+        }) shelf.old shelf.new (contains nat_cmp prefix.answered) (contains nat_cmp r.answered)) }
     ensures bound { StepsAtMost (old_trace revision.now) (new_trace revision.now) seam.base seam.edited
         (old_marks revision.now) prefix.len meter.old meter.new }
     ensures stepped { IfOk result (λ _.
@@ -295,7 +293,7 @@ pub fn converge(
                 let found = rejoined_at(alloc, revision, &progress, &old_mark, &mut divergence)?;
                 if let Some((rest, end)) = found {
                     let mut prefix = progress.prefix;
-                    touch_at(revision.ops, prefix.len, shelf, &mut prefix.gone)?;
+                    touch_at(revision.ops, prefix.len, shelf, &mut prefix.answered)?;
                     let len = revision.ops.len();
                     return Ok(spliced(alloc, prefix, rest, end, len)?);
                 }

@@ -6,7 +6,8 @@ ghost use Rattle.run_engine.specs.Segments.{marks_from, IsReached};
 ghost use Rattle.run_engine.specs.Marks.{load_marks};
 ghost use Rattle.run_engine.specs.RunView.{load_view};
 ghost use Rattle.run_engine.specs.GivenUp.{given_up, name_at, names_at, IsTouched};
-ghost use Rattle.run_engine.specs.inner.Loaded.{is_gone, kept_below, loaded_view};
+ghost use Rattle.run_engine.specs.inner.Loaded.{is_given_up, kept_below, loaded_view};
+ghost use Rattle.run_engine.specs.inner.Metered.{IsMetered};
 
 use crate::replay::fresh::Fresh;
 use crate::replay::origin::{Behind, Origin};
@@ -24,16 +25,15 @@ use trace_types::trace::Trace;
 pub fn loaded(
     alloc: Global,
     ops: &[Op],
-    gone: &[bool],
+    flags: &[bool],
     meter: &mut Meter,
 ) -> Result<Prefix, AllocError>
     requires trace { IsTrace ops.now }
     ensures prefix { IfOk result (λ f. IsReached ops.now (length ops.now) f.segments f.end) }
     ensures marks { IfOk result
-        (λ f. marks_from 0 f.segments ≡ kept_below gone.now (length ops.now)) }
+        (λ f. marks_from 0 f.segments ≡ kept_below flags.now (length ops.now)) }
     ensures count { OnOk result (meter.new ≡ raised meter.old (length ops.now)) }
-    ensures never_less { meter.old ≤ meter.new }
-    ensures rise { meter.new ≤ meter.old + length ops.now }
+    ensures metered { IsMetered meter.old meter.new 0 (length ops.now) }
 {
     let mut prefix = Prefix {
         segments: Segments::empty(alloc),
@@ -41,13 +41,13 @@ pub fn loaded(
         len: 0,
         fresh: Fresh::none(alloc),
         behind: Behind::Nothing,
-        gone: BTreeSet::new(alloc),
+        answered: BTreeSet::new(alloc),
     };
     while prefix.len < ops.len() {
         let at = prefix.len;
         let to = at + (ops.len() - at).min(STRIDE);
         let copies = copy_ops(alloc, &ops[at..to])?;
-        if is_gone(gone, at) {
+        if is_given_up(flags, at) {
             prefix = replayed_on(alloc, prefix, copies, meter)?;
         } else {
             let mut piece = stepped(alloc, &prefix.end, copies, meter)?;
@@ -60,11 +60,11 @@ pub fn loaded(
 }
 
 // Whether the checkpoint at a position is given up.
-fn is_gone(gone: &[bool], at: usize) -> bool
-    ensures { result ≡ is_gone gone.now at }
+fn is_given_up(flags: &[bool], at: usize) -> bool
+    ensures { result ≡ is_given_up flags.now at }
 {
     let i = at / STRIDE;
-    at > 0 && i < gone.len() && gone[i]
+    at > 0 && i < flags.len() && flags[i]
 }
 
 /// Touches the names of the inner checkpoints of a loaded run, in rising position, and tells which checkpoints are given up: those
@@ -79,22 +79,22 @@ pub fn given_up_in(
         (names_at trace.now (load_marks (length trace.now)))) }
 {
     let ops = trace.as_slice();
-    let mut gone = none_gone(alloc, ops.len() / STRIDE + 1)?;
+    let mut flags = none_given_up(alloc, ops.len() / STRIDE + 1)?;
     let mut at = STRIDE;
     while at < ops.len() {
         let name = name_before(ops, at);
-        touch_one(&mut gone, trace, shelf, name);
+        touch_one(&mut flags, trace, shelf, name);
         at += STRIDE;
     }
-    Ok(gone)
+    Ok(flags)
 }
 
 // So many checkpoints, none of which is given up.
-fn none_gone(alloc: Global, len: usize) -> Result<Vec<bool>, AllocError>
+fn none_given_up(alloc: Global, len: usize) -> Result<Vec<bool>, AllocError>
     ensures { IfOk result (λ v. v.items ≡ replicate len false) }
 {
-    let gone = vec![in alloc; false; len]?;
-    Ok(gone)
+    let flags = vec![in alloc; false; len]?;
+    Ok(flags)
 }
 
 // The name of the checkpoint at a position.
@@ -108,29 +108,29 @@ fn name_before(ops: &[Op], at: usize) -> u32
 }
 
 // Touches one name, and gives up the checkpoint whose name is answered.
-fn touch_one(gone: &mut Vec<bool>, trace: &Trace, shelf: &mut MarkShelf, name: u32)
-    requires room { length trace.now < 64 * length gone.old.items }
-    ensures room { length gone.new.items ≡ length gone.old.items }
-    ensures touched { IsTouched (loaded_view trace.now gone.old.items)
-        (loaded_view trace.now gone.new.items) shelf.old shelf.new (name ∷ []) }
+fn touch_one(flags: &mut Vec<bool>, trace: &Trace, shelf: &mut MarkShelf, name: u32)
+    requires room { length trace.now < 64 * length flags.old.items }
+    ensures room { length flags.new.items ≡ length flags.old.items }
+    ensures touched { IsTouched (loaded_view trace.now flags.old.items)
+        (loaded_view trace.now flags.new.items) shelf.old shelf.new (name ∷ []) }
 {
     if let Some(answer) = shelf.touch(name) {
-        give_up(gone, trace, answer);
+        give_up(flags, trace, answer);
     }
 }
 
 // Gives up the inner checkpoint right behind the operation with this number, if there is one.
-fn give_up(gone: &mut Vec<bool>, trace: &Trace, name: u32)
-    requires room { length trace.now < 64 * length gone.old.items }
-    ensures room { length gone.new.items ≡ length gone.old.items }
-    ensures marks { (loaded_view trace.now gone.new.items).marks
-        ≡ given_up trace.now (loaded_view trace.now gone.old.items).marks name }
+fn give_up(flags: &mut Vec<bool>, trace: &Trace, name: u32)
+    requires room { length trace.now < 64 * length flags.old.items }
+    ensures room { length flags.new.items ≡ length flags.old.items }
+    ensures marks { (loaded_view trace.now flags.new.items).marks
+        ≡ given_up trace.now (loaded_view trace.now flags.old.items).marks name }
 {
     let len = trace.len();
     if let Some(place) = trace.place(name) {
         let at = place + 1;
         if is_inner(at, len) {
-            gone[at / STRIDE] = true;
+            flags[at / STRIDE] = true;
         }
     }
 }

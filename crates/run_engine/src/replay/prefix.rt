@@ -12,6 +12,7 @@ ghost use Rattle.run_engine.specs.Memo.{IsAmong, IsSearched};
 ghost use Rattle.run_engine.specs.inner.Origins.{stepped_chunk, behind_of, shelf_number};
 ghost use Rattle.run_engine.specs.inner.Placed.{IsPlaced, IsNext};
 ghost use Rattle.run_engine.specs.declared.replay.origin.Behind.TheVariants.{Stepped};
+ghost use Rattle.run_engine.specs.inner.Metered.{IsMetered};
 
 use crate::replay::fresh::Fresh;
 use crate::replay::origin::{Behind, Origin};
@@ -36,7 +37,7 @@ pub struct Prefix {
     pub len: usize,
     pub fresh: Fresh,
     pub behind: Behind,
-    pub gone: BTreeSet<u32>,
+    pub answered: BTreeSet<u32>,
 }
 
 /// What a replay goes on with: its segments, the heap after them, how many operations they have, and where they come from.
@@ -77,7 +78,7 @@ pub fn joined(alloc: Global, prefix: Prefix, next: NextStretch) -> Result<Prefix
     ensures end { IfOk result (λ p. p.end ≡ next.end) }
     ensures len { IfOk result (λ p. p.len ≡ prefix.len + next.len) }
     ensures behind { IfOk result (λ p. p.behind ≡ behind_of next.origin) }
-    ensures gone { IfOk result (λ p. p.gone ≡ prefix.gone) }
+    ensures answered { IfOk result (λ p. p.answered ≡ prefix.answered) }
     ensures placed { (chunks : List (ℕ × Chunk)) → IsNext chunks prefix.end next →
         IfOk result (IsPlaced chunks) }
 {
@@ -90,7 +91,7 @@ pub fn joined(alloc: Global, prefix: Prefix, next: NextStretch) -> Result<Prefix
         len: prefix.len + next.len,
         fresh,
         behind,
-        gone: prefix.gone,
+        answered: prefix.answered,
     })
 }
 
@@ -107,8 +108,7 @@ pub fn stepped(
     ensures piece { IfOk result (λ p. IsPiece heap.now ops.items p.segments p.end p.len) }
     ensures whole { IfOk result (λ p. p.len ≡ length ops.items) }
     ensures count { IfOk result (λ p. meter.new ≡ raised meter.old p.len) }
-    ensures never_less { meter.old ≤ meter.new }
-    ensures rise { meter.new ≤ meter.old + length ops.items }
+    ensures metered { IsMetered meter.old meter.new 0 (length ops.items) }
     ensures next { (chunks : List (ℕ × Chunk)) → IfOk result (IsNext chunks heap.now) }
 {
     let chunk = run_of(alloc, heap, ops, meter)?;
@@ -161,11 +161,10 @@ pub fn replayed_on(
         (λ p. p.segments ≡ prefix.segments ++ bare_segment prefix.end ops.items ∷ []) }
     ensures end { IfOk result (λ p. p.end ≡ end_from prefix.end ops.items) }
     ensures len { IfOk result (λ p. p.len ≡ prefix.len + length ops.items) }
-    ensures gone { IfOk result (λ p. p.gone ≡ prefix.gone) }
+    ensures answered { IfOk result (λ p. p.answered ≡ prefix.answered) }
     ensures placed { (chunks : List (ℕ × Chunk)) → IfOk result (IsPlaced chunks) }
     ensures count { OnOk result (meter.new ≡ raised meter.old (length ops.items)) }
-    ensures never_less { meter.old ≤ meter.new }
-    ensures rise { meter.new ≤ meter.old + length ops.items }
+    ensures metered { IsMetered meter.old meter.new 0 (length ops.items) }
 {
     let len = prefix.len + ops.len();
     prefix.end.show_sound();
@@ -178,6 +177,6 @@ pub fn replayed_on(
         len,
         fresh: prefix.fresh,
         behind: Behind::Nothing,
-        gone: prefix.gone,
+        answered: prefix.answered,
     })
 }

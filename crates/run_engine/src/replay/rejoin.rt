@@ -70,8 +70,8 @@ pub fn rejoined_at(
         marks_from at r.0 ≡ marks_from at (drop old.now.index revision.now.segments.now))) }
     ensures known { OnOk result (IsDivergence revision.now divergence.new) }
 {
-    let kept = old.mark.heap(alloc)?;
-    let told = divergence.tells_apart(alloc, &progress.prefix.end, &kept)?;
+    let old_heap = old.mark.heap(alloc)?;
+    let told = divergence.tells_apart(alloc, &progress.prefix.end, &old_heap)?;
     if told {
         return Ok(None);
     }
@@ -81,7 +81,7 @@ pub fn rejoined_at(
         from: old.index,
         end: revision.end,
     };
-    let found = rejoined(alloc, &progress.prefix.end, &kept, &rest, divergence)?;
+    let found = rejoined(alloc, &progress.prefix.end, &old_heap, &rest, divergence)?;
     Ok(found)
 }
 
@@ -92,27 +92,27 @@ pub fn rejoined_at(
 pub fn rejoined(
     alloc: Global,
     heap: &Heap,
-    kept: &Heap,
+    old_heap: &Heap,
     rest: &Rest,
     divergence: &mut Divergence,
 ) -> Result<Option<(Segments, Heap)>, AllocError>
     requires within { rest.now.from ≤ length rest.now.segments.now }
-    requires run { IsRunFrom kept.now (rest_of rest.now) rest.now.end.now }
+    requires run { IsRunFrom old_heap.now (rest_of rest.now) rest.now.end.now }
     requires distinct { IsTrue (has_distinct_numbers (trace_of (rest_of rest.now))) }
     requires unused { AreUnused heap.now (trace_of (rest_of rest.now)) }
-    requires old_unused { AreUnused kept.now (trace_of (rest_of rest.now)) }
-    requires roots { HaveSameRoots heap.now kept.now }
-    requires known { DifferWithin divergence.old heap.now kept.now }
-    ensures answer { IfOk result (λ o. IsTrue (is_some o) ↔ Agree heap.now kept.now) }
+    requires old_unused { AreUnused old_heap.now (trace_of (rest_of rest.now)) }
+    requires roots { HaveSameRoots heap.now old_heap.now }
+    requires known { DifferWithin divergence.old heap.now old_heap.now }
+    ensures answer { IfOk result (λ o. IsTrue (is_some o) ↔ Agree heap.now old_heap.now) }
     ensures run { IfOk result (λ o. IfSome o (λ r. IsRunFrom heap.now r.0 r.1)) }
     ensures trace { IfOk result
         (λ o. IfSome o (λ r. trace_of r.0 ≡ trace_of (rest_of rest.now))) }
     ensures marks { IfOk result
         (λ o. IfSome o (λ r. (at : ℕ) → marks_from at r.0 ≡ marks_from at (rest_of rest.now))) }
-    ensures known { OnOk result (HasCompared divergence.old divergence.new heap.now kept.now) }
+    ensures known { OnOk result (HasCompared divergence.old divergence.new heap.now old_heap.now) }
 {
     let old = rest.segments;
-    match divergence.meet(alloc, heap, kept)? {
+    match divergence.meet(alloc, heap, old_heap)? {
         Meeting::Apart => Ok(None),
         Meeting::Same => {
             let behind = old.stretch(alloc, rest.from, old.len())?;

@@ -68,22 +68,22 @@ fn greatest_mark(alloc: Global, revision: &Revision, head: usize) -> Result<Rest
 
 // The prefix of an edited trace that need not be replayed again.
 fn prefix(alloc: Global, revision: &Revision, head: usize) -> Result<Prefix, AllocError>
-    ensures kept { IfOk result
+    ensures restart { IfOk result
         (λ f. IsRestart revision.now.segments.now head (length f.segments) f.len f.end) }
     ensures segments { IfOk result
         (λ f. f.segments ≡ take (length f.segments) revision.now.segments.now) }
-    ensures gone { IfOk result (λ f. AreNames (contains nat_cmp f.gone) []) }
+    ensures answered { IfOk result (λ f. AreNames (contains nat_cmp f.answered) []) }
     ensures placed { (chunks : List (ℕ × Chunk)) → IfOk result (IsPlaced chunks) }
 {
     let restart = greatest_mark(alloc, revision, head)?;
-    let kept = revision.segments.stretch(alloc, 0, restart.index)?;
+    let segments = revision.segments.stretch(alloc, 0, restart.index)?;
     Ok(Prefix {
-        segments: kept,
+        segments,
         end: restart.heap,
         len: restart.at,
         fresh: Fresh::none(alloc),
         behind: Behind::Nothing,
-        gone: BTreeSet::new(alloc),
+        answered: BTreeSet::new(alloc),
     })
 }
 
@@ -105,7 +105,7 @@ pub fn resumed(
     ensures marks { IfOk result (λ r.
         AreMarksDue guesses.now (record { trace = ops.now.base; marks = all_marks segments.now })
         (record { trace = ops.now.ops; marks = all_marks r.segments })
-        shelf.old shelf.new (contains nat_cmp r.gone)) }
+        shelf.old shelf.new (contains nat_cmp r.answered)) }
     ensures bound { StepsAtMostFrom ops.now.base ops.now.ops (all_marks segments.now)
         meter.old meter.new }
     ensures stepped { IfOk result (λ _.

@@ -99,8 +99,8 @@ fn has_heap(
     if is_known {
         return Ok(true);
     }
-    let kept = mark.heap(alloc)?;
-    Ok(kept.sum() == heap.sum() && kept.same(heap))
+    let marked = mark.heap(alloc)?;
+    Ok(marked.sum() == heap.sum() && marked.same(heap))
 }
 
 /// Whether an old checkpoint stands in front of the operation at a place, where that comes from the old run.

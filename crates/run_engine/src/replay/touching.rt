@@ -18,16 +18,16 @@ pub fn touch_ahead(
     from: usize,
     to: usize,
     shelf: &mut MarkShelf,
-    gone: &mut BTreeSet<u32>,
+    answered: &mut BTreeSet<u32>,
 ) -> Result<(), AllocError>
     requires order { from ≤ to }
     ensures answered { OnOk result
         (AreAnswered shelf.old shelf.new (names_at ops.now.ops (cuts from to))
-        (contains nat_cmp gone.old) (contains nat_cmp gone.new)) }
+        (contains nat_cmp answered.old) (contains nat_cmp answered.new)) }
 {
     let mut at = from;
     while at < to {
-        touch_at(ops, at, shelf, gone)?;
+        touch_at(ops, at, shelf, answered)?;
         at += (to - at).min(STRIDE);
     }
     Ok(())
@@ -38,14 +38,14 @@ pub fn touch_at(
     ops: &Listing,
     at: usize,
     shelf: &mut MarkShelf,
-    gone: &mut BTreeSet<u32>,
+    answered: &mut BTreeSet<u32>,
 ) -> Result<(), AllocError>
     ensures answered { OnOk result
         (AreAnswered shelf.old shelf.new (names_at ops.now.ops (at ∷ []))
-        (contains nat_cmp gone.old) (contains nat_cmp gone.new)) }
+        (contains nat_cmp answered.old) (contains nat_cmp answered.new)) }
 {
     if let Some(name) = inner_name(ops, at) {
-        add_name(gone, shelf.touch(name))?;
+        add_name(answered, shelf.touch(name))?;
     }
     Ok(())
 }

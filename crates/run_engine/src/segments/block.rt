@@ -7,7 +7,7 @@ ghost use Rattle.run_engine.specs.Segments.{ops_of, trace_of, without_mark, has_
 ghost use Rattle.run_engine.specs.inner.Exchanged.{exchanged, AreExchangeable};
 
 use crate::segments::bounds::Bounds;
-use crate::segments::gone::{Gone, MOST_SEGMENTS};
+use crate::segments::given_up::{GivenUp, MOST_SEGMENTS};
 use crate::segments::laid::{both, laid_in, shared};
 use crate::segments::segment::Segment;
 use crate::segments::standing::Standing;
@@ -31,7 +31,7 @@ pub struct Block {
     ops: usize,
     // bounds of their numbers, and perhaps of more
     bounds: Bounds,
-    gone: Gone,
+    given_up: GivenUp,
     laid: Option<Arc<Exchange>>,
     // a hint: whether a checkpoint was given up
     is_worn: bool,
@@ -50,15 +50,15 @@ impl Model for Block {
     ghost coded = { coded_list segment_code };
 
     ghost view = { λ b. map (laid_over (option_map arc_value b.laid))
-        (standing b.gone b.from b.len (arc_value b.segments).items) };
+        (standing b.given_up b.from b.len (arc_value b.segments).items) };
 
     ghost invariant = { λ b.
         (b.from + b.len ≤ length (arc_value b.segments).items)
         × (length (arc_value b.segments).items ≤ 64)
         × AreSoundBelow (option_map arc_value b.laid)
-        (standing b.gone b.from b.len (arc_value b.segments).items)
+        (standing b.given_up b.from b.len (arc_value b.segments).items)
         × AreMeasured (map (laid_over (option_map arc_value b.laid))
-        (standing b.gone b.from b.len (arc_value b.segments).items))
+        (standing b.given_up b.from b.len (arc_value b.segments).items))
         b.ops b.bounds.least b.bounds.greatest };
 }
 
@@ -75,14 +75,14 @@ impl Block {
         let mut one = Vec::new(alloc);
         one.push(segment)?;
         let segments = Arc::new(alloc, one)?;
-        let gone = Gone::none();
+        let given_up = GivenUp::none();
         Ok(Block {
             segments,
             from: 0,
             len: 1,
             ops,
             bounds,
-            gone,
+            given_up,
             laid: None,
             is_worn: false,
         })
@@ -145,9 +145,9 @@ impl Block {
         ensures { result ≡ slice_index_or self.now index result }
     {
         let place = self.from + index;
-        let is_gone = self.gone.has(place);
+        let is_given_up = self.given_up.has(place);
         let laid = laid_in(&self.laid);
-        Standing::new(&self.segments[place], is_gone, laid)
+        Standing::new(&self.segments[place], is_given_up, laid)
     }
 
     /// The segments from one index on and before another, which are shared.
@@ -157,7 +157,7 @@ impl Block {
         ensures { IfOk result (λ b. b ≡ slice_range self.now from to) }
     {
         let segments = Arc::try_clone(&self.segments)?;
-        let gone = self.gone.share();
+        let given_up = self.given_up.share();
         let laid = shared(&self.laid)?;
         Ok(Block {
             segments,
@@ -165,7 +165,7 @@ impl Block {
             len: to - from,
             ops: self.ops_between(from, to),
             bounds: self.bounds,
-            gone,
+            given_up,
             laid,
             is_worn: self.is_worn,
         })
@@ -178,7 +178,7 @@ impl Block {
         ensures { IfOk result (λ b. b ≡ map (exchanged remains.now) self.now) }
     {
         let segments = Arc::try_clone(&self.segments)?;
-        let gone = self.gone.share();
+        let given_up = self.given_up.share();
         let laid = both(alloc, &self.laid, remains)?;
         Ok(Block {
             segments,
@@ -186,7 +186,7 @@ impl Block {
             len: self.len,
             ops: self.ops,
             bounds: self.bounds,
-            gone,
+            given_up,
             laid: Some(laid),
             is_worn: self.is_worn,
         })
@@ -211,7 +211,7 @@ impl Block {
             None => Ok(Some(segment)),
             Some(own) => {
                 own.push(segment)?;
-                self.gone.set(place, false);
+                self.given_up.set(place, false);
                 self.len += 1;
                 self.ops += more;
                 self.bounds = bounds;
@@ -224,7 +224,7 @@ impl Block {
     pub fn alone(&self) -> Option<&Segment>
         ensures { IfSome result (λ s. s.now ∷ [] ≡ self.now) }
     {
-        if self.len != 1 || self.laid.is_some() || self.gone.has(self.from) {
+        if self.len != 1 || self.laid.is_some() || self.given_up.has(self.from) {
             return None;
         }
         Some(&self.segments[self.from])
@@ -238,7 +238,7 @@ impl Block {
         ensures answer { result ≡ has_mark self.old index }
     {
         let was = self.at(index).is_marked();
-        self.gone.set(self.from + index, true);
+        self.given_up.set(self.from + index, true);
         self.is_worn = true;
         was
     }
@@ -251,16 +251,16 @@ impl Block {
             return Ok(self);
         }
         let len = self.len;
-        let left = left_of(alloc, &self.segments, &self.gone, self.from, len)?;
+        let left = left_of(alloc, &self.segments, &self.given_up, self.from, len)?;
         let segments = Arc::new(alloc, left)?;
-        let gone = Gone::none();
+        let given_up = GivenUp::none();
         Ok(Block {
             segments,
             from: 0,
             len,
             ops: self.ops,
             bounds: self.bounds,
-            gone,
+            given_up,
             laid: self.laid,
             is_worn: false,
         })
@@ -271,27 +271,27 @@ impl Block {
 fn left_of(
     alloc: Global,
     segments: &[Segment],
-    gone: &Gone,
+    given_up: &GivenUp,
     from: usize,
     len: usize,
 ) -> Result<Vec<Segment>, AllocError>
     requires within { from + len ≤ length segments.now }
     requires few { length segments.now ≤ 64 }
-    ensures { IfOk result (λ v. v.items ≡ standing gone.now from len segments.now) }
+    ensures { IfOk result (λ v. v.items ≡ standing given_up.now from len segments.now) }
 {
     let mut all = Vec::with_capacity(alloc, len)?;
     for i in 0..len {
         let place = from + i;
-        all.push(left_at(&segments[place], gone.has(place))?)?;
+        all.push(left_at(&segments[place], given_up.has(place))?)?;
     }
     Ok(all)
 }
 
 // A share of a segment, without its checkpoint if that is given up.
-fn left_at(segment: &Segment, is_gone: bool) -> Result<Segment, AllocError>
-    ensures { IfOk result (λ s. s ≡ cleared_if is_gone segment.now) }
+fn left_at(segment: &Segment, is_given_up: bool) -> Result<Segment, AllocError>
+    ensures { IfOk result (λ s. s ≡ cleared_if is_given_up segment.now) }
 {
-    if is_gone {
+    if is_given_up {
         return segment.without_mark();
     }
     segment.share()

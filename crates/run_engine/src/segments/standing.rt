@@ -16,7 +16,7 @@ use trace_types::stretches::Stretch;
 #[derive(Drop)]
 pub struct Standing<'a> {
     segment: &'a Segment,
-    is_gone: bool,
+    is_given_up: bool,
     laid: Option<&'a Exchange>,
 }
 
@@ -31,22 +31,22 @@ impl<'a> Model for Standing<'a> {
 
     ghost coded = { segment_code };
 
-    ghost view = { λ s. laid_over (option_copied s.laid) (cleared_if s.is_gone s.segment.now) };
+    ghost view = { λ s. laid_over (option_copied s.laid) (cleared_if s.is_given_up s.segment.now) };
 
     ghost invariant = { λ s.
-        AreSoundBelow (option_copied s.laid) (cleared_if s.is_gone s.segment.now ∷ []) };
+        AreSoundBelow (option_copied s.laid) (cleared_if s.is_given_up s.segment.now ∷ []) };
 }
 
 impl<'a> Standing<'a> {
     /// A segment, without its checkpoint if that is given up, under what is laid over it.
-    pub fn new(segment: &'a Segment, is_gone: bool, laid: Option<&'a Exchange>) -> Self
-        requires { AreSoundBelow (option_copied laid) (cleared_if is_gone segment.now ∷ []) }
+    pub fn new(segment: &'a Segment, is_given_up: bool, laid: Option<&'a Exchange>) -> Self
+        requires { AreSoundBelow (option_copied laid) (cleared_if is_given_up segment.now ∷ []) }
         ensures { result
-            ≡ laid_over (option_copied laid.entry) (cleared_if is_gone segment.entry.now) }
+            ≡ laid_over (option_copied laid.entry) (cleared_if is_given_up segment.entry.now) }
     {
         Standing {
             segment,
-            is_gone,
+            is_given_up,
             laid,
         }
     }
@@ -88,14 +88,14 @@ impl<'a> Standing<'a> {
     pub fn is_marked(&self) -> bool
         ensures { result ≡ is_some self.now.mark }
     {
-        !self.is_gone && self.segment.mark().is_some()
+        !self.is_given_up && self.segment.mark().is_some()
     }
 
     /// The checkpoint where it begins, if there is one.
     pub fn mark(&self) -> Option<Checkpoint<'a>>
         ensures { result ≡ self.now.mark }
     {
-        if self.is_gone {
+        if self.is_given_up {
             return None;
         }
         let heap = self.segment.mark()?;

@@ -16,7 +16,7 @@ returns-clause-goes_on c = λ old known.
     let answered = c.in_ok-touch_ahead.ensures.answered in
     record {
       reached = ahead.reached;
-      onward = rw (ahead.gone, c.in_ok-prefix.ensures.there) (IsOnward-ahead _ known _ _ _ _ _ _ _ _ _ answered c.in_ok-prefix.ensures.searched (rw c.in_ok-prefix.ensures.there at ahead.way known));
+      onward = rw (ahead.answered, c.in_ok-prefix.ensures.there) (IsOnward-ahead _ known _ _ _ _ _ _ _ _ _ answered c.in_ok-prefix.ensures.searched (rw c.in_ok-prefix.ensures.there at ahead.way known));
       stepped = λ r start chunks before all.
           c.in_ok-prefix.ensures.stepped old known.marks r start chunks before (λ e there. all e (AreSome-chunks known.guesses c.touch_ahead.new.shelf.chunks c.args.shelf.now.chunks answered.touched.fewer e there));
     }

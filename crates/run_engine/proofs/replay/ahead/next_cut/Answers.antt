@@ -41,22 +41,22 @@ returns-in-Some-clause-goes_ahead c =
           (IsReached-next c.args.ops.now.ops c.args.prefix.len (c.args.prefix.len + length c.args.next.items) c.in-Some.piece.len c.args.prefix.segments c.in-Some.piece.segments c.args.prefix.end c.in-Some.piece.end
           c.requires.may.reached (omega arith) c.requires.may.within (subst (λ os. IsPiece c.args.prefix.end os c.in-Some.piece.segments c.in-Some.piece.end c.in-Some.piece.len) c.requires.next (rw (c.in-Some.is, c.deref.ensures.value) at c.in_ok-known.ensures).piece));
       way = λ old. rw (joined.segments, joined.len, (rw (c.in-Some.is, c.deref.ensures.value) at c.in_ok-known.ensures).whole)
-          (IsWay-marked c.args.ops.now.ops old c.args.prefix.len (length c.args.next.items) (marks_from 0 c.args.prefix.segments) _ (contains nat_cmp c.args.prefix.gone) c.requires.trace.distinct
+          (IsWay-marked c.args.ops.now.ops old c.args.prefix.len (length c.args.next.items) (marks_from 0 c.args.prefix.segments) _ (contains nat_cmp c.args.prefix.answered) c.requires.trace.distinct
           (record { some = c.requires.some; small = inl c.requires.small })
           (marks_from-piece c.args.ops.now.ops c.args.next.items c.args.prefix.len c.in-Some.piece.len c.args.prefix.segments c.in-Some.piece.segments c.args.prefix.end c.in-Some.piece.end c.requires.may.reached (rw (c.in-Some.is, c.deref.ensures.value) at c.in_ok-known.ensures).piece));
-      gone = c.in_ok-prefix.ensures.gone;
+      answered = c.in_ok-prefix.ensures.answered;
     }
 
 pub returns-then-is_among-clause-goes_ahead : goal.returns-then-is_among-clause-goes_ahead
 returns-then-is_among-clause-goes_ahead c =
-    let pos : 0 < c.args.prefix.len = named-behind c.args.ops.now.ops (contains nat_cmp c.args.prefix.gone) c.args.prefix.len c.inner_name.result c.inner_name.ensures (sym c.is_among.ensures ∙ c.if-is_among.true) in
+    let pos : 0 < c.args.prefix.len = named-behind c.args.ops.now.ops (contains nat_cmp c.args.prefix.answered) c.args.prefix.len c.inner_name.result c.inner_name.ensures (sym c.is_among.ensures ∙ c.if-is_among.true) in
     record {
       reached = rw (c.in_ok-prefix-2.ensures.segments, c.in_ok-prefix-2.ensures.end, c.in_ok-prefix-2.ensures.len)
           (IsReached-bare c.args.ops.now.ops c.args.next.items c.args.prefix.len c.args.prefix.segments c.args.prefix.end c.requires.may.reached pos c.requires.may.within c.requires.some c.requires.next);
       way = λ old. rw (c.in_ok-prefix-2.ensures.segments, c.in_ok-prefix-2.ensures.len)
-          (IsWay-bare c.args.ops.now.ops old c.args.prefix.len (length c.args.next.items) (marks_from 0 c.args.prefix.segments) _ (contains nat_cmp c.args.prefix.gone) c.inner_name.result c.requires.trace.distinct
+          (IsWay-bare c.args.ops.now.ops old c.args.prefix.len (length c.args.next.items) (marks_from 0 c.args.prefix.segments) _ (contains nat_cmp c.args.prefix.answered) c.inner_name.result c.requires.trace.distinct
           (record { some = c.requires.some; small = inl c.requires.small }) c.inner_name.ensures (sym c.is_among.ensures ∙ c.if-is_among.true) (marks_from-bare 0 c.args.prefix.segments c.args.prefix.end c.args.next.items));
-      gone = c.in_ok-prefix-2.ensures.gone;
+      answered = c.in_ok-prefix-2.ensures.answered;
     }
 
 pub returns-then-is_among-clause-placed : goal.returns-then-is_among-clause-placed
@@ -70,8 +70,8 @@ returns-clause-goes_ahead c =
           (IsReached-next c.args.ops.now.ops c.args.prefix.len (c.args.prefix.len + length c.args.next.items) c.in_ok-piece.piece.len c.args.prefix.segments c.in_ok-piece.piece.segments c.args.prefix.end c.in_ok-piece.piece.end
           c.requires.may.reached (omega arith) c.requires.may.within (subst (λ os. IsPiece c.args.prefix.end os c.in_ok-piece.piece.segments c.in_ok-piece.piece.end c.in_ok-piece.piece.len) c.requires.next c.in_ok-piece.ensures.piece));
       way = λ old. rw (joined.segments, joined.len, c.in_ok-piece.ensures.whole)
-          (IsWay-marked c.args.ops.now.ops old c.args.prefix.len (length c.args.next.items) (marks_from 0 c.args.prefix.segments) _ (contains nat_cmp c.args.prefix.gone) c.requires.trace.distinct
+          (IsWay-marked c.args.ops.now.ops old c.args.prefix.len (length c.args.next.items) (marks_from 0 c.args.prefix.segments) _ (contains nat_cmp c.args.prefix.answered) c.requires.trace.distinct
           (record { some = c.requires.some; small = inl c.requires.small })
           (marks_from-piece c.args.ops.now.ops c.args.next.items c.args.prefix.len c.in_ok-piece.piece.len c.args.prefix.segments c.in_ok-piece.piece.segments c.args.prefix.end c.in_ok-piece.piece.end c.requires.may.reached c.in_ok-piece.ensures.piece));
-      gone = c.in_ok-prefix-3.ensures.gone;
+      answered = c.in_ok-prefix-3.ensures.answered;
     }

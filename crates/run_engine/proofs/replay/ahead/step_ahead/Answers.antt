@@ -15,9 +15,9 @@ pub loop-prefix-init : goal.loop-prefix-init
 loop-prefix-init c = record {
   ahead = record {
     reached = c.requires.may.reached;
-    way = λ old. subst (λ more. IsWay c.args.ops.now.ops old c.args.prefix.len c.args.prefix.len more (marks_from 0 c.args.prefix.segments) (marks_from 0 c.args.prefix.segments) (contains nat_cmp c.args.prefix.gone)) (sym (cuts-none c.args.prefix.len))
-        (IsWay-none c.args.ops.now.ops old c.args.prefix.len (marks_from 0 c.args.prefix.segments) (contains nat_cmp c.args.prefix.gone));
-    gone = refl;
+    way = λ old. subst (λ more. IsWay c.args.ops.now.ops old c.args.prefix.len c.args.prefix.len more (marks_from 0 c.args.prefix.segments) (marks_from 0 c.args.prefix.segments) (contains nat_cmp c.args.prefix.answered)) (sym (cuts-none c.args.prefix.len))
+        (IsWay-none c.args.ops.now.ops old c.args.prefix.len (marks_from 0 c.args.prefix.segments) (contains nat_cmp c.args.prefix.answered));
+    answered = refl;
   };
   placed = c.requires.placed;
   behind = omega arith;
@@ -52,17 +52,17 @@ loop-prefix-preserved c =
       ahead = record {
         reached = on.goes_ahead.reached;
         way = λ old. rw there
-            (IsWay-cut c.args.ops.now.ops old c.args.prefix.len c.loop-prefix.prefix.len (length c.in_ok-next.next.items) _ (marks_from 0 c.loop-prefix.prefix.segments) _ (contains nat_cmp c.args.prefix.gone) h.behind z (omega (arith, long, more)) (omega (arith, long)) (h.ahead.way old)
-            (subst (λ g. IsWay c.args.ops.now.ops old c.loop-prefix.prefix.len (c.loop-prefix.prefix.len + length c.in_ok-next.next.items) (c.loop-prefix.prefix.len ∷ []) (marks_from 0 c.loop-prefix.prefix.segments) (marks_from 0 c.in_ok-prefix.prefix.segments) (contains nat_cmp g)) h.ahead.gone (rw there at on.goes_ahead.way old)));
-        gone = on.goes_ahead.gone ∙ h.ahead.gone;
+            (IsWay-cut c.args.ops.now.ops old c.args.prefix.len c.loop-prefix.prefix.len (length c.in_ok-next.next.items) _ (marks_from 0 c.loop-prefix.prefix.segments) _ (contains nat_cmp c.args.prefix.answered) h.behind z (omega (arith, long, more)) (omega (arith, long)) (h.ahead.way old)
+            (subst (λ g. IsWay c.args.ops.now.ops old c.loop-prefix.prefix.len (c.loop-prefix.prefix.len + length c.in_ok-next.next.items) (c.loop-prefix.prefix.len ∷ []) (marks_from 0 c.loop-prefix.prefix.segments) (marks_from 0 c.in_ok-prefix.prefix.segments) (contains nat_cmp g)) h.ahead.answered (rw there at on.goes_ahead.way old)));
+        answered = on.goes_ahead.answered ∙ h.ahead.answered;
       };
       placed = on.placed;
       behind = omega (arith, h.behind, there);
       before = omega (arith, long, there);
       aligned = λ lt. omega (arith, z, h.behind, long, there);
       searched = IsSearched-next c.args.shelf.now c.loop-prefix.shelf _ h.searched c.in_ok-prefix.ensures.searched;
-      never_less = omega (arith, h.never_less, c.in_ok-prefix.ensures.never_less);
-      rise = omega (arith, h.rise, c.in_ok-prefix.ensures.rise, there);
+      never_less = omega (arith, h.never_less, c.in_ok-prefix.ensures.metered.never_less);
+      rise = omega (arith, h.rise, c.in_ok-prefix.ensures.metered.rise, there);
       stepped = λ old marks r start chunks k all. rw there
           (HaveStepped-next old c.args.ops.now.ops marks c.loop-prefix.shelf.chunks chunks c.loop-prefix.prefix.end r c.loop-prefix.prefix.len (c.loop-prefix.prefix.len + c.min-len.result) (length c.in_ok-next.next.items) start c.loop-prefix.meter c.next_cut.new.meter
           h.ahead.reached.state (omega (arith, long)) (λ e m. all e (h.searched.fewer e m)) (subst (λ os. AreTaken old marks c.loop-prefix.shelf.chunks c.loop-prefix.prefix.end os (length c.in_ok-next.next.items) c.loop-prefix.meter c.next_cut.new.meter) c.in_ok-next.ensures (on.taken old marks)) (h.stepped old marks r start chunks k all));

@@ -53,23 +53,23 @@ overflow_add-at c =
 
 pub returns-in_err-progress-clause-bound : goal.returns-in_err-progress-clause-bound
 returns-in_err-progress-clause-bound c =
-    bounded _ _ _ _ _ _ _ _ _ _ _ _ _ c.loop-i.invariant.place c.requires.shared c.if-at-seam.true (omega (arith, c.loop-i.invariant.place.rise, c.advance.ensures.rise))
+    bounded _ _ _ _ _ _ _ _ _ _ _ _ _ c.loop-i.invariant.place c.requires.shared c.if-at-seam.true (omega (arith, c.loop-i.invariant.place.rise, c.advance.ensures.metered.rise))
 
 pub returns-in_err-found-clause-bound : goal.returns-in_err-found-clause-bound
 returns-in_err-found-clause-bound c =
-    bounded _ _ _ _ _ _ _ _ _ _ _ _ _ c.loop-i.invariant.place c.requires.shared c.if-at-seam.true (omega (arith, c.loop-i.invariant.place.rise, c.advance.ensures.rise))
+    bounded _ _ _ _ _ _ _ _ _ _ _ _ _ c.loop-i.invariant.place c.requires.shared c.if-at-seam.true (omega (arith, c.loop-i.invariant.place.rise, c.advance.ensures.metered.rise))
 
 pub returns-in_err-spliced-clause-bound : goal.returns-in_err-spliced-clause-bound
 returns-in_err-spliced-clause-bound c =
-    bounded _ _ _ _ _ _ _ _ _ _ _ _ _ c.loop-i.invariant.place c.requires.shared c.if-at-seam.true (omega (arith, c.loop-i.invariant.place.rise, c.advance.ensures.rise))
+    bounded _ _ _ _ _ _ _ _ _ _ _ _ _ c.loop-i.invariant.place c.requires.shared c.if-at-seam.true (omega (arith, c.loop-i.invariant.place.rise, c.advance.ensures.metered.rise))
 
 pub returns-in_err-touch_at-clause-bound : goal.returns-in_err-touch_at-clause-bound
 returns-in_err-touch_at-clause-bound c =
-    bounded _ _ _ _ _ _ _ _ _ _ _ _ _ c.loop-i.invariant.place c.requires.shared c.if-at-seam.true (omega (arith, c.loop-i.invariant.place.rise, c.advance.ensures.rise))
+    bounded _ _ _ _ _ _ _ _ _ _ _ _ _ c.loop-i.invariant.place c.requires.shared c.if-at-seam.true (omega (arith, c.loop-i.invariant.place.rise, c.advance.ensures.metered.rise))
 
 pub returns-in-Some-found-clause-bound : goal.returns-in-Some-found-clause-bound
 returns-in-Some-found-clause-bound c =
-    bounded _ _ _ _ _ _ _ _ _ _ _ _ _ c.loop-i.invariant.place c.requires.shared c.if-at-seam.true (omega (arith, c.loop-i.invariant.place.rise, c.advance.ensures.rise))
+    bounded _ _ _ _ _ _ _ _ _ _ _ _ _ c.loop-i.invariant.place c.requires.shared c.if-at-seam.true (omega (arith, c.loop-i.invariant.place.rise, c.advance.ensures.metered.rise))
 
 pub rejoined_at-requires-clause-place : goal.rejoined_at-requires-clause-place
 rejoined_at-requires-clause-place c = c.loop-i.invariant.place.place
@@ -135,7 +135,7 @@ returns-in-Some-found-clause-marks c =
     all_marks-rest prefix c.in-Some-found.rest (drop c.loop-i.i old) (rest-is c) marks in
     let trace : trace_of (prefix ++ drop c.loop-i.i old) ≡ c.args.revision.now.ops.now.ops =
     trace_of-append prefix (drop c.loop-i.i old) ∙ ap (λ t. trace_of prefix ++ t) (sym (rest-is c)) ∙ sym (trace_of-append prefix c.in-Some-found.rest) ∙ (spliced c).trace in
-    rw (c.in_ok-spliced.ensures.segments, c.in_ok-spliced.ensures.gone)
+    rw (c.in_ok-spliced.ensures.segments, c.in_ok-spliced.ensures.answered)
     (left-at-stop c.args.revision.now.guesses.now c.args.revision.now.segments.now c.args.revision.now.ops.now.ops (marks_from 0 c.args.prefix.segments) (marks_from 0 c.in_ok-progress.progress.prefix.segments) _ c.args.seam.base c.args.seam.edited c.loop-i.i c.loop-i.at c.args.prefix.len c.in_ok-progress.progress.prefix.len c.at-segment.result c.in-Some.mark _ _ _ _ _ _
     c.args.revision.now.holds.trace.distinct (omega (arith, c.loop-i-test.true, c.len-i-end.ensures)) c.at-segment.ensures (sym c.in-Some.ensures) c.loop-i.invariant.place.place c.if-at-seam.true (agreed c) (least-agreeing _ _ _ _ _ _ _ _ _ _ _ _ c.loop-i.invariant.place) there
     (GoesOn-next _ _ _ _ _ _ _ _ _ _ _ _ c.loop-i.invariant.beside c.in_ok-progress.ensures.beside).onward c.in_ok-touch_at.ensures.answered
@@ -185,14 +185,14 @@ returns-in_err-progress-2-clause-bound c =
     let e = place-end c.args.revision.now.segments.now c.loop-i.i c.loop-i.at (omega (arith, c.loop-i-test.false, c.len-i-end.ensures)) (omega (arith, c.loop-i.auto.i-end (omega (arith, c.last_from-first.ensures.last.within, c.len-i-end.ensures)), c.len-i-end.ensures)) c.loop-i.invariant.place.place in
     let shared = c.requires.shared in
     let long = ShareEnd-length (trace_of c.args.revision.now.segments.now) c.args.revision.now.ops.now.ops c.args.seam.base c.args.seam.edited shared in
-    bounded _ _ _ _ _ _ _ _ _ _ _ _ _ c.loop-i.invariant.place shared (omega (arith, shared.old_within)) (omega (arith, long, shared.old_within, shared.within, c.loop-i.invariant.place.rise, c.advance-2.ensures.rise))
+    bounded _ _ _ _ _ _ _ _ _ _ _ _ _ c.loop-i.invariant.place shared (omega (arith, shared.old_within)) (omega (arith, long, shared.old_within, shared.within, c.loop-i.invariant.place.rise, c.advance-2.ensures.metered.rise))
 
 pub returns-clause-bound : goal.returns-clause-bound
 returns-clause-bound c =
     let e = place-end c.args.revision.now.segments.now c.loop-i.i c.loop-i.at (omega (arith, c.loop-i-test.false, c.len-i-end.ensures)) (omega (arith, c.loop-i.auto.i-end (omega (arith, c.last_from-first.ensures.last.within, c.len-i-end.ensures)), c.len-i-end.ensures)) c.loop-i.invariant.place.place in
     let shared = c.requires.shared in
     let long = ShareEnd-length (trace_of c.args.revision.now.segments.now) c.args.revision.now.ops.now.ops c.args.seam.base c.args.seam.edited shared in
-    bounded _ _ _ _ _ _ _ _ _ _ _ _ _ c.loop-i.invariant.place shared (omega (arith, shared.old_within)) (omega (arith, long, shared.old_within, shared.within, c.loop-i.invariant.place.rise, c.advance-2.ensures.rise))
+    bounded _ _ _ _ _ _ _ _ _ _ _ _ _ c.loop-i.invariant.place shared (omega (arith, shared.old_within)) (omega (arith, long, shared.old_within, shared.within, c.loop-i.invariant.place.rise, c.advance-2.ensures.metered.rise))
 
 pub loop-i-preserved : goal.loop-i-preserved
 loop-i-preserved c =
@@ -202,7 +202,7 @@ loop-i-preserved c =
           let m : w.in-Some.mark ≡ end_from nothing_held (trace_of (take c.loop-i.i c.args.revision.now.segments.now)) = mark-is c.args.revision.now.segments.now c.loop-i.i c.at-segment.result w.in-Some.mark c.args.revision.now.holds.kept.run.replay (omega (arith, c.loop-i-test.true, c.len-i-end.ensures)) c.at-segment.ensures w.in-Some.ensures in
           let there : w.in_ok-progress.progress.prefix.len ≡ c.loop-i.at - c.args.seam.base + c.args.seam.edited = w.in_ok-progress.ensures.there in
           let prefix = w.in_ok-progress.ensures.beside.reached in
-          let rise = w.advance.ensures.rise in
+          let rise = w.advance.ensures.metered.rise in
           rw (w.progress-is, w.meter-is, w.shelf-is, w.divergence-is, c.ops.ensures)
           (record {
             place = IsBeside-next c.args.revision.now.segments.now c.args.revision.now.ops.now.ops c.args.seam.base c.args.seam.edited c.args.prefix.len c.args.meter.now c.loop-i.i c.loop-i.at c.loop-i.progress.prefix.len c.loop-i.progress.prefix.segments c.loop-i.progress.prefix.end c.loop-i.meter
@@ -216,7 +216,7 @@ loop-i-preserved c =
             fork = w.in_ok-progress.ensures.fork;
             placed = w.in_ok-progress.ensures.placed;
             known = w.in_ok-found.ensures.known;
-            never_less = omega (arith, c.loop-i.invariant.never_less, w.advance.ensures.never_less);
+            never_less = omega (arith, c.loop-i.invariant.never_less, w.advance.ensures.metered.never_less);
           })
       | then-at-seam+in_default w ↦
           rw (w.progress-is, w.meter-is, w.shelf-is, w.divergence-is, c.ops.ensures)

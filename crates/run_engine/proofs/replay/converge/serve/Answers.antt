@@ -51,8 +51,8 @@ loop-progress-preserved-then-at-next c =
       fork = h.fork;
       placed = on.placed;
       order = omega (arith, on.there, c.next_start-next.ensures.within);
-      never_less = omega (arith, h.never_less, on.never_less);
-      steps = omega (arith, h.steps, on.rise, on.there);
+      never_less = omega (arith, h.never_less, on.metered.never_less);
+      steps = omega (arith, h.steps, on.metered.rise, on.there);
     }
 
 pub loop-progress-preserved : goal.loop-progress-preserved
@@ -67,7 +67,7 @@ loop-progress-preserved c =
     record {
       reached = rw (joined.segments, joined.end, joined.len)
           (IsReached-next c.args.revision.now.ops.now.ops c.loop-progress.progress.prefix.len c.args.limits.to c.in_ok-piece.piece.len c.loop-progress.progress.prefix.segments c.in_ok-piece.piece.segments c.loop-progress.progress.prefix.end c.in_ok-piece.piece.end h.beside.reached order c.requires.may.within piece);
-      onward = rw (joined.segments, joined.len, joined.gone)
+      onward = rw (joined.segments, joined.len, joined.answered)
           (IsOnward-piece c.args.revision.now.ops.now.ops (reusable c.args.revision.now) c.loop-progress.progress.prefix.len c.in_ok-piece.piece.len (marks_from 0 c.loop-progress.progress.prefix.segments) _ c.loop-progress.shelf _ _ _ _ c.args.revision.now.holds.trace.distinct c.in_ok-piece.ensures.gap
           (marks_from-piece c.args.revision.now.ops.now.ops _ c.loop-progress.progress.prefix.len c.in_ok-piece.piece.len c.loop-progress.progress.prefix.segments c.in_ok-piece.piece.segments c.loop-progress.progress.prefix.end c.in_ok-piece.piece.end h.beside.reached piece)
           touched c.in_ok-piece.ensures.searched);
@@ -80,6 +80,6 @@ loop-progress-preserved c =
       fork = c.in_ok-piece.ensures.fork;
       placed = joined.placed c.next_piece.new.shelf.chunks c.in_ok-piece.ensures.next;
       order = omega (arith, joined.len, long, order);
-      never_less = omega (arith, h.never_less, c.in_ok-piece.ensures.never_less);
+      never_less = omega (arith, h.never_less, c.in_ok-piece.ensures.metered.never_less);
       steps = omega (arith, h.steps, c.in_ok-piece.ensures.steps, joined.len);
     }

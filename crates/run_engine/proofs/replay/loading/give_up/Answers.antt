@@ -10,8 +10,8 @@ overflow_add-at c =
 
 pub returns-then-is_inner-clause-marks : goal.returns-then-is_inner-clause-marks
 returns-then-is_inner-clause-marks c =
-    goes c.args.trace.now c.args.gone.now.items c.args.name c.in-Some.place (sym c.in-Some.ensures) (rw c.len-len.ensures.value at (sym c.is_inner.ensures ∙ c.if-is_inner.true)) c.requires.room
+    goes c.args.trace.now c.args.flags.now.items c.args.name c.in-Some.place (sym c.in-Some.ensures) (rw c.len-len.ensures.value at (sym c.is_inner.ensures ∙ c.if-is_inner.true)) c.requires.room
 
 pub returns-else-is_inner-clause-marks : goal.returns-else-is_inner-clause-marks
 returns-else-is_inner-clause-marks c =
-    stays c.args.trace.now c.args.gone.now.items c.args.name c.in-Some.place (sym c.in-Some.ensures) (rw c.len-len.ensures.value at (sym c.is_inner.ensures ∙ c.if-is_inner.false))
+    stays c.args.trace.now c.args.flags.now.items c.args.name c.in-Some.place (sym c.in-Some.ensures) (rw c.len-len.ensures.value at (sym c.is_inner.ensures ∙ c.if-is_inner.false))

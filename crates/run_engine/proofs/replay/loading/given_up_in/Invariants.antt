@@ -9,8 +9,8 @@ invariant-loop-at l = record {
   behind : 0 < l.at;
   aligned : l.at % 64 ≡ 0;
   short : l.at < length l.trace + 65;
-  room : length l.trace < 64 * length l.gone.items;
-  touched : IsTouched (record { trace = l.trace; marks = load_marks (length l.trace) }) (loaded_view l.trace l.gone.items) l.initial.shelf l.shelf (names_at l.trace (multiples_below l.at));
+  room : length l.trace < 64 * length l.flags.items;
+  touched : IsTouched (record { trace = l.trace; marks = load_marks (length l.trace) }) (loaded_view l.trace l.flags.items) l.initial.shelf l.shelf (names_at l.trace (multiples_below l.at));
 }
 
 abbrev pub decreases-loop-at : goal.decreases-loop-at

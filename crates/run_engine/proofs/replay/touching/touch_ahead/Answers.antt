@@ -11,7 +11,7 @@ loop-at-init c = record {
   behind = omega arith;
   before = c.requires.order;
   aligned = λ lt. omega arith;
-  answered = subst (λ ps. AreAnswered c.args.shelf.now c.args.shelf.now (names_at c.args.ops.now.ops ps) (contains nat_cmp c.args.gone.now) (contains nat_cmp c.args.gone.now)) (sym (cuts-none c.args.from)) (AreAnswered-none c.args.shelf.now (contains nat_cmp c.args.gone.now));
+  answered = subst (λ ps. AreAnswered c.args.shelf.now c.args.shelf.now (names_at c.args.ops.now.ops ps) (contains nat_cmp c.args.answered.now) (contains nat_cmp c.args.answered.now)) (sym (cuts-none c.args.from)) (AreAnswered-none c.args.shelf.now (contains nat_cmp c.args.answered.now));
 }
 
 pub loop-at-preserved : goal.loop-at-preserved
@@ -29,4 +29,4 @@ pub returns : goal.returns
 returns c =
     let h = c.loop-at.invariant in
     let there : c.loop-at.at ≡ c.args.to = omega (arith, h.before, c.loop-at-test.false) in
-    record { answered = subst (λ to. AreAnswered c.args.shelf.now c.loop-at.shelf (names_at c.args.ops.now.ops (cuts c.args.from to)) (contains nat_cmp c.args.gone.now) (contains nat_cmp c.loop-at.gone)) there h.answered }
+    record { answered = subst (λ to. AreAnswered c.args.shelf.now c.loop-at.shelf (names_at c.args.ops.now.ops (cuts c.args.from to)) (contains nat_cmp c.args.answered.now) (contains nat_cmp c.loop-at.answered)) there h.answered }

@@ -10,7 +10,7 @@ invariant-loop-at l = record {
   behind : l.from ≤ l.at;
   before : l.at ≤ l.to;
   aligned : l.at < l.to → (l.at - l.from) % 64 ≡ 0;
-  answered : AreAnswered l.initial.shelf l.shelf (names_at l.ops.ops (cuts l.from l.at)) (contains nat_cmp l.initial.gone) (contains nat_cmp l.gone);
+  answered : AreAnswered l.initial.shelf l.shelf (names_at l.ops.ops (cuts l.from l.at)) (contains nat_cmp l.initial.answered) (contains nat_cmp l.answered);
 }
 
 abbrev pub decreases-loop-at : goal.decreases-loop-at

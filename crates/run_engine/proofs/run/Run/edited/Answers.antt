@@ -41,9 +41,9 @@ pub returns-clause-marks : goal.returns-clause-marks
 returns-clause-marks c =
     let base : c.in_ok-ops.ops.base ≡ c.args.self.now.trace = c.in_ok-ops.ensures.base ∙ c.in_ok-listed.ensures.base ∙ c.of_segments-original.ensures ∙ ap (λ (s : RunView). s.trace) c.self.view_is in
     let marks : all_marks c.self.inside.segments ≡ c.args.self.now.marks = ap (λ (s : RunView). s.marks) c.self.view_is in
-    let due : AreMarksDue c.args.guesses.items c.args.self.now (record { trace = trace_of c.in_ok-replay.replay.segments; marks = all_marks c.in_ok-replay.replay.segments }) c.args.shelf.now c.resumed.new.shelf (contains nat_cmp c.in_ok-replay.replay.gone) =
-    subst (λ (s : RunView). AreMarksDue c.args.guesses.items s (record { trace = trace_of c.in_ok-replay.replay.segments; marks = all_marks c.in_ok-replay.replay.segments }) c.args.shelf.now c.resumed.new.shelf (contains nat_cmp c.in_ok-replay.replay.gone)) (λ i. record { trace = base i; marks = marks i })
-    (subst (λ ops. AreMarksDue c.args.guesses.items (record { trace = c.in_ok-ops.ops.base; marks = all_marks c.self.inside.segments }) (record { trace = ops; marks = all_marks c.in_ok-replay.replay.segments }) c.args.shelf.now c.resumed.new.shelf (contains nat_cmp c.in_ok-replay.replay.gone))
+    let due : AreMarksDue c.args.guesses.items c.args.self.now (record { trace = trace_of c.in_ok-replay.replay.segments; marks = all_marks c.in_ok-replay.replay.segments }) c.args.shelf.now c.resumed.new.shelf (contains nat_cmp c.in_ok-replay.replay.answered) =
+    subst (λ (s : RunView). AreMarksDue c.args.guesses.items s (record { trace = trace_of c.in_ok-replay.replay.segments; marks = all_marks c.in_ok-replay.replay.segments }) c.args.shelf.now c.resumed.new.shelf (contains nat_cmp c.in_ok-replay.replay.answered)) (λ i. record { trace = base i; marks = marks i })
+    (subst (λ ops. AreMarksDue c.args.guesses.items (record { trace = c.in_ok-ops.ops.base; marks = all_marks c.self.inside.segments }) (record { trace = ops; marks = all_marks c.in_ok-replay.replay.segments }) c.args.shelf.now c.resumed.new.shelf (contains nat_cmp c.in_ok-replay.replay.answered))
     (sym c.in_ok-replay.ensures.trace) (rw c.deref.ensures.value at c.in_ok-replay.ensures.marks)) in
     rw c.in_ok-run.ensures
-    (AreMarksKept-due c.args.guesses.items c.args.self.now (record { trace = trace_of c.in_ok-replay.replay.segments; marks = all_marks c.in_ok-replay.replay.segments }) c.give_up_named.new.self c.args.shelf.now c.resumed.new.shelf c.remember_all.new.shelf (contains nat_cmp c.in_ok-replay.replay.gone) due c.remember_all.ensures c.give_up_named.ensures.trace c.give_up_named.ensures.marks)
+    (AreMarksKept-due c.args.guesses.items c.args.self.now (record { trace = trace_of c.in_ok-replay.replay.segments; marks = all_marks c.in_ok-replay.replay.segments }) c.give_up_named.new.self c.args.shelf.now c.resumed.new.shelf c.remember_all.new.shelf (contains nat_cmp c.in_ok-replay.replay.answered) due c.remember_all.ensures c.give_up_named.ensures.trace c.give_up_named.ensures.marks)

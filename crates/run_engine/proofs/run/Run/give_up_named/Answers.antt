@@ -11,15 +11,15 @@ use Rattle.run_engine.proofs.AnsweredLemmas.{given_up-all, goes-same}
 use Rattle.run_engine.proofs.run.Run.give_up_named.Goals as goal
 
 pub invariant_of-self : goal.invariant_of-self
-invariant_of-self c = rw c.clear_named.ensures (IsKept-cleared (contains nat_cmp c.args.gone.now) c.self.inside.segments c.self.inside.end c.self.invariant)
+invariant_of-self c = rw c.clear_named.ensures (IsKept-cleared (contains nat_cmp c.args.answered.now) c.self.inside.segments c.self.inside.end c.self.invariant)
 
 pub returns-clause-trace : goal.returns-clause-trace
 returns-clause-trace c =
-    ap trace_of c.clear_named.ensures ∙ trace_of-cleared (contains nat_cmp c.args.gone.now) None c.self.inside.segments ∙ ap (λ (s : RunView). s.trace) c.self.view_is
+    ap trace_of c.clear_named.ensures ∙ trace_of-cleared (contains nat_cmp c.args.answered.now) None c.self.inside.segments ∙ ap (λ (s : RunView). s.trace) c.self.view_is
 
 pub returns-clause-marks : goal.returns-clause-marks
 returns-clause-marks c = λ names are.
-    let named = contains nat_cmp c.args.gone.now in
+    let named = contains nat_cmp c.args.answered.now in
     let segments = c.self.inside.segments in
     ap all_marks c.clear_named.ensures ∙ all_marks-cleared named segments c.self.invariant.run.full
     ∙ goes-same named (among names) (trace_of segments) are (all_marks segments)

@@ -6,5 +6,5 @@ use Rattle.run_engine.proofs.segments.block.Block.alone.Goals as goal
 
 pub returns : goal.returns
 returns c =
-    one-alone (option_map arc_value c.self.inside.laid) c.self.inside.gone c.self.inside.from c.self.inside.len (arc_value c.self.inside.segments).items c.args.self.now c.index.result.now c.self.view_is c.self.invariant.0
+    one-alone (option_map arc_value c.self.inside.laid) c.self.inside.given_up c.self.inside.from c.self.inside.len (arc_value c.self.inside.segments).items c.args.self.now c.index.result.now c.self.view_is c.self.invariant.0
     (omega (arith, c.if-self-ne1.false)) (search rules) (search rules) (search rules)

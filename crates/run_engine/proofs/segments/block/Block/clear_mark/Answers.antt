@@ -12,24 +12,24 @@ pub invariant_of-self : goal.invariant_of-self
 invariant_of-self c =
     let x = option_map arc_value c.self.inside.laid in
     let items = (arc_value c.self.inside.segments).items in
-    let long = length-laid x c.self.inside.gone c.self.inside.from c.self.inside.len items c.args.self.now c.self.view_is c.self.invariant.0 in
-    let less : standing c.set.new.self c.self.inside.from c.self.inside.len items ≡ without_mark (standing c.self.inside.gone c.self.inside.from c.self.inside.len items) c.args.index =
-    ap (λ g. standing g c.self.inside.from c.self.inside.len items) c.set.ensures.set ∙ standing-without c.self.inside.gone c.self.inside.from c.self.inside.len c.args.index items (omega (arith, c.requires, c.set.ensures.long, c.self.invariant.0, c.self.invariant.1)) in (
+    let long = length-laid x c.self.inside.given_up c.self.inside.from c.self.inside.len items c.args.self.now c.self.view_is c.self.invariant.0 in
+    let less : standing c.set.new.self c.self.inside.from c.self.inside.len items ≡ without_mark (standing c.self.inside.given_up c.self.inside.from c.self.inside.len items) c.args.index =
+    ap (λ g. standing g c.self.inside.from c.self.inside.len items) c.set.ensures.set ∙ standing-without c.self.inside.given_up c.self.inside.from c.self.inside.len c.args.index items (omega (arith, c.requires, c.set.ensures.long, c.self.invariant.0, c.self.invariant.1)) in (
       c.self.invariant.0,
       c.self.invariant.1,
-      subst (AreSoundBelow x) (sym less) (sound-without x c.args.index (standing c.self.inside.gone c.self.inside.from c.self.inside.len items) c.self.invariant.2),
-      measured-as (map (laid_over x) (standing c.self.inside.gone c.self.inside.from c.self.inside.len items)) _ c.self.inside.ops c.self.inside.bounds.least c.self.inside.bounds.greatest
-          (standing-trace x x c.self.inside.gone c.set.new.self c.self.inside.from c.self.inside.len items) c.self.invariant.3,
+      subst (AreSoundBelow x) (sym less) (sound-without x c.args.index (standing c.self.inside.given_up c.self.inside.from c.self.inside.len items) c.self.invariant.2),
+      measured-as (map (laid_over x) (standing c.self.inside.given_up c.self.inside.from c.self.inside.len items)) _ c.self.inside.ops c.self.inside.bounds.least c.self.inside.bounds.greatest
+          (standing-trace x x c.self.inside.given_up c.set.new.self c.self.inside.from c.self.inside.len items) c.self.invariant.3,
     )
 
 pub returns-clause-kept : goal.returns-clause-kept
 returns-clause-kept c =
     let x = option_map arc_value c.self.inside.laid in
     let items = (arc_value c.self.inside.segments).items in
-    let long = length-laid x c.self.inside.gone c.self.inside.from c.self.inside.len items c.args.self.now c.self.view_is c.self.invariant.0 in
-    let less : standing c.set.new.self c.self.inside.from c.self.inside.len items ≡ without_mark (standing c.self.inside.gone c.self.inside.from c.self.inside.len items) c.args.index =
-    ap (λ g. standing g c.self.inside.from c.self.inside.len items) c.set.ensures.set ∙ standing-without c.self.inside.gone c.self.inside.from c.self.inside.len c.args.index items (omega (arith, c.requires, c.set.ensures.long, c.self.invariant.0, c.self.invariant.1)) in
-    ap (map (laid_over x)) less ∙ map-without x (standing c.self.inside.gone c.self.inside.from c.self.inside.len items) c.args.index ∙ ap (λ all. without_mark all c.args.index) c.self.view_is
+    let long = length-laid x c.self.inside.given_up c.self.inside.from c.self.inside.len items c.args.self.now c.self.view_is c.self.invariant.0 in
+    let less : standing c.set.new.self c.self.inside.from c.self.inside.len items ≡ without_mark (standing c.self.inside.given_up c.self.inside.from c.self.inside.len items) c.args.index =
+    ap (λ g. standing g c.self.inside.from c.self.inside.len items) c.set.ensures.set ∙ standing-without c.self.inside.given_up c.self.inside.from c.self.inside.len c.args.index items (omega (arith, c.requires, c.set.ensures.long, c.self.invariant.0, c.self.invariant.1)) in
+    ap (map (laid_over x)) less ∙ map-without x (standing c.self.inside.given_up c.self.inside.from c.self.inside.len items) c.args.index ∙ ap (λ all. without_mark all c.args.index) c.self.view_is
 
 pub returns-clause-answer : goal.returns-clause-answer
 returns-clause-answer c = c.is_marked-was.ensures ∙ sym (has_mark-at c.args.self.now c.args.index c.at.result c.requires c.at.ensures)

@@ -13,10 +13,10 @@ pub invariant_of-result : goal.invariant_of-result
 invariant_of-result c =
     let x = option_map arc_value c.self.inside.laid in
     let items = (arc_value c.self.inside.segments).items in
-    let ss : List SegmentView = standing c.self.inside.gone c.self.inside.from c.self.inside.len items in
-    let long = length-laid x c.self.inside.gone c.self.inside.from c.self.inside.len items c.args.self.now c.self.view_is c.self.invariant.0 in
-    let some = standing-part c.self.inside.gone c.self.inside.from c.self.inside.len c.args.from c.args.to items c.requires.order (omega (arith, c.requires.within)) in
-    rw (c.in_ok-segments.ensures, c.share-gone.ensures, c.in_ok-laid.ensures) (
+    let ss : List SegmentView = standing c.self.inside.given_up c.self.inside.from c.self.inside.len items in
+    let long = length-laid x c.self.inside.given_up c.self.inside.from c.self.inside.len items c.args.self.now c.self.view_is c.self.invariant.0 in
+    let some = standing-part c.self.inside.given_up c.self.inside.from c.self.inside.len c.args.from c.args.to items c.requires.order (omega (arith, c.requires.within)) in
+    rw (c.in_ok-segments.ensures, c.share-given_up.ensures, c.in_ok-laid.ensures) (
       omega (arith, c.requires.order, c.requires.within, c.self.invariant.0),
       c.self.invariant.1,
       subst (AreSoundBelow x) (sym some) (sound-part x c.args.from (c.args.to - c.args.from) ss c.self.invariant.2),
@@ -28,8 +28,8 @@ pub returns : goal.returns
 returns c =
     let x = option_map arc_value c.self.inside.laid in
     let items = (arc_value c.self.inside.segments).items in
-    let ss : List SegmentView = standing c.self.inside.gone c.self.inside.from c.self.inside.len items in
-    let long = length-laid x c.self.inside.gone c.self.inside.from c.self.inside.len items c.args.self.now c.self.view_is c.self.invariant.0 in
-    let some = standing-part c.self.inside.gone c.self.inside.from c.self.inside.len c.args.from c.args.to items c.requires.order (omega (arith, c.requires.within)) in
-    rw (c.in_ok-segments.ensures, c.share-gone.ensures, c.in_ok-laid.ensures)
+    let ss : List SegmentView = standing c.self.inside.given_up c.self.inside.from c.self.inside.len items in
+    let long = length-laid x c.self.inside.given_up c.self.inside.from c.self.inside.len items c.args.self.now c.self.view_is c.self.invariant.0 in
+    let some = standing-part c.self.inside.given_up c.self.inside.from c.self.inside.len c.args.from c.args.to items c.requires.order (omega (arith, c.requires.within)) in
+    rw (c.in_ok-segments.ensures, c.share-given_up.ensures, c.in_ok-laid.ensures)
     (ap (map (laid_over x)) some ∙ laid-part x c.args.from (c.args.to - c.args.from) ss ∙ ap (λ all. take (c.args.to - c.args.from) (drop c.args.from all)) c.self.view_is)

@@ -13,7 +13,7 @@ pub invariant_of-self-in-Some : goal.invariant_of-self-in-Some
 invariant_of-self-in-Some c =
     let x = option_map arc_value c.self.inside.laid in
     let ss : List SegmentView = (arc_value c.self.inside.segments).items in
-    let all : List SegmentView = map (laid_over x) (standing c.self.inside.gone c.self.inside.from c.self.inside.len ss) in
+    let all : List SegmentView = map (laid_over x) (standing c.self.inside.given_up c.self.inside.from c.self.inside.len ss) in
     let long : c.len.result ≡ vec_len (arc_value c.self.inside.segments) = c.len.ensures ∙ ap vec_len c.deref.ensures in
     let bare : is_some x ≡ false = search rules in
     let items : c.push.new.self.items ≡ ss ++ c.args.segment ∷ [] = search rules in
@@ -24,7 +24,7 @@ invariant_of-self-in-Some c =
       omega (arith, end, size, room),
       sound-bare x (standing c.set.new.self c.self.inside.from (c.self.inside.len + 1) c.push.new.self.items) bare,
       measured-more all _ c.args.segment c.self.inside.ops _ c.self.inside.bounds.least c.self.inside.bounds.greatest _ _
-          (pushed x c.self.inside.gone c.set.new.self c.self.inside.from c.self.inside.len (c.self.inside.from + c.self.inside.len) ss c.push.new.self.items all c.args.segment refl bare items end c.set.ensures.set (omega (arith, c.set.ensures.long, room)) refl)
+          (pushed x c.self.inside.given_up c.set.new.self c.self.inside.from c.self.inside.len (c.self.inside.from + c.self.inside.len) ss c.push.new.self.items all c.args.segment refl bare items end c.set.ensures.set (omega (arith, c.set.ensures.long, room)) refl)
           (ap length c.ops-more.ensures) (omega (arith, c.if-more-self.false, c.self.invariant.3.few))
           (λ h. c.with-bounds.ensures (trace_of all) c.args.segment.ops h c.bounds.ensures) c.self.invariant.3,
     )
@@ -32,4 +32,4 @@ invariant_of-self-in-Some c =
 pub returns-in_ok-push-in-Some-clause-taken : goal.returns-in_ok-push-in-Some-clause-taken
 returns-in_ok-push-in-Some-clause-taken c =
     let long : c.len.result ≡ vec_len (arc_value c.self.inside.segments) = c.len.ensures ∙ ap vec_len c.deref.ensures in
-    pushed (option_map arc_value c.self.inside.laid) c.self.inside.gone c.set.new.self c.self.inside.from c.self.inside.len (c.self.inside.from + c.self.inside.len) (arc_value c.self.inside.segments).items c.push.new.self.items c.args.self.now c.args.segment c.self.view_is (search rules) (search rules) (omega (arith, long, c.self.invariant.0, c.if-place-len.false, (arc_value c.self.inside.segments).ok.0)) c.set.ensures.set (omega (arith, c.set.ensures.long, c.if-place-ge-MOST_SEGMENTS.false)) refl
+    pushed (option_map arc_value c.self.inside.laid) c.self.inside.given_up c.set.new.self c.self.inside.from c.self.inside.len (c.self.inside.from + c.self.inside.len) (arc_value c.self.inside.segments).items c.push.new.self.items c.args.self.now c.args.segment c.self.view_is (search rules) (search rules) (omega (arith, long, c.self.invariant.0, c.if-place-len.false, (arc_value c.self.inside.segments).ok.0)) c.set.ensures.set (omega (arith, c.set.ensures.long, c.if-place-ge-MOST_SEGMENTS.false)) refl

@@ -9,4 +9,4 @@ use Rattle.run_engine.proofs.segments.block.Block.stored.Goals as goal
 pub returns : goal.returns
 returns c =
     ap (λ ss. map ops_of (slice_range ss c.self.inside.from (c.self.inside.from + c.self.inside.len))) (c.deref-2.ensures.value ∙ ap (λ v. v.items) c.deref.ensures)
-    ∙ stored (option_map arc_value c.self.inside.laid) c.self.inside.gone c.self.inside.from c.self.inside.len (c.self.inside.from + c.self.inside.len) (arc_value c.self.inside.segments).items c.args.self.now c.self.view_is refl
+    ∙ stored (option_map arc_value c.self.inside.laid) c.self.inside.given_up c.self.inside.from c.self.inside.len (c.self.inside.from + c.self.inside.len) (arc_value c.self.inside.segments).items c.args.self.now c.self.view_is refl

@@ -8,11 +8,11 @@ pub const MOST_SEGMENTS: usize = 64;
 
 /// Tells of each place in a block whether the checkpoint there is given up. Contracts see the list of these answers.
 #[derive(Drop)]
-pub struct Gone {
+pub struct GivenUp {
     flags: [bool; 64],
 }
 
-impl Model for Gone {
+impl Model for GivenUp {
     ghost use Rattle.std.specs.Prelude.{Bool, List};
 
     ghost Value = { List Bool };
@@ -20,19 +20,19 @@ impl Model for Gone {
     ghost view = { λ g. g.flags };
 }
 
-impl Gone {
+impl GivenUp {
     /// None is given up.
     pub fn none() -> Self
         ensures { result ≡ replicate 64 false }
     {
-        Gone { flags: [false; 64] }
+        GivenUp { flags: [false; 64] }
     }
 
     /// The same answers again.
     pub fn share(&self) -> Self
         ensures { result ≡ self.now }
     {
-        Gone { flags: self.flags }
+        GivenUp { flags: self.flags }
     }
 
     /// Whether the checkpoint at a place is given up.
@@ -44,11 +44,11 @@ impl Gone {
     }
 
     /// Sets the answer at a place.
-    pub fn set(&mut self, place: usize, is_gone: bool)
+    pub fn set(&mut self, place: usize, is_given_up: bool)
         requires { place < 64 }
-        ensures set { self.new ≡ slice_set self.old place is_gone }
+        ensures set { self.new ≡ slice_set self.old place is_given_up }
         ensures long { length self.old ≡ 64 }
     {
-        self.flags[place] = is_gone;
+        self.flags[place] = is_given_up;
     }
 }
