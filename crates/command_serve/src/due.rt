@@ -38,8 +38,10 @@ impl Due {
 
     /// The text that answers the input, or the line that tells an object that isn't there.
     pub fn of_answer(answer: Answer) -> Due
-        ensures { result ≡ record
-            { text = string_bytes answer.text; is_fault = answer.is_missing } }
+        ensures { result ≡ record {
+          text = string_bytes answer.text;
+          is_fault = answer.is_missing;
+        } }
     {
         Due {
             text: Sequence::from_vec(answer.text.into_bytes()),

@@ -15,7 +15,7 @@ pub trait Answers {
     /// This is due for an input that is not too long.
     ghost IsDue: { Self → List ℕ → Due → Type 0 };
 
-    /// Makes what is due for an input, which is let go once it is read.
+    /// Makes what is due for an input, which may be let go once it is read.
     fn answer(&self, alloc: Global, input: Vec<u8>) -> Result<Due, AllocError>
         ensures { IfOk result (IsDue self.now input.items) };
 }
@@ -31,8 +31,8 @@ pub fn serve<C: Answers, S: Source, K: Sink>(
     source: &mut S,
     sink: &mut K,
 ) -> Exit
-    ensures { Serves (C.IsDue command.now) S.Source source.old source.new K.Sink sink.old sink.new
-        result }
+    ensures { Serves (C.IsDue command.now) S.Source source.old source.new
+        K.Sink sink.old sink.new result }
 {
     match read_all(alloc, source) {
         Ok(input) => write_due(sink, command.answer(alloc, input)),

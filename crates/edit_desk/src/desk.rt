@@ -151,18 +151,18 @@ impl Desk {
         ensures unchanged { OnErr result (self.new.standing ≡ self.old.standing) }
         ensures run { OnOk result
             (let next : RunView = record { trace = self.new.standing.trace; marks = self.new.marks }
-            in IsNextRun guesses.items self.old.standing.trace self.old.marks next self.old.shelf
-            self.new.shelf) }
+            in IsNextRun guesses.items self.old.standing.trace self.old.marks next
+            self.old.shelf self.new.shelf) }
         ensures same_run { OnErr result (self.new.marks ≡ self.old.marks) }
         ensures bound { length self.old.standing.history < MAX_ENTRIES →
             request.base ≡ self.old.standing.version →
-            ReplaysWithin self.old.standing.trace self.old.marks request.batch self.old.meter
-            self.new.meter }
+            ReplaysWithin self.old.standing.trace self.old.marks request.batch
+            self.old.meter self.new.meter }
         ensures stepped { OnOk result (length self.old.standing.history < MAX_ENTRIES →
             request.base ≡ self.old.standing.version →
             StepsAtLeast self.old.standing.trace self.old.marks
-            (with_guesses guesses.items self.old.shelf.chunks) request.batch self.old.meter
-            self.new.meter) }
+            (with_guesses guesses.items self.old.shelf.chunks) request.batch
+            self.old.meter self.new.meter) }
         ensures full { MAX_ENTRIES ≤ length self.old.standing.history →
             self.new.meter ≡ self.old.meter }
         ensures full_shelf { MAX_ENTRIES ≤ length self.old.standing.history →
@@ -209,12 +209,12 @@ impl Desk {
         ensures unchanged { self.new.standing ≡ self.old.standing }
         ensures same_run { self.new.marks ≡ self.old.marks }
         ensures bound { request.base ≡ self.old.standing.version →
-            ReplaysWithin self.old.standing.trace self.old.marks request.batch self.old.meter
-            self.new.meter }
+            ReplaysWithin self.old.standing.trace self.old.marks request.batch
+            self.old.meter self.new.meter }
         ensures stepped { OnOk result (request.base ≡ self.old.standing.version →
             StepsAtLeast self.old.standing.trace self.old.marks
-            (with_guesses guesses.items self.old.shelf.chunks) request.batch self.old.meter
-            self.new.meter) }
+            (with_guesses guesses.items self.old.shelf.chunks) request.batch
+            self.old.meter self.new.meter) }
         ensures stale { request.base ≢ self.old.standing.version → self.new.meter ≡ self.old.meter }
         ensures refused { IsErr (edited_by self.old.standing.trace request.batch) →
             self.new.meter ≡ self.old.meter }
@@ -250,8 +250,8 @@ impl Desk {
         ensures reply { result ≡ prepared.entry.reply }
         ensures after { self.new.standing
             ≡ after self.old.standing prepared.entry.session prepared.entry.request }
-        ensures history { self.new.standing.history ≡ self.old.standing.history
-            ++ prepared.entry ∷ [] }
+        ensures history { self.new.standing.history
+            ≡ self.old.standing.history ++ prepared.entry ∷ [] }
         ensures marks { self.new.marks ≡ prepared.next.run.marks }
         ensures shelf { self.new.shelf ≡ self.old.shelf }
         ensures meter { self.new.meter ≡ self.old.meter }
@@ -276,11 +276,11 @@ fn settle(
     requires { published.now.version < MAX_ENTRIES }
     ensures settled { IfOk result (λ r. IsSettled published.now request.now r.0 r.1) }
     ensures run { IfOk result
-        (λ r. IsNextRun guesses.items published.now.run.trace published.now.run.marks r.1.run
-        shelf.old shelf.new) }
+        (λ r. IsNextRun guesses.items published.now.run.trace published.now.run.marks
+        r.1.run shelf.old shelf.new) }
     ensures bound { request.now.base ≡ published.now.version →
-        ReplaysWithin published.now.run.trace published.now.run.marks request.now.batch meter.old
-        meter.new }
+        ReplaysWithin published.now.run.trace published.now.run.marks request.now.batch
+        meter.old meter.new }
     ensures stepped { OnOk result (request.now.base ≡ published.now.version →
         StepsAtLeast published.now.run.trace published.now.run.marks
         (with_guesses guesses.items shelf.old.chunks) request.now.batch meter.old meter.new) }

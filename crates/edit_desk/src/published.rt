@@ -117,8 +117,8 @@ pub fn what_if(
     ensures bound { ReplaysWithin published.now.run.trace published.now.run.marks batch.now
         meter.old meter.new }
     ensures stepped { IfOk result
-        (λ r. AreSteppedFrom published.now.run.trace r.trace published.now.run.marks [] meter.old
-        meter.new) }
+        (λ r. AreSteppedFrom published.now.run.trace r.trace published.now.run.marks []
+        meter.old meter.new) }
     ensures refused { IsErr (edited_by published.now.run.trace batch.now) → meter.new ≡ meter.old }
     ensures never_less { meter.old ≤ meter.new }
 {

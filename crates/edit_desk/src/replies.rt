@@ -33,8 +33,8 @@ pub fn push_reply(text: &mut String, reply: Reply) -> Result<(), AllocError>
 
 fn push_refusal(text: &mut String, why: Refusal) -> Result<(), AllocError>
     ensures { OnOk result
-        (string_bytes text.new ≡ string_bytes text.old ++ reply_text (Reply.Refused why)
-        ++ 10 ∷ []) }
+        (string_bytes text.new
+        ≡ string_bytes text.old ++ reply_text (Reply.Refused why) ++ 10 ∷ []) }
 {
     let cause = cause_str(why);
     let edit = edit_of(why);

@@ -76,8 +76,8 @@ impl Dates {
         moved: &mut Vec<Moved>,
     ) -> Result<(), AllocError>
         ensures { OnOk result
-            (Looks (λ p. is_set p plan.now) heap.now id self.old self.new moved.old.items
-            moved.new.items) }
+            (Looks (λ p. is_set p plan.now) heap.now id self.old self.new
+            moved.old.items moved.new.items) }
     {
         match plan {
             Plan::Skip(_) => Ok(()),
@@ -127,8 +127,8 @@ impl Dates {
         moved: &mut Vec<Moved>,
     ) -> Result<(), AllocError>
         ensures { OnOk result
-            (Looks (λ p. tells p event) heap.now id self.old self.new moved.old.items
-            moved.new.items) }
+            (Looks (λ p. tells p event) heap.now id self.old self.new
+            moved.old.items moved.new.items) }
     {
         self.redate_object(heap, object_of(event), id, moved)
     }
@@ -141,8 +141,8 @@ impl Dates {
         moved: &mut Vec<Moved>,
     ) -> Result<(), AllocError>
         ensures { OnOk result
-            (Looks (λ p. sets p change.now) heap.now id self.old self.new moved.old.items
-            moved.new.items) }
+            (Looks (λ p. sets p change.now) heap.now id self.old self.new
+            moved.old.items moved.new.items) }
     {
         match change {
             Change::SetHandle(_, handle, _) | Change::EndHandle(handle) => {
@@ -166,8 +166,8 @@ impl Dates {
         moved: &mut Vec<Moved>,
     ) -> Result<(), AllocError>
         ensures { OnOk result
-            (Looks (is_of_handle handle) heap.now id self.old self.new moved.old.items
-            moved.new.items) }
+            (Looks (is_of_handle handle) heap.now id self.old self.new
+            moved.old.items moved.new.items) }
     {
         let slot = slot_held(heap, handle);
         let fields = fields_held(heap, handle);
@@ -219,8 +219,8 @@ impl Dates {
         moved: &mut Vec<Moved>,
     ) -> Result<(), AllocError>
         ensures { OnOk result
-            (Looks (is_of_object object) heap.now id self.old self.new moved.old.items
-            moved.new.items) }
+            (Looks (is_of_object object) heap.now id self.old self.new
+            moved.old.items moved.new.items) }
     {
         let fields = fields_alive(heap, object);
         let old = self.take_object(object);

@@ -17,8 +17,8 @@ pub fn gather(
     requires within { All (λ i. i < size graph.now) members.old.items }
     requires begun { All (λ i. marked marks.old.items i ≡ true) members.old.items }
     ensures gathered { OnOk result
-        (IsGathered (Points graph.now) members.old.items marks.old.items members.new.items
-        marks.new.items) }
+        (IsGathered (Points graph.now) members.old.items marks.old.items
+        members.new.items marks.new.items) }
     ensures within { OnOk result (All (λ i. i < size graph.now) members.new.items) }
 {
     let mut at = 0;
@@ -42,8 +42,8 @@ fn join_sources(
     requires all { All (λ i. i < size graph.now) members.old.items }
     requires begun { All (λ i. marked marks.old.items i ≡ true) members.old.items }
     ensures joined { OnOk result
-        (IsJoined (Points graph.now) member members.old.items marks.old.items members.new.items
-        marks.new.items) }
+        (IsJoined (Points graph.now) member members.old.items marks.old.items
+        members.new.items marks.new.items) }
     ensures within { OnOk result (All (λ i. i < size graph.now) members.new.items) }
 {
     for place in graph.holders(member) {
@@ -74,12 +74,12 @@ fn join_one(index: usize, members: &mut Vec<usize>, marks: &mut Vec<bool>) -> Re
     requires { index < vec_len marks.old }
     ensures members { OnOk result
         (members.new.items
-        ≡ (if marked marks.old.items index then members.old.items else members.old.items
-        ++ index ∷ [])) }
+        ≡ (if marked marks.old.items index then members.old.items
+        else members.old.items ++ index ∷ [])) }
     ensures marks { OnOk result
         (marks.new.items
-        ≡ (if marked marks.old.items index then marks.old.items else slice_set marks.old.items index
-        true)) }
+        ≡ (if marked marks.old.items index then marks.old.items
+        else slice_set marks.old.items index true)) }
 {
     if !marks[index] {
         members.push(index)?;

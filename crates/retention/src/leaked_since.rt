@@ -126,8 +126,8 @@ fn date_place(
     requires long { length since.old.items ≡ size graph.now }
     requires there { place < places graph.now }
     ensures { OnOk result
-        (IsPlaceDated graph.now leaked.now place id since.old.items since.new.items todo.old.items
-        todo.new.items) }
+        (IsPlaceDated graph.now leaked.now place id since.old.items since.new.items
+        todo.old.items todo.new.items) }
 {
     let Some(target) = graph.strong_target(place) else {
         return Ok(());

@@ -93,8 +93,8 @@ impl Story {
         requires { get self.old.end.objects op.now.id ≡ None }
         ensures outcome { IfOk result (λ x. x ≡ (step self.old.end op.now).outcome) }
         ensures moves { OnOk result
-            (MovesTo op.now self.old.end self.old.dates self.new.end self.new.dates
-            moved.new.items) }
+            (MovesTo op.now self.old.end self.old.dates
+            self.new.end self.new.dates moved.new.items) }
         ensures outcomes { self.new.outcomes.items ≡ self.old.outcomes.items }
         ensures losses { self.new.losses.items ≡ self.old.losses.items }
         ensures marked { self.new.marked.items ≡ self.old.marked.items }

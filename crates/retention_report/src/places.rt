@@ -14,8 +14,8 @@ use trace_types::slots::Slot;
 pub fn drawn_root(graph: &Graph, shown: &[bool], held: Held) -> Option<Place>
     requires { length shown.now ≡ size graph.now }
     ensures { listed result ≡
-        (if definition.is_drawn graph.now.objects.items shown.now held then picture.roots_of
-        held.place else []) }
+        (if definition.is_drawn graph.now.objects.items shown.now held
+        then picture.roots_of held.place else []) }
 {
     if is_drawn(graph, shown, held) {
         root_of(held.place)
