@@ -18,7 +18,7 @@ use Rattle.trace_types.specs.declared.outcomes.Outcome.{Outcome}
 use Rattle.leak_report.specs.declared.lives.Ending.{Ending}
 use Rattle.leak_report.specs.declared.lives.Ending.TheVariants as ending
 use Rattle.leak_report.specs.declared.lives.Life.{Life}
-use Rattle.leak_report.specs.Lives.{ending_at, freed_at, first_ending, first_freed, numbered, events_of, life_of}
+use Rattle.leak_report.specs.Lives.{ending_at, freed_at, first_ending, first_freed, numbered, events_of, life_of, life_by}
 use Rattle.leak_report.specs.Told.{HasRisingObjects, HasNone, begins, ends, gives_up, told_by, told_by_all}
 use Rattle.leak_report.proofs.LifeLemmas.{option_or-none, option_or-assoc, first_some-append}
 
@@ -172,6 +172,10 @@ one_gives_up o id ls i d freed rising within at is =
 -- a list that was borrowed to be changed, as long as it was
 pub given_back : (new : List Life) (rest : List Life) (len : ℕ) → length new ≡ len → take len (new ++ rest) ≡ new
 given_back new rest len same = take_at new rest len same
+
+pub is_lived : (es : List (ℕ × Event)) (os : List ℕ) → map (told_by_all es) (map begins os) ≡ map (life_by es) os
+is_lived es [] = refl
+is_lived es (o ∷ os) = ap (λ xs. life_by es o ∷ xs) (is_lived es os)
 
 pub is_life : (outs : List Outcome) (os : List ℕ) → map (told_by_all (events_of outs)) (map begins os) ≡ map (life_of outs) os
 is_life outs [] = refl

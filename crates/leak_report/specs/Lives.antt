@@ -62,6 +62,14 @@ is_making (Did answer.No) = false
 is_making (Did answer.Unique) = false
 is_making (Skipped reason) = false
 
+-- the object that an operation made, if it made one
+abbrev pub making : Outcome → List ℕ
+making out = if is_making out.verdict then out.id ∷ [] else []
+
+-- the objects that operations made, in the order of these
+abbrev pub made_in : List Outcome → List ℕ
+made_in outs = flat_map making outs
+
 -- the objects of os, rising, and the operation's own, where it made one
 abbrev pub with_made : List ℕ → Outcome → List ℕ
 with_made os out = if is_making out.verdict then insert_key nat_cmp os out.id else os
@@ -73,6 +81,14 @@ made_after os outs = fold with_made os outs
 -- what became of an object
 abbrev pub life_of : List Outcome → ℕ → Life
 life_of outs o = record { object = o; ending = first_ending o (events_of outs); freed = first_freed o (events_of outs) }
+
+-- what became of an object, by all events
+abbrev pub life_by : List (ℕ × Event) → ℕ → Life
+life_by es o = record { object = o; ending = first_ending o es; freed = first_freed o es }
+
+-- of objects, rising, by all events
+abbrev pub lives_by : List (ℕ × Event) → List ℕ → List Life
+lives_by es os = map (life_by es) (fold (insert_key nat_cmp) [] os)
 
 -- of all that were made, rising
 abbrev pub lives_of : List Outcome → List Life

@@ -16,6 +16,16 @@ pub fn note_events(lives: &mut [Life], id: u32, events: &[Event])
     }
 }
 
+/// Notes events, each with the number of its operation.
+pub fn note_all(lives: &mut [Life], events: &[(u32, Event)])
+    requires { HasRisingObjects lives.old }
+    ensures { lives.new ≡ map (told_by_all events.now) lives.old }
+{
+    for event in events {
+        note_event(lives, event.0, event.1);
+    }
+}
+
 fn note_event(lives: &mut [Life], id: u32, event: Event)
     requires { HasRisingObjects lives.old }
     ensures { lives.new ≡ map (told_by (id, event)) lives.old }

@@ -3,13 +3,15 @@ ghost use Rattle.std.specs.Prelude.{◌≡◌, IfOk, map};
 ghost use Rattle.std.specs.Ordering.{nat_cmp};
 ghost use Rattle.std.specs.List.Sorted.{IsStrictlySortedBy};
 ghost use Rattle.trace_types.specs.Stretches.{outcomes_of};
+ghost use Rattle.leak_report.specs.Lives as definition;
 ghost use Rattle.leak_report.specs.Lives.{events_of, lives_of};
 ghost use Rattle.leak_report.specs.Told.{HasRisingObjects, begins, told_by_all};
 
-use crate::endings::note_events;
+use crate::endings::{note_all, note_events};
 use crate::made::made_by;
+use crate::rising::in_order;
 use std::alloc::{AllocError, Global};
-use trace_types::outcomes::Outcome;
+use trace_types::outcomes::{Event, Outcome};
 use trace_types::sequence::Sequence;
 use trace_types::stretches::Stretch;
 
@@ -44,6 +46,20 @@ pub fn lives(alloc: Global, stretches: &[Stretch]) -> Result<Sequence<Life>, All
     for stretch in stretches {
         note_outcomes(&mut lives, stretch.outcomes);
     }
+    Ok(Sequence::from_vec(lives))
+}
+
+/// The lives of these objects, rising, by the events of all operations in order, each with the number of its operation.
+pub fn lives_by(
+    alloc: Global,
+    made: &[u32],
+    events: &[(u32, Event)],
+) -> Result<Sequence<Life>, AllocError>
+    ensures { IfOk result (λ ls. ls ≡ definition.lives_by events.now made.now) }
+{
+    let made = in_order(alloc, made)?;
+    let mut lives = begun(alloc, &made)?;
+    note_all(&mut lives, events);
     Ok(Sequence::from_vec(lives))
 }
 

@@ -45,7 +45,8 @@ fn note_made(made: &mut Rising, verdict: Verdict, id: u32) -> Result<(), AllocEr
     Ok(())
 }
 
-fn is_making(verdict: Verdict) -> bool
+/// Whether an operation that ended so made an object.
+pub fn is_making(verdict: Verdict) -> bool
     ensures { result ≡ definition.is_making verdict }
 {
     match verdict {

@@ -1,5 +1,5 @@
 //! Distinct numbers, rising: a list while they come so, as in a recorded trace, and a set once one doesn't rise.
-ghost use Rattle.std.specs.Prelude.{◌≡◌, ◌++◌, [], ◌∷◌, IfOk, OnOk, IsTrue};
+ghost use Rattle.std.specs.Prelude.{◌≡◌, ◌++◌, [], ◌∷◌, IfOk, OnOk, IsTrue, fold};
 ghost use Rattle.std.specs.Ordering.{nat_cmp};
 ghost use Rattle.std.specs.BTreeSet.{insert_key};
 ghost use Rattle.std.specs.List.Sorted.{IsStrictlySortedBy};
@@ -70,6 +70,18 @@ impl Rising {
             None => Ok(list),
         }
     }
+}
+
+/// These numbers, rising, each once.
+pub fn in_order(alloc: Global, numbers: &[u32]) -> Result<Vec<u32>, AllocError>
+    ensures value { IfOk result (λ v. v.items ≡ fold (insert_key nat_cmp) [] numbers.now) }
+    ensures rising { IfOk result (λ v. IsStrictlySortedBy nat_cmp v.items) }
+{
+    let mut all = Rising::new(alloc);
+    for number in numbers {
+        all.insert(*number)?;
+    }
+    all.into_vec()
 }
 
 // Whether the number is greater than all of the rising ones.

@@ -1,9 +1,9 @@
 -- What the parts of an account rest on: places and ways within a graph, numbers of objects, and lists of them.
 use Rattle.std.proofs.Common.{◌≡◌, ℕ, zero, suc, ◌+◌, ◌<◌, ◌≤◌, ◌≢◌, List, [], ◌∷◌, ◌++◌, length, get_or, map, take, refl, sym, ap, ◌∙◌, subst, arith, Bool, true, false, inl, inr, cond}
-use Rattle.std.specs.Prelude.{Option, Some, None, ◌⊎◌, ◌==◌, ◌||◌, ◌&&◌, not, nat_lt, filter, reverse, slice_index, slice_index_or, if◌then◌else◌}
+use Rattle.std.specs.Prelude.{Some, None, ◌⊎◌, ◌==◌, ◌||◌, ◌&&◌, not, nat_lt, filter, reverse, slice_index, slice_index_or, if◌then◌else◌}
 use Rattle.std.specs.List.{All}
 use Rattle.std.proofs.lemmas.Bool.Decides.{nat_tests}
-use Rattle.std.proofs.lemmas.List.{get_or_past, length-map, get_or-map, length_push, get_or_push, get_or_append_left, take_more, map-append}
+use Rattle.std.proofs.lemmas.List.{get_or_past, length-map, length_push, get_or_push, get_or_append_left, take_more, map-append}
 use Rattle.std.proofs.lemmas.List.FromFn.{length-range_with_len, get_or-range_with_len}
 use Rattle.std.proofs.lemmas.List.Elements.{filter-append, All-nil, All-cons, All-filter, All-from_get_or, All-get_or}
 use Rattle.std.proofs.lemmas.List.Sums.{sum_by-cons}
@@ -14,13 +14,12 @@ use Rattle.ownership_model.proofs.Searching.{either, or_left, or_right}
 use Rattle.retention_model.specs.declared.place.Place.TheVariants.{Cell}
 use Rattle.retention_model.specs.declared.place.Held.{Held}
 use Rattle.retention.specs.declared.graph.Graph.{Graph}
-use Rattle.retention.specs.declared.walk.Step.{Step}
 use Rattle.retention.specs.declared.walk.Walk.{Walk}
 use Rattle.retention.specs.Layout.{upto, naming}
 use Rattle.retention.specs.Graph.{size, places, object_at, held_at, holds, strong_target, IsFieldAt}
-use Rattle.retention.specs.Walked.{LeadsBy, Leads, IsToldWay, has_come, CameBy, HasWalked, IsWalkFrom}
+use Rattle.retention.specs.Walked.{Leads, IsToldWay, has_come, CameBy, IsWalkFrom}
 use Rattle.retention.specs.declared.cycles.Cycles.{Cycles}
-use Rattle.retention.specs.Components.{AreParts, AreCycles, size_of}
+use Rattle.retention.specs.Components.{AreCycles, size_of}
 use Rattle.retention.specs.Dating.{is_marked, LeadsTo, AreDistinct}
 use Rattle.retention.specs.Retaining.{AreApart}
 use Rattle.retention.proofs.DatingLemmas.{same_or_not, leads_marked}

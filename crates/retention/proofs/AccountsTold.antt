@@ -1,6 +1,6 @@
 -- What is told of an object by the numbers of a graph is what is to be told of it.
-use Rattle.std.proofs.Common.{◌≡◌, ℕ, zero, suc, ◌+◌, ◌<◌, ◌≤◌, List, [], ◌∷◌, length, map, refl, sym, ap, ◌∙◌, subst, arith, Bool, true, false, inl, inr}
-use Rattle.std.specs.Prelude.{Option, Some, None, ◌⊎◌, ◌↔◌, ◌==◌, ◌&&◌, not, nat_lt, nat_le, filter, is_some, unwrap_or, slice_index, slice_index_or, if◌then◌else◌}
+use Rattle.std.proofs.Common.{◌≡◌, ℕ, ◌+◌, ◌<◌, ◌≤◌, List, [], ◌∷◌, refl, sym, ap, ◌∙◌, subst, arith, Bool, true, false}
+use Rattle.std.specs.Prelude.{Option, Some, None, ◌↔◌, ◌&&◌, not, nat_le, is_some, unwrap_or, slice_index, slice_index_or}
 use Rattle.std.proofs.lemmas.Bool.Decides.{nat_tests}
 use Rattle.std.specs.FinMap.{get, keys, contains_key-keys}
 use Rattle.trace_types.specs.declared.slots.Slot.TheVariants.{Strong}
@@ -8,8 +8,8 @@ use Rattle.trace_types.specs.declared.slots.Entry.{Entry}
 use Rattle.trace_types.specs.declared.slots.Entry.TheVariants.{Alive}
 use Rattle.trace_types.specs.declared.slots.Entry.TheVariants as entry
 use Rattle.trace_types.specs.Operation.{Operation}
-use Rattle.ownership_model.specs.State.{State, nothing_held, is_alive, IsSound}
-use Rattle.ownership_model.specs.Step.{end_from, AreNew}
+use Rattle.ownership_model.specs.State.{nothing_held, is_alive, IsSound}
+use Rattle.ownership_model.specs.Step.{end_from}
 use Rattle.ownership_model.specs.Release.{is_husk}
 use Rattle.ownership_model.specs.Leaks.{IsLeaked}
 use Rattle.ownership_model.specs.declared.link.Link.TheVariants.{StrongOnly}
@@ -18,7 +18,6 @@ use Rattle.ownership_model.proofs.Searching.{has_as_any}
 use Rattle.ownership_model.proofs.LawsHold as model
 use Rattle.retention_model.specs.declared.place.Place.{Place}
 use Rattle.retention_model.specs.declared.place.Place.TheVariants.{Handle, Cell, Field}
-use Rattle.retention_model.specs.declared.place.Held.{Held}
 use Rattle.retention_model.specs.declared.account.Account.{Account}
 use Rattle.retention_model.specs.declared.account.Why.{Why}
 use Rattle.retention_model.specs.declared.account.Why.TheVariants.{Husk, Reached, InCycle, Under}
@@ -32,18 +31,18 @@ use Rattle.retention.specs.declared.ending.Ending.{Ending}
 use Rattle.retention.specs.declared.graph.Graph.{Graph}
 use Rattle.retention.specs.declared.moves.Loss.{Loss}
 use Rattle.retention.specs.declared.walk.Walk.{Walk}
-use Rattle.retention.specs.Graph.{size, places, object_at, alive_at, held_at, holds, start_at, IsFieldAt, is_field_at, is_field_of, is_root_at, IsGraphOf}
-use Rattle.retention.specs.Walked.{LeadsBy, Leads, Keeps, IsToldWay, has_come, IsWalkFrom}
-use Rattle.retention.specs.Components.{IsCyclic, AreCycles}
+use Rattle.retention.specs.Graph.{size, places, object_at, alive_at, holds, start_at, IsFieldAt, is_field_at, is_field_of, is_root_at}
+use Rattle.retention.specs.Walked.{Leads, Keeps, has_come, IsWalkFrom}
+use Rattle.retention.specs.Components.{IsCyclic}
 use Rattle.retention.specs.Paths.{Points, Path}
 use Rattle.retention.specs.Losses.{AreLosses}
 use Rattle.retention.specs.Dating.{is_marked, date_at, AreDated}
-use Rattle.retention.specs.Retaining.{is_target, arcs}
+use Rattle.retention.specs.Retaining.{is_target}
 use Rattle.retention.specs.Endings.{IsEnding, IsEndOf}
 use Rattle.retention.specs.AccountsAt.{IsWhyAt, RetainsAt, IsAccountAt}
 use Rattle.retention.specs.Told as told
 use Rattle.retention.proofs.LayoutLemmas.{start_rises}
-use Rattle.retention.proofs.GraphPaths.{held_place, field_object, true_field, path_keeps}
+use Rattle.retention.proofs.GraphPaths.{true_field, path_keeps}
 use Rattle.retention.proofs.GraphLaws.{place_at, strong_at, object_index, way_told, root_begins, field_begins, reached_told, keeps_told}
 use Rattle.retention.proofs.CycleLaws.{cycle_told}
 use Rattle.retention.proofs.UnderLemmas.{none_of}

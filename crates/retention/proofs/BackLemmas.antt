@@ -1,5 +1,5 @@
 -- A way is gone back along, place by place.
-use Rattle.std.proofs.Common.{◌≡◌, ℕ, zero, suc, ◌+◌, ◌<◌, ◌≤◌, List, [], ◌∷◌, ◌++◌, length, get_or, take, drop, map, reverse, refl, sym, ap, ◌∙◌, subst, arith, take-append-drop, Bool, true, false}
+use Rattle.std.proofs.Common.{◌≡◌, ℕ, ◌+◌, ◌<◌, List, [], ◌∷◌, ◌++◌, length, get_or, take, drop, map, reverse, refl, sym, ap, ◌∙◌, subst, arith, take-append-drop, true, false}
 use Rattle.std.specs.Prelude.{nat_lt}
 use Rattle.std.specs.List.{All}
 use Rattle.std.proofs.lemmas.Bool.Decides.{nat_tests}
@@ -9,7 +9,7 @@ use Rattle.retention_model.specs.declared.place.Held.{Held}
 use Rattle.retention.specs.declared.graph.Graph.{Graph}
 use Rattle.retention.specs.declared.walk.Step.{Step}
 use Rattle.retention.specs.declared.walk.Step.TheVariants.{Never, First, Further}
-use Rattle.retention.specs.Graph.{places, held_at, IsFieldAt}
+use Rattle.retention.specs.Graph.{places, held_at}
 use Rattle.retention.specs.Walked.{CameBy}
 
 -- the front of what is left of a list

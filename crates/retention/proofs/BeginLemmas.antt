@@ -1,17 +1,17 @@
 -- Where walks begin: lists of places that rise.
-use Rattle.std.proofs.Common.{◌≡◌, ℕ, zero, suc, ◌+◌, ◌-◌, ◌<◌, ◌≤◌, ◌⊎◌, inl, inr, List, [], ◌∷◌, ◌++◌, length, get_or, refl, sym, ap, ◌∙◌, subst, arith, zero-le, Bool, true, false, cond}
-use Rattle.std.specs.Prelude.{Option, Some, nat_lt, nat_le, ◌&&◌, ◌||◌, ◌==◌, filter}
+use Rattle.std.proofs.Common.{◌≡◌, ℕ, zero, suc, ◌+◌, ◌-◌, ◌<◌, ◌≤◌, List, [], ◌∷◌, length, get_or, refl, sym, ◌∙◌, subst, arith, Bool, true, false, cond}
+use Rattle.std.specs.Prelude.{Option, Some, nat_lt, ◌||◌, ◌==◌, filter}
 use Rattle.std.specs.List.{range_with_len, All}
 use Rattle.std.proofs.lemmas.Bool.Decides.{nat_tests}
 use Rattle.ownership_model.specs.Reach.{has}
 use Rattle.retention.specs.declared.graph.Graph.{Graph}
 use Rattle.retention.specs.declared.walk.Step.{Step}
 use Rattle.retention.specs.Layout.{upto, IsRising}
-use Rattle.retention.specs.Graph.{size, places, start_at, IsFieldAt, is_field_at, is_root_at, is_field_of, holds}
-use Rattle.retention.specs.Walked.{LeadsBy, NoLater, IsLeastBy, HasWalked, has_come, holds_in, IsWalkFrom}
-use Rattle.retention.proofs.PathLemmas.{at_has, has_at}
+use Rattle.retention.specs.Graph.{start_at, IsFieldAt, is_field_at, holds}
+use Rattle.retention.specs.Walked.{LeadsBy, HasWalked, holds_in}
+use Rattle.retention.proofs.PathLemmas.{has_at}
 use Rattle.retention.proofs.JoinSteps.{has_kept, kept_has, has_upto, upto_has}
-use Rattle.retention.proofs.GraphPaths.{held_place, in_part_holds, whole}
+use Rattle.retention.proofs.GraphPaths.{whole}
 
 -- numbers that rise from one on
 abbrev pub Rises : ℕ → List ℕ → Type 0

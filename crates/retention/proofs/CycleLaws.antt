@@ -1,10 +1,9 @@
 -- The components of a graph are the cycles of its state.
-use Rattle.std.proofs.Common.{◌≡◌, ℕ, zero, suc, ◌+◌, ◌<◌, ◌≤◌, ◌⊎◌, inl, inr, List, [], ◌∷◌, ◌++◌, length, get_or, refl, sym, ap, ◌∙◌, subst, arith, Bool, true, false, cond}
-use Rattle.std.specs.Prelude.{Option, Some, None, nat_lt, ◌↔◌, ◌==◌, ◌&&◌, ◌||◌, filter, count_by}
+use Rattle.std.proofs.Common.{◌≡◌, ℕ, suc, ◌+◌, ◌<◌, inl, inr, List, [], ◌∷◌, ◌++◌, length, get_or, refl, sym, ap, ◌∙◌, subst, arith, Bool, true, false, cond}
+use Rattle.std.specs.Prelude.{Option, Some, None, ◌==◌, ◌&&◌, ◌||◌, filter, count_by}
 use Rattle.std.specs.List.{list_any}
-use Rattle.std.proofs.lemmas.Bool.Decides.{nat_tests}
 use Rattle.std.proofs.lemmas.List.Sums.{length-filter, sum_by-cons}
-use Rattle.std.specs.FinMap.{get, keys}
+use Rattle.std.specs.FinMap.{get}
 use Rattle.ownership_model.specs.Reach.{has, Reaches}
 use Rattle.ownership_model.specs.declared.link.Link.TheVariants.{StrongOnly}
 use Rattle.ownership_model.specs.Leaks.{IsLeaked}
@@ -26,7 +25,6 @@ use Rattle.retention.specs.Graph.{size, object_at, IsGraphOf}
 use Rattle.retention.specs.Walked.{Keeps}
 use Rattle.retention.specs.Components.{AreTogether, AreParts, size_of}
 use Rattle.retention.proofs.WalkSteps.{number_same, same_number}
-use Rattle.retention.proofs.PathLemmas.{at_has, has_at}
 use Rattle.retention.proofs.JoinSteps.{has_upto, upto_has}
 use Rattle.retention.proofs.GraphLaws.{object_index, keeps_told, same_index}
 use Rattle.retention.proofs.HeldLemmas.{key_of}

@@ -1,10 +1,10 @@
 -- An object leads to itself where one of its fields holds an object of its component.
-use Rattle.std.proofs.Common.{◌≡◌, ◌<◌, ◌⊎◌, inl, inr, ℕ, List, [], ◌∷◌, get_or, refl, sym, subst, zero-le, Bool, true}
+use Rattle.std.proofs.Common.{◌≡◌, ◌<◌, inl, inr, ℕ, List, [], ◌∷◌, get_or, refl, subst, zero-le, Bool, true}
 use Rattle.retention.specs.declared.graph.Graph.{Graph}
 use Rattle.retention.specs.Graph.{size}
 use Rattle.retention.specs.Walked.{Keeps}
 use Rattle.retention.specs.Components.{AreTogether, AreParts}
-use Rattle.retention.specs.Paths.{Points, Chain, Path, marked, IsLeavingOrder, ArePartsFrom}
+use Rattle.retention.specs.Paths.{Points, Chain, marked, IsLeavingOrder, ArePartsFrom}
 use Rattle.retention.proofs.PathLemmas.{path_trans, at_has}
 use Rattle.retention.proofs.GraphPaths.{keeps_path, path_keeps, points_bounded, same_together, together_same}
 

@@ -1,10 +1,10 @@
 -- What leads to some objects is gathered, member by member.
-use Rattle.std.proofs.Common.{◌≡◌, ℕ, zero, suc, ◌+◌, ◌<◌, ◌≤◌, ◌⊎◌, inl, inr, List, [], ◌∷◌, ◌++◌, length, get_or, refl, sym, ap, ◌∙◌, subst, arith, zero-le, Bool, true, false}
-use Rattle.std.specs.Prelude.{◌==◌, ◌||◌}
+use Rattle.std.proofs.Common.{◌≡◌, ℕ, ◌+◌, ◌<◌, ◌≤◌, ◌⊎◌, inl, inr, List, [], length, get_or, refl, sym, ap, ◌∙◌, subst, arith, zero-le, Bool, true, false}
+use Rattle.std.specs.Prelude.{◌||◌}
 use Rattle.std.specs.List.{All}
 use Rattle.ownership_model.specs.Reach.{has}
 use Rattle.ownership_model.proofs.Searching.{or_left, or_right}
-use Rattle.retention.specs.Paths.{Chain, Path, marked, IsJoined, IsGathered}
+use Rattle.retention.specs.Paths.{Path, marked, IsJoined, IsGathered}
 use Rattle.retention.proofs.WalkSteps.{by_number, apart_number}
 use Rattle.retention.proofs.PathLemmas.{has_at, at_has, has_all, path_trans}
 

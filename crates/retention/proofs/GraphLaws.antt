@@ -1,12 +1,12 @@
 -- What a graph says of the state of which it is one: places, ways, and what leads where.
-use Rattle.std.proofs.Common.{◌≡◌, ℕ, zero, suc, ◌+◌, ◌<◌, ◌≤◌, ◌⊎◌, inl, inr, List, [], ◌∷◌, ◌++◌, length, get_or, map, reverse, refl, sym, ap, ◌∙◌, subst, arith, append_assoc, append-nil, Bool, true, false, cond, length-append}
-use Rattle.std.specs.Prelude.{Option, Some, None, nat_lt, ◌↔◌, unwrap_or, if◌then◌else◌, ◌==◌}
+use Rattle.std.proofs.Common.{◌≡◌, ℕ, suc, ◌+◌, ◌<◌, ◌⊎◌, inl, inr, List, [], ◌∷◌, ◌++◌, length, get_or, map, reverse, refl, sym, ap, ◌∙◌, subst, arith, append_assoc, append-nil, Bool, true, false, length-append}
+use Rattle.std.specs.Prelude.{Some, None, nat_lt, ◌↔◌, unwrap_or, if◌then◌else◌}
 use Rattle.std.specs.List.{AllByRecursion}
 use Rattle.std.proofs.lemmas.Bool.Decides.{nat_tests}
 use Rattle.std.proofs.lemmas.List.{map-append}
 use Rattle.std.proofs.lemmas.Grind.{reverse_onto}
 use Rattle.std.proofs.lemmas.List.Elements.{All-from_recursion}
-use Rattle.std.specs.FinMap.{get, keys}
+use Rattle.std.specs.FinMap.{keys}
 use Rattle.ownership_model.specs.Reach.{has, Reaches}
 use Rattle.ownership_model.specs.declared.link.Link.TheVariants.{StrongOnly}
 use Rattle.trace_types.specs.declared.slots.Slot.{Slot}
@@ -25,11 +25,11 @@ use Rattle.retention.specs.Graph.{size, places, object_at, held_at, target_at, s
 use Rattle.trace_types.specs.Slots.{named_by}
 use Rattle.retention.specs.Targets.{IsTarget}
 use Rattle.retention.specs.HeldPlaces.{held_among}
-use Rattle.retention.specs.Walked.{LeadsBy, Leads, Less, NoLater, IsLeast, IsToldWay, Keeps, has_come, HasWalked, IsWalkFrom}
-use Rattle.retention.proofs.WalkSteps.{number_same, same_number}
+use Rattle.retention.specs.Walked.{Leads, Less, NoLater, IsLeast, IsToldWay, Keeps, has_come, IsWalkFrom}
+use Rattle.retention.proofs.WalkSteps.{number_same}
 use Rattle.retention.proofs.PathLemmas.{at_has}
-use Rattle.retention.proofs.GraphPaths.{strong_object, held_object, held_place, field_object, field_true, true_field}
-use Rattle.retention.proofs.HeldLemmas.{Tells, held_all, Stands, all_stand, field_key, listed, places_in, AreInOrder, places_in_order, held_in_order, order_at}
+use Rattle.retention.proofs.GraphPaths.{strong_object, held_place, field_object, field_true, true_field}
+use Rattle.retention.proofs.HeldLemmas.{Tells, held_all, all_stand, field_key, listed, places_in, AreInOrder, places_in_order, held_in_order, order_at}
 
 -- A place with its slot and its date.
 abbrev pub held_of : State → (Place → ℕ) → Place → Held

@@ -1,14 +1,14 @@
 -- Ways and paths in a graph say the same; and what fields and places can be.
-use Rattle.std.proofs.Common.{◌≡◌, ℕ, zero, suc, ◌+◌, ◌<◌, ◌≤◌, ◌⊎◌, inl, inr, List, [], ◌∷◌, ◌++◌, length, get_or, refl, sym, ap, ◌∙◌, subst, arith, Bool, true, false, cond}
-use Rattle.std.specs.Prelude.{Option, Some, None, nat_lt, nat_le, ◌&&◌, ◌==◌, if◌then◌else◌, slice_get}
+use Rattle.std.proofs.Common.{◌≡◌, ℕ, zero, suc, ◌+◌, ◌<◌, ◌≤◌, inl, inr, List, [], ◌∷◌, ◌++◌, length, get_or, refl, sym, ap, ◌∙◌, subst, arith, Bool, true, false}
+use Rattle.std.specs.Prelude.{Option, Some, None, nat_lt, if◌then◌else◌, slice_get}
 use Rattle.std.proofs.lemmas.Bool.Decides.{nat_tests}
 use Rattle.std.proofs.lemmas.List.{get_or_past}
 use mathlib.Core.Path.{fun_ext}
 use Rattle.trace_types.specs.declared.slots.Slot.{Slot}
 use Rattle.trace_types.specs.declared.slots.Slot.TheVariants.{Nothing, Strong, Weak, Dangling}
 use Rattle.retention.specs.declared.graph.Graph.{Graph}
-use Rattle.retention.specs.Graph.{size, places, start_at, held_at, target_at, strong_target, holds, IsFieldAt, is_field_at, is_root_at}
-use Rattle.retention.specs.Walked.{LeadsBy, Leads, Keeps, IsLeastBy, IsLeast, NoLater, is_in_part, within_part, holds_in}
+use Rattle.retention.specs.Graph.{size, places, start_at, held_at, target_at, strong_target, holds, IsFieldAt, is_field_at}
+use Rattle.retention.specs.Walked.{LeadsBy, Leads, Keeps, IsLeastBy, IsLeast, is_in_part, within_part, holds_in}
 use Rattle.retention.specs.Components.{AreTogether, AreParts}
 use Rattle.retention.specs.Paths.{Points, Chain, Path, Same}
 use Rattle.retention.proofs.PathLemmas.{path_trans}

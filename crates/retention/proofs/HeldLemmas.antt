@@ -1,9 +1,9 @@
 -- The places that name an object, in their order: what each holds, and that each such place is there.
 use Rattle.std.proofs.lemmas.List.{get_or_append_left}
 use Rattle.std.proofs.Common.{get_or-append-add}
-use Rattle.std.proofs.Common.{◌≡◌, ℕ, zero, suc, ◌+◌, ◌<◌, ◌≤◌, ◌⊎◌, inl, inr, List, [], ◌∷◌, ◌++◌, length, get_or, refl, sym, ap, ◌∙◌, subst, arith, append_assoc, Bool, true, false, cond, length-append}
-use Rattle.std.specs.Prelude.{Option, Some, None, flat_map, is_some, ◌==◌, ◌||◌, ◌&&◌, filter, map, unwrap_or, slice_get}
-use Rattle.std.specs.List.{AllByRecursion, list_any}
+use Rattle.std.proofs.Common.{◌≡◌, ℕ, zero, suc, ◌+◌, ◌<◌, ◌≤◌, ◌⊎◌, inl, inr, List, [], ◌∷◌, ◌++◌, length, get_or, refl, sym, ap, ◌∙◌, subst, arith, append_assoc, Bool, true, false, length-append}
+use Rattle.std.specs.Prelude.{Option, Some, None, flat_map, is_some, ◌==◌, ◌||◌, ◌&&◌, map, slice_get}
+use Rattle.std.specs.List.{AllByRecursion}
 use Rattle.std.specs.Ordering.{nat_cmp, is_lt}
 use Rattle.std.proofs.Common.{Ordering, Less, Equal, Greater, T, zero-le}
 use Rattle.std.specs.FinMap.{FinMap, get, keys, entries, entries_sorted, contains_key-keys}
@@ -11,7 +11,7 @@ use Rattle.std.specs.FinMap.Entries.{is_sorted, below_all}
 use Rattle.std.specs.List.Sorted.{IsStrictlySortedBy}
 use Rattle.std.proofs.lemmas.Bool.Decides.{nat_tests}
 use Rattle.ownership_model.specs.Reach.{has}
-use Rattle.ownership_model.proofs.Searching.{has_as_any, or_left, or_right}
+use Rattle.ownership_model.proofs.Searching.{has_as_any}
 use Rattle.trace_types.specs.declared.slots.Slot.{Slot}
 use Rattle.trace_types.specs.declared.slots.Slot.TheVariants.{Nothing, Strong, Weak, Dangling}
 use Rattle.trace_types.specs.declared.slots.Holding.{Holding}
@@ -22,7 +22,7 @@ use Rattle.ownership_model.specs.State.{State}
 use Rattle.retention_model.specs.declared.place.Place.{Place}
 use Rattle.retention_model.specs.declared.place.Place.TheVariants.{Handle, Cell, Field}
 use Rattle.retention_model.specs.declared.place.Held.{Held}
-use Rattle.retention_model.specs.Places.{at, held_at, field_at, IsRoot, IsFieldOf, Precedes, kind_of, owner_of, rank_of, places_from, handle_places, object_places, places_of}
+use Rattle.retention_model.specs.Places.{at, held_at, field_at, Precedes, kind_of, owner_of, rank_of, places_from, handle_places, object_places, places_of}
 use Rattle.retention.specs.HeldPlaces.{held_if, held_among, root_places_of, field_places_of}
 use Rattle.trace_types.specs.Slots.{named_by}
 

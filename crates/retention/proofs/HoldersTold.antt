@@ -1,6 +1,6 @@
 -- The places that are told to hold an object, or to keep its allocation, are those of the state.
-use Rattle.std.proofs.Common.{◌≡◌, ℕ, zero, suc, ◌+◌, ◌<◌, ◌≤◌, List, [], ◌∷◌, ◌++◌, length, get_or, map, refl, sym, ap, ◌∙◌, subst, arith, Bool, true, false, cond}
-use Rattle.std.specs.Prelude.{Option, Some, None, ◌==◌, not, filter, flat_map, unwrap_or, slice_index, slice_index_or, if◌then◌else◌}
+use Rattle.std.proofs.Common.{◌≡◌, ℕ, zero, suc, ◌<◌, List, [], ◌∷◌, ◌++◌, length, get_or, map, refl, sym, ap, ◌∙◌, subst, arith, Bool, true, false}
+use Rattle.std.specs.Prelude.{Option, Some, None, ◌==◌, filter, unwrap_or, slice_index, if◌then◌else◌}
 use Rattle.std.proofs.lemmas.Bool.Decides.{nat_tests}
 use Rattle.std.proofs.lemmas.List.{same_lists, length-map, get_or-map}
 use Rattle.std.proofs.lemmas.List.Elements.{filter-append}
@@ -12,7 +12,6 @@ use Rattle.retention_model.specs.declared.place.Place.{Place}
 use Rattle.retention_model.specs.declared.place.Place.TheVariants.{Cell}
 use Rattle.retention_model.specs.declared.place.Held.{Held}
 use Rattle.retention_model.specs.Places.{at, places_of}
-use Rattle.retention_model.specs.Turns.{is_weak_slot}
 use Rattle.retention.specs.declared.graph.Graph.{Graph}
 use Rattle.retention.specs.HeldPlaces.{held_if, held_among}
 use Rattle.retention.specs.Layout.{upto, naming}

@@ -5,7 +5,7 @@ use Rattle.std.specs.List.{All}
 use Rattle.std.proofs.lemmas.List.Elements.{All-push}
 use Rattle.std.specs.List.{range_with_len}
 use Rattle.std.proofs.lemmas.Bool.Decides.{nat_tests}
-use Rattle.std.proofs.lemmas.List.{get_or_append_left, get_or_push}
+use Rattle.std.proofs.lemmas.List.{get_or_append_left}
 use Rattle.std.proofs.lemmas.List.Sums.{sum_by-set}
 use Rattle.ownership_model.specs.Reach.{has}
 use Rattle.ownership_model.proofs.Searching.{has-append, or_left, or_right}
@@ -14,7 +14,7 @@ use Rattle.retention.specs.Layout.{upto, naming}
 use Rattle.retention.specs.Graph.{size, places, holds, target_at, IsFieldAt}
 use Rattle.retention.specs.Paths.{Points, marked, with_member, with_mark, IsJoined}
 use Rattle.retention.proofs.WalkSteps.{number_same, same_number, by_number, apart_number}
-use Rattle.retention.proofs.PathLemmas.{has_at, at_has, At, has_last, has_before, by_last, mark_same, mark_other}
+use Rattle.retention.proofs.PathLemmas.{has_at, at_has, has_last, by_last, mark_same, mark_other}
 use Rattle.retention.proofs.GraphPaths.{held_object, held_place, source_is}
 
 -- A number below n is in the list of those that pass a test, where it passes it.

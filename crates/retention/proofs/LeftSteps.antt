@@ -1,15 +1,14 @@
 -- How a search goes through the fields of objects.
-use Rattle.std.proofs.Common.{◌≡◌, ℕ, zero, suc, ◌+◌, ◌-◌, ◌*◌, ◌<◌, ◌≤◌, ◌⊎◌, inl, inr, List, [], ◌∷◌, ◌++◌, length, get_or, set, replicate, refl, sym, ap, ◌∙◌, subst, arith, Bool, true, false, length-append, length-set, get_or-set_same, get_or-set_other}
+use Rattle.std.proofs.Common.{◌≡◌, ℕ, ◌+◌, ◌-◌, ◌<◌, ◌≤◌, List, [], ◌∷◌, ◌++◌, length, get_or, set, sym, ap, ◌∙◌, subst, arith, Bool, true, false, length-append, length-set, get_or-set_same, get_or-set_other}
 use Rattle.std.specs.Prelude.{Some, ◌==◌, slice_get}
 use Rattle.std.proofs.lemmas.Option.{slice_get_within, get_or_from_slice_get}
 use Rattle.std.specs.List.{sum}
 use Rattle.std.proofs.lemmas.List.Sums.{sum_by-set}
 use Rattle.std.proofs.lemmas.List.{get_or_push}
-use Rattle.ownership_model.specs.Reach.{has}
 use Rattle.retention.specs.declared.graph.Graph.{Graph}
 use Rattle.retention.specs.Graph.{size, places, holds, start_at, IsFieldAt}
 use Rattle.retention.specs.Paths.{Points, Path, marked, IsSearching, AreLeft}
-use Rattle.retention.proofs.WalkSteps.{number_same, by_number, apart_number}
+use Rattle.retention.proofs.WalkSteps.{by_number, apart_number}
 use Rattle.retention.proofs.PathLemmas.{path_trans, has_at, has_last, mark_same, mark_other}
 
 -- more objects are seen

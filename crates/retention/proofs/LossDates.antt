@@ -7,7 +7,7 @@ use Rattle.ownership_model.specs.State.{State}
 use Rattle.ownership_model.specs.Step.{step, end_from}
 use Rattle.retention_model.specs.Losses.{Loses, Backs, LoseNone, IsLastLoss}
 use Rattle.retention.specs.declared.moves.Loss.{Loss}
-use Rattle.retention.specs.Losses.{IsLostIn, AreLostBy, AreLosses}
+use Rattle.retention.specs.Losses.{IsLostIn, AreLosses}
 use Rattle.retention.specs.Dating.{IsDatedBy}
 
 -- The operation that lost a slot of one of these last

@@ -1,5 +1,5 @@
 -- A graph is made of a state: its places object by object.
-use Rattle.std.proofs.Common.{◌≡◌, ℕ, zero, suc, ◌+◌, ◌-◌, ◌<◌, ◌≤◌, ◌⊎◌, inl, inr, List, [], ◌∷◌, ◌++◌, length, get_or, map, take, drop, refl, sym, ap, ◌∙◌, subst, arith, append_assoc, append-nil, Bool, true, false, length-append}
+use Rattle.std.proofs.Common.{◌≡◌, ℕ, zero, suc, ◌+◌, ◌-◌, ◌<◌, ◌≤◌, List, [], ◌∷◌, ◌++◌, length, get_or, map, take, refl, sym, ap, ◌∙◌, subst, arith, append_assoc, append-nil, true, false, length-append}
 use Rattle.std.specs.Prelude.{Option, Some, None, flat_map, nat_lt}
 use Rattle.std.specs.List.{AllByRecursion}
 use Rattle.std.proofs.lemmas.Bool.Decides.{nat_tests}
@@ -19,11 +19,11 @@ use Rattle.ownership_model.specs.State.{State, is_alive}
 use Rattle.retention_model.specs.declared.place.Place.{Place}
 use Rattle.retention_model.specs.declared.place.Place.TheVariants.{Handle, Cell, Field}
 use Rattle.retention_model.specs.declared.place.Held.{Held}
-use Rattle.retention_model.specs.Places.{at, IsRoot, IsFieldOf, places_from, handle_places, object_places, places_of}
+use Rattle.retention_model.specs.Places.{IsRoot, IsFieldOf, places_from, handle_places, object_places}
 use Rattle.retention.specs.declared.graph.Graph.{Graph}
 use Rattle.retention.specs.HeldPlaces.{held_among, root_places_of, field_places_of}
 use Rattle.retention.specs.Targets.{AreTargets}
-use Rattle.retention.specs.Graph.{size, places, object_at, alive_at, held_at, start_at, IsFieldAt, IsGraphOf}
+use Rattle.retention.specs.Graph.{size, places, object_at, held_at, start_at, IsFieldAt, IsGraphOf}
 use Rattle.retention.proofs.HeldLemmas.{Tells, held_append, held_all, keys_sorted}
 use Rattle.retention.proofs.WalkSteps.{by_number, apart_number}
 use Rattle.retention.proofs.GraphLaws.{same_index, test_below}

@@ -1,6 +1,6 @@
 -- Which objects stand for what is left at the end, by the numbers of a graph.
-use Rattle.std.proofs.Common.{◌≡◌, ℕ, zero, suc, ◌+◌, ◌<◌, List, [], ◌∷◌, ◌++◌, length, get_or, take, map, refl, sym, ap, ◌∙◌, subst, arith, Bool, true, false, inl, inr}
-use Rattle.std.specs.Prelude.{Option, Some, None, ◌⊎◌, ◌||◌, not, filter, is_some, if◌then◌else◌}
+use Rattle.std.proofs.Common.{◌≡◌, ℕ, ◌+◌, ◌<◌, List, [], ◌∷◌, ◌++◌, take, map, refl, sym, ap, ◌∙◌, subst, Bool, true, inl, inr}
+use Rattle.std.specs.Prelude.{Option, Some, None, not, filter, is_some, if◌then◌else◌}
 use Rattle.std.proofs.lemmas.List.Elements.{filter_more}
 use Rattle.std.specs.FinMap.{get, keys, contains_key-keys}
 use Rattle.trace_types.specs.declared.slots.Entry.{Entry}
@@ -17,7 +17,7 @@ use Rattle.retention.specs.Layout.{upto}
 use Rattle.retention.specs.Graph.{size, object_at, alive_at}
 use Rattle.retention.specs.Components.{is_least_of}
 use Rattle.retention.specs.Endings.{IsEnding, IsEndOf, is_noted}
-use Rattle.retention.specs.Ends.{AreAll, IsLeastInCycle, IsOfNote}
+use Rattle.retention.specs.Ends.{AreAll, IsOfNote}
 use Rattle.retention.proofs.JoinSteps.{has_kept, kept_has, has_upto, upto_has}
 use Rattle.retention.proofs.GraphLaws.{object_index, same_index}
 use Rattle.retention.proofs.AccountLemmas.{has_map, map_has}

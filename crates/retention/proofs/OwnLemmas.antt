@@ -1,5 +1,5 @@
 -- What a walk gives of one object.
-use Rattle.std.proofs.Common.{◌≡◌, ℕ, zero, suc, ◌+◌, ◌<◌, ◌≤◌, List, [], ◌∷◌, length, get_or, map, reverse, refl, sym, ap, ◌∙◌, subst, arith, Bool, true}
+use Rattle.std.proofs.Common.{◌≡◌, ℕ, ◌<◌, ◌≤◌, List, [], ◌∷◌, length, get_or, map, reverse, Bool, true}
 use Rattle.std.specs.Prelude.{Option, Some}
 use Rattle.std.specs.List.{All}
 use Rattle.std.proofs.lemmas.List.Elements.{All-cons, All-nil}
@@ -7,7 +7,7 @@ use Rattle.retention_model.specs.declared.place.Held.{Held}
 use Rattle.retention.specs.declared.graph.Graph.{Graph}
 use Rattle.retention.specs.declared.walk.Step.{Step}
 use Rattle.retention.specs.Graph.{size, places, holds, held_at, IsFieldAt, is_field_at}
-use Rattle.retention.specs.Walked.{LeadsBy, Leads, IsLeast, IsToldWay, Keeps, has_come, CameBy, HasWalked, holds_in}
+use Rattle.retention.specs.Walked.{LeadsBy, IsToldWay, Keeps, has_come, CameBy, HasWalked, holds_in}
 use Rattle.retention.specs.Components.{AreParts}
 use Rattle.retention.proofs.GraphPaths.{held_place, in_part_holds, own_least, own_seen}
 

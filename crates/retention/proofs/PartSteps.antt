@@ -1,11 +1,11 @@
 -- The components of a graph, one by one, from the object that a search left last.
-use Rattle.std.proofs.Common.{◌≡◌, ℕ, zero, suc, ◌+◌, ◌<◌, ◌≤◌, ◌⊎◌, inl, inr, List, [], ◌∷◌, ◌++◌, length, get_or, set, refl, sym, ap, ◌∙◌, subst, arith, Bool, true, false, length-set}
+use Rattle.std.proofs.Common.{◌≡◌, ℕ, ◌+◌, ◌<◌, ◌≤◌, ◌⊎◌, inl, inr, List, [], ◌∷◌, length, get_or, set, refl, sym, ◌∙◌, subst, arith, Bool, true, false, length-set}
 use Rattle.std.specs.Prelude.{◌==◌, ◌||◌}
 use Rattle.ownership_model.specs.Reach.{has}
 use Rattle.ownership_model.proofs.Searching.{or_left, or_right}
 use Rattle.retention.specs.Paths.{Chain, Path, Same, marked, IsGathered, IsLeavingOrder, IsNamed, ArePartsFrom}
 use Rattle.retention.proofs.WalkSteps.{number_same, same_number, by_number, apart_number}
-use Rattle.retention.proofs.PathLemmas.{has_at, at_has, mark_same, mark_other, path_trans, same_sym, same_trans, same_path, path_same}
+use Rattle.retention.proofs.PathLemmas.{mark_same, mark_other, path_trans, same_sym, same_trans}
 
 clash : (P : Type 0) (b : Bool) → b ≡ true → b ≡ false → P
 clash P b t f = absurd (let e : true ≡ false = sym t ∙ f in cc)

@@ -1,16 +1,14 @@
 -- The objects that one retains by the numbers of a graph are those that it retains in the state.
-use Rattle.std.proofs.Common.{◌≡◌, ℕ, zero, suc, ◌+◌, ◌<◌, ◌≤◌, List, [], ◌∷◌, length, map, refl, sym, ap, ◌∙◌, subst, arith, Bool, true, false, inl, inr}
-use Rattle.std.specs.Prelude.{Option, Some, None, ◌⊎◌, ◌==◌, ◌||◌, not, nat_lt, filter, slice_get, if◌then◌else◌}
+use Rattle.std.proofs.Common.{◌≡◌, ℕ, zero, suc, ◌+◌, ◌<◌, List, [], length, map, refl, sym, ap, ◌∙◌, subst, arith, Bool, true, false, inl, inr}
+use Rattle.std.specs.Prelude.{Option, Some, None, ◌⊎◌, ◌==◌, not, filter, if◌then◌else◌}
 use Rattle.std.proofs.lemmas.Bool.Decides.{nat_tests}
-use Rattle.std.specs.Ordering.{nat_cmp}
 use Rattle.std.specs.FinMap.{get, keys}
-use Rattle.trace_types.specs.declared.slots.Slot.{Slot}
-use Rattle.trace_types.specs.declared.slots.Slot.TheVariants.{Nothing, Strong, Weak, Dangling}
+use Rattle.trace_types.specs.declared.slots.Slot.TheVariants.{Strong}
 use Rattle.trace_types.specs.declared.slots.Holding.{Holding}
 use Rattle.trace_types.specs.declared.slots.Holding.TheVariants as holding
 use Rattle.trace_types.specs.declared.slots.Entry.{Entry}
 use Rattle.trace_types.specs.declared.slots.Entry.TheVariants.{Alive, Husk}
-use Rattle.ownership_model.specs.State.{State, strong, weak, ends, names_alike, slots_weight, is_alive, IsSound, IsSoundAt}
+use Rattle.ownership_model.specs.State.{State, strong, weak, ends, names_alike, is_alive, IsSound, IsSoundAt}
 use Rattle.ownership_model.specs.declared.link.Link.TheVariants.{StrongOnly}
 use Rattle.ownership_model.specs.Reach.{has, root_names, field_names, holding_names, cell_names, handle_names, all_cell_names}
 use Rattle.ownership_model.specs.Falling.{FallsWith, IsClosed}
@@ -25,10 +23,10 @@ use Rattle.retention_model.proofs.WayLemmas.{by_roots, named_entry, entry_named,
 use Rattle.retention_model.proofs.StayLemmas.{named_somewhere, names_alive}
 use Rattle.retention.specs.declared.graph.Graph.{Graph}
 use Rattle.retention.specs.Graph.{size, places, object_at, holds, IsFieldAt, IsGraphOf}
-use Rattle.retention.specs.Retaining.{is_target, count_below, arcs, IsHeldBy, AreApart, AreRetained}
+use Rattle.retention.specs.Retaining.{is_target, count_below, arcs, IsHeldBy, AreRetained}
 use Rattle.retention.proofs.RetainingLemmas.{arcs_some}
 use Rattle.retention.proofs.AccountLemmas.{has_map, map_has, objects_count, rising_distinct}
-use Rattle.retention.proofs.GraphPaths.{held_place, field_object}
+use Rattle.retention.proofs.GraphPaths.{field_object}
 use Rattle.retention.proofs.GraphLaws.{place_at, strong_at, place_index, object_index}
 use Rattle.retention.proofs.SinceTold.{alive_key}
 

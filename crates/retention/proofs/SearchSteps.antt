@@ -1,12 +1,12 @@
 -- A depth-first search enters an object that it has not seen, and leaves one all of whose fields it has gone through.
-use Rattle.std.proofs.Common.{◌≡◌, ℕ, zero, suc, ◌+◌, ◌<◌, ◌≤◌, ◌⊎◌, inl, inr, List, [], ◌∷◌, ◌++◌, length, get_or, set, refl, sym, ap, ◌∙◌, subst, arith, Bool, true, false, length-append, length-set}
+use Rattle.std.proofs.Common.{◌≡◌, ℕ, ◌+◌, ◌<◌, ◌≤◌, inl, inr, List, [], ◌∷◌, ◌++◌, length, get_or, set, refl, sym, ◌∙◌, subst, arith, Bool, true, false, length-append, length-set}
 use Rattle.std.specs.Prelude.{◌==◌, ◌||◌}
 use Rattle.std.proofs.lemmas.List.{get_or_append_left, get_or_push}
 use Rattle.ownership_model.specs.Reach.{has}
-use Rattle.ownership_model.proofs.Searching.{has-append, or_left, or_right}
+use Rattle.ownership_model.proofs.Searching.{or_left, or_right}
 use Rattle.retention.specs.Paths.{Chain, Path, Same, marked, IsBehind, IsSearching, IsLeavingOrder}
 use Rattle.retention.proofs.WalkSteps.{number_same, same_number, apart_number, by_number}
-use Rattle.retention.proofs.PathLemmas.{has_at, At, at_has, has_last, has_before, by_last, not_last, mark_same, mark_other, path_trans, same_sym, same_path, path_same, same_trans}
+use Rattle.retention.proofs.PathLemmas.{has_at, at_has, has_last, has_before, by_last, not_last, mark_same, mark_other, same_path, same_trans}
 
 not_both : (P : Type 0) (b : Bool) → b ≡ true → b ≡ false → P
 not_both P true t f = absurd cc

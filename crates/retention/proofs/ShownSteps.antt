@@ -1,5 +1,5 @@
 -- What a picture shows, object by object.
-use Rattle.std.proofs.Common.{◌≡◌, ℕ, zero, suc, ◌+◌, ◌<◌, ◌≤◌, ◌⊎◌, inl, inr, List, [], ◌∷◌, ◌++◌, length, get_or, set, take, refl, sym, ap, ◌∙◌, subst, arith, zero-le, Bool, true, false, length-append, length-set}
+use Rattle.std.proofs.Common.{◌≡◌, ℕ, zero, suc, ◌+◌, ◌<◌, ◌≤◌, ◌⊎◌, inl, inr, List, [], ◌∷◌, ◌++◌, length, get_or, set, take, refl, sym, ap, ◌∙◌, subst, arith, Bool, true, false, length-append, length-set}
 use Rattle.std.specs.Prelude.{◌==◌, ◌||◌, ◌↔◌, Option, Some, None, IfSome, MatchOption, nat_lt, if◌then◌else◌}
 use Rattle.std.proofs.lemmas.Bool.Decides.{nat_tests}
 use Rattle.trace_types.specs.declared.slots.Slot.TheVariants.{Nothing}
@@ -9,13 +9,12 @@ use Rattle.std.proofs.lemmas.List.{get_or_append_left, get_or_past, take_more}
 use Rattle.ownership_model.specs.Reach.{has}
 use Rattle.ownership_model.proofs.Searching.{has-append, or_left, or_right}
 use Rattle.retention.specs.declared.graph.Graph.{Graph}
-use Rattle.retention.specs.Graph.{size, places, target_at, held_at, alive_at, IsFieldAt}
+use Rattle.retention.specs.Graph.{size, places, target_at, held_at, IsFieldAt}
 use Rattle.retention.specs.Layout.{naming, upto}
-use Rattle.retention.specs.Walked.{Keeps}
 use Rattle.retention.specs.Paths.{Points, Chain, Path, marked, with_member, with_mark, IsGathered}
-use Rattle.retention.specs.Pictured.{IsAskedAt, IsNearAt, IsShownAt, HoldsWeaklyAt, AreTheMarked, is_weak_slot}
+use Rattle.retention.specs.Pictured.{IsNearAt, IsShownAt, HoldsWeaklyAt, AreTheMarked, is_weak_slot}
 use Rattle.retention.proofs.WalkSteps.{number_same, same_number, by_number, apart_number}
-use Rattle.retention.proofs.PathLemmas.{has_at, at_has, has_last, has_before, by_last, mark_same, mark_other}
+use Rattle.retention.proofs.PathLemmas.{at_has, has_last, mark_same, mark_other}
 use Rattle.retention.proofs.GraphPaths.{keeps_path, path_keeps, source_is}
 use Rattle.retention.proofs.JoinSteps.{has_kept, has_upto}
 

@@ -1,6 +1,6 @@
 -- The dates of leaked objects are the operations since which they have been leaked.
-use Rattle.std.proofs.Common.{◌≡◌, ℕ, ◌<◌, List, [], ◌∷◌, refl, sym, ap, ◌∙◌, subst, Bool, true, false, inl, inr}
-use Rattle.std.specs.Prelude.{Option, Some, None, ◌⊎◌, ◌↔◌, is_some, unwrap_or}
+use Rattle.std.proofs.Common.{◌≡◌, ℕ, ◌<◌, List, [], ◌∷◌, refl, sym, ap, ◌∙◌, subst, Bool, true, inl, inr}
+use Rattle.std.specs.Prelude.{Option, Some, None, ◌↔◌, is_some, unwrap_or}
 use Rattle.std.specs.FinMap.{get, keys, contains_key-keys}
 use Rattle.trace_types.specs.declared.slots.Slot.TheVariants.{Strong}
 use Rattle.trace_types.specs.declared.slots.Entry.{Entry}
@@ -14,12 +14,12 @@ use Rattle.retention_model.specs.declared.place.Place.{Place}
 use Rattle.retention_model.specs.Places.{at, IsFieldOf}
 use Rattle.retention_model.specs.Ways as ways
 use Rattle.retention_model.specs.LeakedSince.{IsLeakedSince}
-use Rattle.retention_model.specs.Losses.{Backs, LoseNone}
+use Rattle.retention_model.specs.Losses.{Backs}
 use Rattle.retention_model.proofs.LawsHold as law
 use Rattle.retention_model.proofs.LossLemmas.{backs_alive, backs_unreached}
 use Rattle.retention.specs.declared.graph.Graph.{Graph}
 use Rattle.retention.specs.declared.moves.Loss.{Loss}
-use Rattle.retention.specs.Graph.{size, places, object_at, held_at, holds, IsFieldAt, IsGraphOf}
+use Rattle.retention.specs.Graph.{size, object_at, IsFieldAt, IsGraphOf}
 use Rattle.retention.specs.Losses.{AreLosses}
 use Rattle.retention.specs.Dating.{is_marked, date_at, LeadsOn, LeadsOn.here, LeadsOn.on, LeadsTo, IsDatedBy, AreDated}
 use Rattle.retention.proofs.LossDates.{lose_none, last_loss, dated_alike, as_last}

@@ -1,8 +1,7 @@
 -- What is noted over the operations of a trace, one after another.
-use Rattle.std.proofs.Common.{◌≡◌, ℕ, ◌+◌, List, [], ◌∷◌, ◌++◌, refl, ap, ap₂, ◌∙◌, sym, subst, subst₂, append_assoc, append-nil, length, filter, flat_map, inl, inr}
+use Rattle.std.proofs.Common.{◌≡◌, ℕ, ◌+◌, List, [], ◌∷◌, ◌++◌, refl, ap, ap₂, ◌∙◌, sym, subst, subst₂, append_assoc, append-nil, filter, flat_map, inl, inr}
 use Rattle.std.specs.Prelude.{Option, Some, None, Bool, true, false, ◌⊎◌, option_map, if◌then◌else◌}
 use Rattle.std.specs.List.{AllByRecursion}
-use Rattle.std.proofs.lemmas.List.{length_push}
 use Rattle.trace_types.specs.declared.slots.Slot.{Slot}
 use Rattle.trace_types.specs.declared.slots.Slot.TheVariants.{Nothing, Strong, Weak, Dangling}
 use Rattle.trace_types.specs.declared.outcomes.Outcome.{Outcome}
@@ -20,6 +19,7 @@ use Rattle.retention.specs.declared.dated.Dated.{Dated}
 use Rattle.retention.specs.declared.dates.Dates.{Dates}
 use Rattle.retention.specs.declared.moves.Loss.{Loss}
 use Rattle.retention.specs.declared.story.Story.{Story}
+use Rattle.leak_report.specs.Lives.{making, made_in, numbered, events_of}
 use Rattle.retention.specs.Dates.{Tell, dated_at}
 use Rattle.retention.specs.Lists.{loss_if, loss_of}
 use Rattle.retention.specs.Losses.{IsLostIn, AreLostBy, AreLosses}
@@ -141,30 +141,31 @@ module _ (m : State) (op : Operation) (xs : List Moved) (moves : AreMoves m (ste
   are_lost = record { each = all_lost xs (λ x has. has); all = lost_all }
 
 -- an operation that was carried out, and then noted
-pub goes : (op : Operation) (id : ℕ) (with_marks : Bool) (x : Outcome) (xs : List Moved) (s u t : Story) → id ≡ op.id → x ≡ (step s.end op).outcome
-    → MovesTo op s.end s.dates u.end u.dates xs → u.outcomes.items ≡ s.outcomes.items → u.losses.items ≡ s.losses.items → u.marked.items ≡ s.marked.items
-    → IsNoted id x with_marks xs u t → GoesOn op with_marks s t
-goes op id with_marks x xs s u t number was moves outcomes losses marked noted = record {
-  outcomes = noted.outcomes ∙ ap₂ (λ l y. l ++ y ∷ []) outcomes was;
+pub goes : (op : Operation) (id position : ℕ) (with_marks : Bool) (x : Outcome) (xs : List Moved) (s u t : Story) → id ≡ op.id → x ≡ (step s.end op).outcome
+    → MovesTo op s.end s.dates u.end u.dates xs → u.made.items ≡ s.made.items → u.events.items ≡ s.events.items → u.losses.items ≡ s.losses.items → u.marked.items ≡ s.marked.items
+    → IsNoted id position x with_marks xs u t → GoesOn op position with_marks s t
+goes op id position with_marks x xs s u t number was moves made events losses marked noted = record {
+  made = noted.made ∙ ap₂ (λ l (y : Outcome). l ++ making y) made was;
+  events = noted.events ∙ ap₂ (λ l (y : Outcome). l ++ numbered y.id y.events) events was;
   state = noted.end ∙ moves.state;
   dates = λ since tells. subst₂ (λ (d : Dates) (m : State). Tell d m (λ p. dated (at s.end p) (at m p) (since p) op.id)) (sym noted.dates) (sym noted.end) (moves.dates since tells);
   moves = λ since tells. (
     xs,
     subst (λ (m : State). AreMoves s.end m xs) (sym noted.end) (moves.moves since tells),
     noted.losses ∙ ap₂ (λ l i. l ++ flat_map (loss_of i) xs) losses number,
-    λ wanted. noted.marked wanted ∙ ap₂ (λ l os. l ++ marks_by (length os) u.end xs x.events) marked outcomes
-        ∙ ap₂ (λ m y. s.marked.items ++ marks_by (length s.outcomes.items) m xs y) (sym noted.end) (ap (λ (y : Outcome). y.events) was),
+    λ wanted. noted.marked wanted ∙ ap (λ l. l ++ marks_by position u.end xs x.events) marked
+        ∙ ap₂ (λ m y. s.marked.items ++ marks_by position m xs y) (sym noted.end) (ap (λ (y : Outcome). y.events) was),
   );
 }
 
 -- A story under way.
 
-pub begun : (ops : List Operation) (with_marks : Bool) (s : Story) → AreNew nothing_held ops → s.outcomes.items ≡ [] → s.end ≡ nothing_held
+pub begun : (ops : List Operation) (with_marks : Bool) (s : Story) → AreNew nothing_held ops → s.made.items ≡ [] → s.events.items ≡ [] → s.end ≡ nothing_held
     → ((p : Place) → dated_at s.dates p ≡ None) → s.losses.items ≡ [] → s.marked.items ≡ [] → IsUnderWay ops ops 0 with_marks s
-begun ops with_marks s new outcomes end dates losses marked = record {
+begun ops with_marks s new made events end dates losses marked = record {
   are_new = subst (λ (m : State). AreNew m ops) (sym end) new;
-  count = ap length outcomes;
-  outcomes = ap₂ (λ x m. x ++ outcomes_from m ops) outcomes end;
+  made = ap₂ (λ x m. x ++ made_in (outcomes_from m ops)) made end;
+  events = ap₂ (λ x m. x ++ events_of (outcomes_from m ops)) events end;
   rest = ap (λ m. end_from m ops) end;
   since = λ p. 0;
   dates = subst (λ (m : State). Tell s.dates m (λ p. 0)) (sym end) (nothing_told s.dates dates);
@@ -175,7 +176,10 @@ begun ops with_marks s new outcomes end dates losses marked = record {
 
 -- an operation more
 module _ (ops : List Operation) (op : Operation) (rest : List Operation) (k : ℕ) (with_marks : Bool) (s t : Story)
-    (way : IsUnderWay ops (op ∷ rest) k with_marks s) (goes : GoesOn op with_marks s t) where
+    (way : IsUnderWay ops (op ∷ rest) k with_marks s) (goes : GoesOn op k with_marks s t) where
+  abbrev out : Outcome
+  out = (step s.end op).outcome
+
   at_state : (P : State → Type 0) → P (step s.end op).state → P t.end
   at_state P = subst P (sym goes.state)
 
@@ -204,7 +208,7 @@ module _ (ops : List Operation) (op : Operation) (rest : List Operation) (k : �
       (moved, more, moved_so, subst (λ (m : State). AreMarkedFrom (k + 1) m rest more) goes.state are, refl) in
       let noted : t.marked.items ≡ s.marked.items ++ here =
       (goes.moves way.since way.dates).3 wanted
-      ∙ ap₂ (λ j m. s.marked.items ++ marks_by j m moved (step s.end op).outcome.events) way.count goes.state in
+      ∙ ap (λ m. s.marked.items ++ marks_by k m moved (step s.end op).outcome.events) goes.state in
       let listed : s.marked.items ++ (here ++ more) ≡ t.marked.items ++ more =
       sym (ap (λ l. l ++ more) noted ∙ append_assoc s.marked.items here more) in
       subst (λ (l : List Marked). AreMarkedFrom 0 nothing_held ops l) listed (way.marked wanted (here ++ more) all)
@@ -212,9 +216,10 @@ module _ (ops : List Operation) (op : Operation) (rest : List Operation) (k : �
   pub went_on : IsUnderWay ops rest (k + 1) with_marks t
   went_on = record {
     are_new = at_state (λ m. AreNew m rest) way.are_new.1;
-    count = ap length goes.outcomes ∙ length_push s.outcomes.items (step s.end op).outcome ∙ ap (λ j. j + 1) way.count;
-    outcomes = ap₂ (λ x m. x ++ outcomes_from m rest) goes.outcomes goes.state
-        ∙ append_assoc s.outcomes.items ((step s.end op).outcome ∷ []) (outcomes_from (step s.end op).state rest) ∙ way.outcomes;
+    made = ap₂ (λ x m. x ++ made_in (outcomes_from m rest)) goes.made goes.state
+        ∙ append_assoc s.made.items (making out) (made_in (outcomes_from (step s.end op).state rest)) ∙ way.made;
+    events = ap₂ (λ x m. x ++ events_of (outcomes_from m rest)) goes.events goes.state
+        ∙ append_assoc s.events.items (numbered out.id out.events) (events_of (outcomes_from (step s.end op).state rest)) ∙ way.events;
     rest = ap (λ m. end_from m rest) goes.state ∙ way.rest;
     since = new_since;
     dates = goes.dates way.since way.dates;
@@ -225,8 +230,11 @@ module _ (ops : List Operation) (op : Operation) (rest : List Operation) (k : �
 
 -- at the end
 module _ (ops : List Operation) (k : ℕ) (with_marks : Bool) (s : Story) (way : IsUnderWay ops [] k with_marks s) where
-  pub all_outcomes : s.outcomes.items ≡ outcomes_from nothing_held ops
-  all_outcomes = sym (append-nil s.outcomes.items) ∙ way.outcomes
+  pub all_made : s.made.items ≡ made_in (outcomes_from nothing_held ops)
+  all_made = sym (append-nil s.made.items) ∙ way.made
+
+  pub all_events : s.events.items ≡ events_of (outcomes_from nothing_held ops)
+  all_events = sym (append-nil s.events.items) ∙ way.events
 
   pub all_dates : Tell s.dates s.end (λ p. since_from nothing_held ops p 0)
   all_dates p = way.dates p ∙ ap (λ t. option_map (λ (r : Slot). let it : Dated = record { slot = r; since = t } in it) (at s.end p)) (way.dated p)

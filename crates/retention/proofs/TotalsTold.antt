@@ -1,27 +1,26 @@
 -- How many objects leaked, how many cycles they form and how many husks are left, by the numbers of a graph.
-use Rattle.std.proofs.Common.{◌≡◌, ℕ, zero, suc, ◌+◌, ◌<◌, ◌≤◌, ◌≢◌, List, [], ◌∷◌, length, get_or, map, refl, sym, ap, ◌∙◌, subst, arith, Bool, true, false, inl, inr, cond}
-use Rattle.std.specs.Prelude.{Option, Some, None, ◌⊎◌, ◌↔◌, ◌==◌, ◌||◌, ◌&&◌, not, filter, count_by, is_some, slice_index, slice_index_or, if◌then◌else◌}
+use Rattle.std.proofs.Common.{◌≡◌, ℕ, suc, ◌+◌, ◌<◌, ◌≤◌, ◌≢◌, List, [], ◌∷◌, length, get_or, map, refl, sym, ap, ◌∙◌, subst, arith, Bool, true, false, inl, inr, cond}
+use Rattle.std.specs.Prelude.{Option, Some, None, ◌⊎◌, ◌==◌, ◌&&◌, not, filter, count_by, is_some, slice_index, slice_index_or, if◌then◌else◌}
 use Rattle.std.proofs.lemmas.Bool.Decides.{nat_tests}
 use Rattle.std.proofs.lemmas.List.Sums.{length-filter, sum_by-cons}
 use Rattle.std.specs.FinMap.{get, keys, contains_key-keys}
 use Rattle.trace_types.specs.declared.slots.Entry.{Entry}
 use Rattle.trace_types.specs.declared.slots.Entry.TheVariants.{Alive, Husk}
 use Rattle.trace_types.specs.Operation.{Operation}
-use Rattle.ownership_model.specs.State.{State, nothing_held, is_alive}
+use Rattle.ownership_model.specs.State.{nothing_held, is_alive}
 use Rattle.ownership_model.specs.Step.{end_from}
 use Rattle.ownership_model.specs.Release.{is_husk}
 use Rattle.ownership_model.specs.Leaks.{IsLeaked}
 use Rattle.ownership_model.specs.Reach.{has}
-use Rattle.ownership_model.proofs.Searching.{has_as_any, either, or_left, or_right}
+use Rattle.ownership_model.proofs.Searching.{has_as_any}
 use Rattle.retention_model.specs.Since.{since_from}
 use Rattle.retention_model.specs.declared.totals.Totals.{Totals}
 use Rattle.retention_model.specs.Cycles as state
 use Rattle.retention_model.specs.Cycles.{IsInCycle, AreInOneCycle}
 use Rattle.retention_model.proofs.StayLemmas as model
 use Rattle.retention.specs.declared.ending.Ending.{Ending}
-use Rattle.retention.specs.declared.graph.Graph.{Graph}
 use Rattle.retention.specs.Layout.{upto}
-use Rattle.retention.specs.Graph.{size, object_at, alive_at}
+use Rattle.retention.specs.Graph.{size, object_at}
 use Rattle.retention.specs.Walked.{Keeps}
 use Rattle.retention.specs.Components.{AreTogether, IsCyclic}
 use Rattle.retention.specs.Dating.{is_marked}
@@ -32,7 +31,7 @@ use Rattle.retention.proofs.JoinSteps.{has_kept, kept_has, has_upto, upto_has}
 use Rattle.retention.proofs.DatingLemmas.{same_or_not}
 use Rattle.retention.proofs.GraphLaws.{object_index, keeps_told}
 use Rattle.retention.proofs.CycleLaws.{leaked_keeper}
-use Rattle.retention.proofs.AccountLemmas.{rising_apart, has_map, map_has, index_has, objects_count, rising_distinct}
+use Rattle.retention.proofs.AccountLemmas.{rising_apart, has_map, map_has, index_has, objects_count}
 use Rattle.std.proofs.lemmas.List.FromFn.{length-range_with_len, get_or-range_with_len}
 use Rattle.retention.proofs.SinceTold.{alive_key}
 use Rattle.retention.proofs.AccountsTold.{leaked_told, cyclic_told}

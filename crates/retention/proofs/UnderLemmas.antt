@@ -1,11 +1,11 @@
 -- Each leaked object is in a cycle or under one: what holds it leaked too, and so on back, until an object comes again.
-use Rattle.std.proofs.Common.{◌≡◌, ℕ, zero, suc, ◌+◌, ◌<◌, ◌≤◌, List, [], ◌∷◌, ◌++◌, length, refl, sym, ap, ◌∙◌, subst, arith, Bool, true, false, inl, inr}
-use Rattle.std.specs.Prelude.{Some, ◌⊎◌, ◌||◌, ◌==◌}
+use Rattle.std.proofs.Common.{◌≡◌, ℕ, zero, suc, ◌+◌, ◌<◌, ◌≤◌, List, [], ◌∷◌, length, refl, subst, arith, Bool, true, false}
+use Rattle.std.specs.Prelude.{◌==◌}
 use Rattle.std.proofs.lemmas.Bool.Decides.{nat_tests}
 use Rattle.ownership_model.specs.Reach.{has}
 use Rattle.ownership_model.proofs.Searching.{either, or_left}
 use Rattle.retention.specs.declared.graph.Graph.{Graph}
-use Rattle.retention.specs.Graph.{size, holds, IsFieldAt}
+use Rattle.retention.specs.Graph.{size}
 use Rattle.retention.specs.Paths.{Points, Path}
 use Rattle.retention.specs.Retaining.{AreApart}
 use Rattle.retention.proofs.PathLemmas.{path_trans}

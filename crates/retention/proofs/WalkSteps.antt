@@ -1,13 +1,13 @@
 -- A walk that goes from places to what they hold, in the order of ways: what holds at each step of it.
-use Rattle.std.proofs.Common.{◌≡◌, ℕ, zero, suc, ◌+◌, ◌<◌, ◌≤◌, ◌⊎◌, inl, inr, List, [], ◌∷◌, ◌++◌, length, get_or, set, refl, zero-le, sym, ap, ◌∙◌, subst, arith, Bool, true, false, cond, length-append, length-set, get_or-set_same, get_or-set_other}
+use Rattle.std.proofs.Common.{◌≡◌, ℕ, zero, suc, ◌+◌, ◌<◌, ◌≤◌, inl, inr, List, [], ◌∷◌, ◌++◌, length, get_or, set, refl, zero-le, sym, ap, ◌∙◌, subst, arith, Bool, true, false, cond, length-append, length-set, get_or-set_same, get_or-set_other}
 use Rattle.std.specs.Prelude.{Option, Some, None, ◌==◌, not, if◌then◌else◌, count_by}
 use Rattle.std.proofs.lemmas.Bool.Decides.{nat_tests}
 use Rattle.std.proofs.lemmas.List.{get_or_append_left, get_or_push, get_or_read}
 use Rattle.std.proofs.lemmas.List.Sums.{sum_by-set, sum_by-cons}
 use Rattle.retention.specs.declared.walk.Step.{Step}
 use Rattle.retention.specs.declared.walk.Step.TheVariants.{Never, First, Further}
-use Rattle.retention.specs.Walked.{LeadsBy, Less, NoLater, IsLeastBy, is_come, has_come, CameBy, HasWalked, IsFresh, AreListed, stepped, joined}
-use Rattle.retention.proofs.WayOrder.{less_trans, no_later_less, less_no_later, no_later_trans, behind_both, later_place, less_behind}
+use Rattle.retention.specs.Walked.{LeadsBy, Less, NoLater, is_come, has_come, CameBy, HasWalked, IsFresh, AreListed, stepped, joined}
+use Rattle.retention.proofs.WayOrder.{less_trans, no_later_trans, behind_both, later_place, less_behind}
 
 -- Numbers that are the same, and that are not.
 

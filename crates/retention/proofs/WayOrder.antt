@@ -1,5 +1,5 @@
 -- The order of ways, the last place first: shorter ones before longer ones, and those as long place by place.
-use Rattle.std.proofs.Common.{◌≡◌, ℕ, ◌<◌, ◌⊎◌, inl, inr, List, [], ◌∷◌, refl, sym, ap, ◌∙◌, subst, arith}
+use Rattle.std.proofs.Common.{ℕ, ◌<◌, inl, inr, List, [], ◌∷◌, refl, sym, ap, ◌∙◌, subst, arith}
 use Rattle.retention.specs.Walked.{Less, NoLater}
 
 pub less_trans : (a b c : List ℕ) → Less a b → Less b c → Less a c

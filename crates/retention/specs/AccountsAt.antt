@@ -1,5 +1,5 @@
 -- What is told of an object, by the numbers of a graph (profile of this project).
-use Rattle.std.specs.Prelude.{ℕ, ◌≡◌, ◌<◌, List, length, map, filter, Option, Some, None, Bool, true, false, not, unwrap_or, slice_index, slice_index_or}
+use Rattle.std.specs.Prelude.{ℕ, ◌≡◌, List, length, map, filter, Option, Some, None, Bool, true, false, not, unwrap_or, slice_index, slice_index_or}
 use Rattle.trace_types.specs.declared.slots.Slot.{Slot}
 use Rattle.retention_model.specs.Turns.{is_weak_slot}
 use Rattle.retention_model.specs.declared.account.Account.{Account}

@@ -1,6 +1,6 @@
 -- The end of a replay as a graph, read by numbers from 0: objects as they stand among all, places as they stand among those that name an
 -- object (profile of this project).
-use Rattle.std.specs.Prelude.{ℕ, ◌≡◌, ◌+◌, ◌<◌, ◌≤◌, ◌==◌, nat_lt, nat_le, ◌&&◌, List, [], length, Option, Some, None, Bool, true, false, slice_get, slice_index, slice_index_or, if◌then◌else◌}
+use Rattle.std.specs.Prelude.{ℕ, ◌≡◌, ◌+◌, ◌<◌, nat_lt, nat_le, ◌&&◌, List, length, Option, Some, None, Bool, false, slice_index, slice_index_or, if◌then◌else◌}
 use Rattle.std.specs.FinMap.{get, keys}
 use Rattle.trace_types.specs.declared.slots.Slot.{Slot}
 use Rattle.trace_types.specs.declared.slots.Slot.TheVariants.{Nothing, Strong, Weak, Dangling}

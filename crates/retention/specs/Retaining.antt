@@ -1,6 +1,6 @@
 -- What an object retains, by the numbers of a graph: the least set that has it, and each object that is held by fields of members alone
 -- (profile of this project).
-use Rattle.std.specs.Prelude.{ℕ, zero, suc, ◌≡◌, ◌+◌, ◌<◌, ◌^◌, ◌==◌, List, [], ◌∷◌, length, Option, Some, None, Bool, true, false, slice_index, if◌then◌else◌}
+use Rattle.std.specs.Prelude.{ℕ, zero, suc, ◌≡◌, ◌+◌, ◌<◌, ◌==◌, List, [], ◌∷◌, Option, Some, None, Bool, true, false, if◌then◌else◌}
 use Rattle.ownership_model.specs.Reach.{has}
 use Rattle.retention.specs.declared.graph.Graph.{Graph}
 use Rattle.retention.specs.Graph.{size, places, holds, IsFieldAt}

@@ -1,5 +1,5 @@
 -- How the objects that one retains are found, field by field (profile of this project).
-use Rattle.std.specs.Prelude.{ℕ, ◌≡◌, ◌≢◌, ◌+◌, ◌-◌, ◌<◌, ◌≤◌, ◌^◌, ◌==◌, ◌⊎◌, ◌&&◌, not, nat_lt, List, [], ◌∷◌, ◌++◌, length, Option, Some, None, Bool, true, false, slice_index, slice_set, if◌then◌else◌}
+use Rattle.std.specs.Prelude.{ℕ, ◌≡◌, ◌≢◌, ◌+◌, ◌-◌, ◌<◌, ◌^◌, ◌==◌, ◌⊎◌, ◌&&◌, not, nat_lt, List, [], ◌∷◌, ◌++◌, length, Some, None, Bool, true, slice_index, slice_set, if◌then◌else◌}
 use Rattle.ownership_model.specs.Reach.{has}
 use Rattle.retention.specs.declared.graph.Graph.{Graph}
 use Rattle.retention.specs.Graph.{size, places, holds, IsFieldAt}

@@ -1,5 +1,5 @@
 -- One operation more of a replay that keeps dates, losses and marks (profile of this project).
-use Rattle.std.specs.Prelude.{ℕ, ◌≡◌, ◌++◌, ◌∷◌, [], List, flat_map, length, Bool, true}
+use Rattle.std.specs.Prelude.{ℕ, ◌≡◌, ◌++◌, List, flat_map, Bool, true}
 use Rattle.trace_types.specs.Operation.{Operation}
 use Rattle.trace_types.specs.declared.outcomes.Outcome.{Outcome}
 use Rattle.ownership_model.specs.State.{State, nothing_held}
@@ -10,6 +10,7 @@ use Rattle.retention_model.specs.Places.{at}
 use Rattle.retention_model.specs.declared.mark.Marked.{Marked}
 use Rattle.retention_model.specs.Since.{dated, since_from}
 use Rattle.retention_model.specs.Turns.{AreMoves, marks_by, AreMarkedFrom}
+use Rattle.leak_report.specs.Lives.{making, made_in, numbered, events_of}
 use Rattle.retention.specs.Dates.{Tell}
 use Rattle.retention.specs.Lists.{loss_of}
 use Rattle.retention.specs.Losses.{AreLosses}
@@ -23,28 +24,30 @@ pub record MovesTo (op : Operation) (m : State) (d : Dates) (n : State) (e : Dat
   pub dates : (since : Place → ℕ) → Tell d m since → Tell e n (λ p. dated (at m p) (at n p) (since p) op.id)
   pub moves : (since : Place → ℕ) → Tell d m since → AreMoves m n xs
 
--- what is noted of an operation with this number, its outcome, and what it moved
-pub record IsNoted (id : ℕ) (outcome : Outcome) (with_marks : Bool) (xs : List Moved) (s t : Story) : Type 0 where
+-- what is noted of an operation with this number, at this position, its outcome, and what it moved
+pub record IsNoted (id position : ℕ) (outcome : Outcome) (with_marks : Bool) (xs : List Moved) (s t : Story) : Type 0 where
   pub end : t.end ≡ s.end
   pub dates : t.dates ≡ s.dates
-  pub outcomes : t.outcomes.items ≡ s.outcomes.items ++ outcome ∷ []
+  pub made : t.made.items ≡ s.made.items ++ making outcome
+  pub events : t.events.items ≡ s.events.items ++ numbered outcome.id outcome.events
   pub losses : t.losses.items ≡ s.losses.items ++ flat_map (loss_of id) xs
-  pub marked : with_marks ≡ true → t.marked.items ≡ s.marked.items ++ marks_by (length s.outcomes.items) s.end xs outcome.events
+  pub marked : with_marks ≡ true → t.marked.items ≡ s.marked.items ++ marks_by position s.end xs outcome.events
 
--- a story that goes on with an operation
-pub record GoesOn (op : Operation) (with_marks : Bool) (s t : Story) : Type 0 where
-  pub outcomes : t.outcomes.items ≡ s.outcomes.items ++ (step s.end op).outcome ∷ []
+-- a story that goes on with the operation at a position
+pub record GoesOn (op : Operation) (position : ℕ) (with_marks : Bool) (s t : Story) : Type 0 where
+  pub made : t.made.items ≡ s.made.items ++ making (step s.end op).outcome
+  pub events : t.events.items ≡ s.events.items ++ numbered (step s.end op).outcome.id (step s.end op).outcome.events
   pub state : t.end ≡ (step s.end op).state
   pub dates : (since : Place → ℕ) → Tell s.dates s.end since → Tell t.dates t.end (λ p. dated (at s.end p) (at t.end p) (since p) op.id)
   pub moves : (since : Place → ℕ) → Tell s.dates s.end since
       → (xs : List Moved) × AreMoves s.end t.end xs × (t.losses.items ≡ s.losses.items ++ flat_map (loss_of op.id) xs)
-      × (with_marks ≡ true → t.marked.items ≡ s.marked.items ++ marks_by (length s.outcomes.items) t.end xs (step s.end op).outcome.events)
+      × (with_marks ≡ true → t.marked.items ≡ s.marked.items ++ marks_by position t.end xs (step s.end op).outcome.events)
 
 -- a story under way: these operations are left of all, and the next of them stands at this position
 pub record IsUnderWay (ops left : List Operation) (position : ℕ) (with_marks : Bool) (s : Story) : Type 0 where
   pub are_new : AreNew s.end left
-  pub count : length s.outcomes.items ≡ position
-  pub outcomes : s.outcomes.items ++ outcomes_from s.end left ≡ outcomes_from nothing_held ops
+  pub made : s.made.items ++ made_in (outcomes_from s.end left) ≡ made_in (outcomes_from nothing_held ops)
+  pub events : s.events.items ++ events_of (outcomes_from s.end left) ≡ events_of (outcomes_from nothing_held ops)
   pub rest : end_from s.end left ≡ end_from nothing_held ops
   pub since : Place → ℕ
   pub dates : Tell s.dates s.end since

@@ -2,7 +2,7 @@
 use Rattle.std.specs.Prelude.{ℕ, ◌≡◌, ◌==◌, List, map, Option, Some, None, Bool, true, false, unwrap_or}
 use Rattle.std.specs.FinMap.{get}
 use Rattle.trace_types.specs.declared.slots.Slot.{Slot}
-use Rattle.trace_types.specs.declared.slots.Slot.TheVariants.{Nothing, Strong, Weak, Dangling}
+use Rattle.trace_types.specs.declared.slots.Slot.TheVariants.{Nothing, Strong, Weak}
 use Rattle.trace_types.specs.Operation.{Operation}
 use Rattle.ownership_model.specs.State.{State, nothing_held, is_alive}
 use Rattle.ownership_model.specs.Release.{is_husk}

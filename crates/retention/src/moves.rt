@@ -4,6 +4,7 @@ ghost use Rattle.retention_model.specs.Places.{stands_before};
 ghost use Rattle.retention_model.specs.Turns as turns;
 ghost use Rattle.retention_model.specs.Turns.{moved_if, at_place, is_weak_slot, if_named, lost_mark, gained_mark, ended_mark, marks_by};
 ghost use Rattle.retention_model.specs.declared.place.Place.{Place};
+ghost use Rattle.leak_report.specs.Lives.{numbered};
 ghost use Rattle.retention.specs.Lists.{loss_of};
 
 use crate::lifelines::object_of;
@@ -58,6 +59,16 @@ pub fn push_losses(losses: &mut Vec<Loss>, moved: &[Moved], id: u32) -> Result<(
         if let Slot::Strong(object) = one.before {
             losses.push(Loss { object, id })?;
         }
+    }
+    Ok(())
+}
+
+/// Adds the events of an operation, each with the operation's number.
+pub fn push_events(all: &mut Vec<(u32, Event)>, id: u32, events: &[Event]) -> Result<(), AllocError>
+    ensures { OnOk result (all.new.items ≡ all.old.items ++ numbered id events.now) }
+{
+    for event in events {
+        all.push((id, *event))?;
     }
     Ok(())
 }

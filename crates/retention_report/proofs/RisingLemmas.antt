@@ -1,6 +1,6 @@
 -- Numbers that rise, and the lives of the objects with them.
-use Rattle.std.proofs.Common.{◌≡◌, ℕ, zero, suc, ◌+◌, ◌<◌, List, [], ◌∷◌, ◌≤◌, drop, length, get_or, map, refl, sym, ap, ◌∙◌, subst, arith, Bool, true, false}
-use Rattle.std.specs.Prelude.{Some, None, ◌==◌, ◌||◌, if◌then◌else◌}
+use Rattle.std.proofs.Common.{◌≡◌, ℕ, zero, suc, ◌+◌, ◌<◌, List, [], ◌∷◌, ◌≤◌, ◌++◌, drop, length, get_or, map, refl, sym, ap, ap₂, ◌∙◌, subst, arith, Bool, true, false}
+use Rattle.std.specs.Prelude.{Some, None, ◌==◌, ◌||◌, if◌then◌else◌, fold}
 use Rattle.std.specs.List.{AllByRecursion}
 use Rattle.std.specs.Ordering.{nat_cmp, match_ordering}
 use Rattle.std.specs.declared.cmp.Ordering.{Ordering}
@@ -15,7 +15,8 @@ use Rattle.trace_types.specs.declared.outcomes.Outcome.{Outcome}
 use Rattle.ownership_model.specs.Reach.{has}
 use Rattle.ownership_model.proofs.Searching.{or_left, or_right}
 use Rattle.leak_report.specs.declared.lives.Life.{Life}
-use Rattle.leak_report.specs.Lives.{is_making, with_made, made_after, life_of, lives_of}
+use Rattle.trace_types.specs.declared.outcomes.Event.{Event}
+use Rattle.leak_report.specs.Lives.{is_making, with_made, made_in, made_after, events_of, life_of, lives_by, lives_of}
 use Rattle.leak_report.specs.Told.{HasRisingObjects}
 use Rattle.retention_report.specs.Sources.{objects_of}
 use Rattle.retention_report.specs.Explained.{first_unmade}
@@ -130,3 +131,17 @@ unmade_none made os i past = ap (first_unmade made) (drop_all i os past)
 -- an object that was made is of one of the lives
 pub not_missing : (outs : List Outcome) (ls : List Life) (o : ℕ) → ls ≡ lives_of outs → has o (made_after [] outs) ≡ true → has o (objects_of ls) ≡ false → ⊥
 not_missing outs ls o are made gone = let same : has o (objects_of ls) ≡ has o (made_after [] outs) = ap (has o) (lives_objects outs ls are) in cc
+
+-- the objects that were made, one after another, and all events
+inserted : (outs : List Outcome) (os : List ℕ) → fold (insert_key nat_cmp) os (made_in outs) ≡ made_after os outs
+inserted [] os = refl
+inserted (out ∷ outs) os = one (is_making out.verdict) (inserted outs (insert_key nat_cmp os out.id)) (inserted outs os)
+  where
+    one : (b : Bool) → fold (insert_key nat_cmp) (insert_key nat_cmp os out.id) (made_in outs) ≡ made_after (insert_key nat_cmp os out.id) outs
+        → fold (insert_key nat_cmp) os (made_in outs) ≡ made_after os outs
+        → fold (insert_key nat_cmp) os ((if b then out.id ∷ [] else []) ++ made_in outs) ≡ made_after (if b then insert_key nat_cmp os out.id else os) outs
+    one true made other = made
+    one false made other = other
+
+pub lived : (outs : List Outcome) (made : List ℕ) (events : List (ℕ × Event)) → made ≡ made_in outs → events ≡ events_of outs → lives_by events made ≡ lives_of outs
+lived outs made events all told = ap₂ lives_by told all ∙ ap (map (life_of outs)) (inserted outs [])

@@ -5,7 +5,7 @@ use Rattle.ownership_model.specs.State.{nothing_held}
 use Rattle.ownership_model.specs.Reach.{has}
 use Rattle.ownership_model.specs.Step.{outcomes_from, end_from, AreNew}
 use Rattle.leak_report.specs.declared.lives.Life.{Life}
-use Rattle.leak_report.specs.Lives.{lives_of, made_after}
+use Rattle.leak_report.specs.Lives.{lives_of, made_in, events_of, made_after}
 use Rattle.retention_model.specs.Since.{since_from}
 use Rattle.retention_model.specs.Turns.{AreMarked, marks_of}
 use Rattle.retention_model.specs.declared.mark.Marked.{Marked}
@@ -43,6 +43,11 @@ pub record IsToldOf (with_lives : Bool) (ops : List Operation) (t : Told) : Type
   pub lost : AreLosses nothing_held ops losses
   pub dated : AreDated t.end.graph t.end.leaked.items losses t.accounts.since.items
   pub lines : AreLivesOf with_lives ops t.lines
+
+-- it has the objects that the operations made, and all their events
+pub record HasMade (ops : List Operation) (s : Story) : Type 0 where
+  pub made : s.made.items ≡ made_in (outcomes_from nothing_held ops)
+  pub events : s.events.items ≡ events_of (outcomes_from nothing_held ops)
 
 -- the lives are those of the operations
 abbrev pub AreLivesIn : List Operation → List Life → Type 0

@@ -26,7 +26,7 @@ pub fn explain(
         Explains with_lives ops.now objects.now (string_bytes a.text) a.is_missing) }
 {
     let story = tell(alloc, ops, with_lives)?;
-    let lives = lives_in(alloc, ops, &story.outcomes)?;
+    let lives = lives_in(alloc, &story)?;
     match first_unmade(lives.as_slice(), objects) {
         Some(object) => {
             let answer = no_object(alloc, object)?;

@@ -1,36 +1,26 @@
 //! What became of the objects that a trace made.
 ghost use Rattle.std.specs.Prelude.{◌≡◌, ◌<◌, List, false, length, slice_index_or, IfOk, MatchOption};
 ghost use Rattle.ownership_model.specs.Reach.{has};
-ghost use Rattle.ownership_model.specs.State.{nothing_held};
-ghost use Rattle.ownership_model.specs.Step.{outcomes_from};
+ghost use Rattle.trace_types.specs.Operation.{Operation};
 ghost use Rattle.leak_report.specs.Lives as told;
 ghost use Rattle.leak_report.specs.Lives.{lives_of};
 ghost use Rattle.leak_report.specs.Told.{HasRisingObjects};
 ghost use Rattle.trace_types.specs.declared.outcomes.Outcome.{Outcome as OutcomeOf};
 ghost use Rattle.retention_report.specs.Explained as definition;
-ghost use Rattle.retention_report.specs.Sources.{objects_of, AreLivesIn};
+ghost use Rattle.retention_report.specs.Sources.{objects_of, HasMade, AreLivesIn};
 
-use leak_report::Life;
-use leak_report::lives::lives;
+use leak_report::{Life, lives_by};
+use retention::Story;
 use std::alloc::{AllocError, Global};
-use trace_types::ops::Op;
-use trace_types::outcomes::Outcome;
 use trace_types::sequence::Sequence;
-use trace_types::stretches::Stretch;
 
 /// Of each object that was made, rising.
-pub fn lives_in(
-    alloc: Global,
-    ops: &[Op],
-    outcomes: &[Outcome],
-) -> Result<Sequence<Life>, AllocError>
-    requires even { length outcomes.now ≡ length ops.now }
-    requires outcomes { outcomes.now ≡ outcomes_from nothing_held ops.now }
-    ensures { IfOk result (λ ls. AreLivesIn ops.now ls) }
+pub fn lives_in(alloc: Global, story: &Story) -> Result<Sequence<Life>, AllocError>
+    ensures { IfOk result (λ ls. (ops : List Operation) → HasMade ops story.now →
+        AreLivesIn ops ls) }
 {
-    let mut stretches = Vec::new(alloc);
-    stretches.push(Stretch { ops, outcomes })?;
-    lives(alloc, &stretches)
+    let lives = lives_by(alloc, &story.made, &story.events)?;
+    Ok(lives)
 }
 
 /// The first of these numbers that is none of an object that was made.

@@ -25,14 +25,16 @@ impl Told {
             IsToldOf with_lives ops t) }
     {
         let Story {
-            outcomes,
+            made,
+            events,
             end,
             dates,
             losses,
             marked,
         } = story;
         // what the walks don't ask is let go before they take memory of their own
-        drop(outcomes);
+        drop(made);
+        drop(events);
         let graph = Graph::of(alloc, &end, &dates)?;
         drop(end);
         drop(dates);

@@ -1,6 +1,5 @@
-use Rattle.std.proofs.Common.{◌≡◌, ◌<◌, length, get_or, ap, arith}
+use Rattle.std.proofs.Common.{length, get_or, ap, arith}
 use Rattle.std.specs.Prelude.{slice_index_or}
-use Rattle.retention.specs.Layout.{naming}
 use Rattle.retention.proofs.AccountLemmas.{holder_place}
 use Rattle.retention.proofs.account.holders.Goals as goal
 

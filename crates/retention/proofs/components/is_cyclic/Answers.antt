@@ -1,4 +1,4 @@
-use Rattle.std.proofs.Common.{◌≡◌, ◌<◌, ◌≤◌, ◌+◌, ℕ, get_or, refl, sym, subst, ◌∙◌, arith, true, false}
+use Rattle.std.proofs.Common.{◌≡◌, ◌<◌, ◌≤◌, ◌+◌, refl, sym, subst, ◌∙◌, arith, true, false}
 use Rattle.retention.specs.Graph.{start_at}
 use Rattle.retention.proofs.CyclicLemmas.{cyclic_by, cyclic_edge}
 use Rattle.retention.proofs.components.is_cyclic.Goals as goal

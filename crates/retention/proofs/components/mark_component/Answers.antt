@@ -1,11 +1,10 @@
-use Rattle.std.proofs.Common.{◌≡◌, ◌<◌, ℕ, List, [], ◌∷◌, length, set, sym, ap, ◌∙◌, subst, arith, true, false}
+use Rattle.std.proofs.Common.{◌≡◌, ◌<◌, length, set, sym, subst, arith, true, false}
 use Rattle.std.specs.Prelude.{◌==◌}
-use Rattle.std.specs.List.{All}
 use Rattle.ownership_model.specs.Reach.{has}
 use Rattle.ownership_model.proofs.Searching.{or_left}
-use Rattle.retention.specs.Paths.{Points, marked, IsGathered, IsNamed}
+use Rattle.retention.specs.Paths.{Points, IsGathered, IsNamed}
 use Rattle.retention.proofs.WalkSteps.{same_number}
-use Rattle.retention.proofs.PathLemmas.{at_has, mark_same}
+use Rattle.retention.proofs.PathLemmas.{at_has}
 use Rattle.retention.proofs.components.mark_component.Goals as goal
 
 pub name_part-requires-clause-some : goal.name_part-requires-clause-some

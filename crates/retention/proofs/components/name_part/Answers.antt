@@ -1,4 +1,4 @@
-use Rattle.std.proofs.Common.{◌≡◌, ◌≤◌, ℕ, length, get_or, take, sym, subst, arith, true, false}
+use Rattle.std.proofs.Common.{◌≡◌, ◌≤◌, sym, subst, true, false}
 use Rattle.std.proofs.lemmas.List.{take_all}
 use Rattle.ownership_model.specs.Reach.{has}
 use Rattle.retention.proofs.PathLemmas.{has_at}

@@ -1,4 +1,4 @@
-use Rattle.std.proofs.Common.{◌≡◌, ◌<◌, ◌≤◌, ◌+◌, ◌-◌, ℕ, length, get_or, sym, ap, ◌∙◌, subst, arith, false}
+use Rattle.std.proofs.Common.{◌≡◌, ◌<◌, ◌≤◌, ◌+◌, ◌-◌, length, get_or, sym, ◌∙◌, subst, arith, false}
 use Rattle.std.proofs.lemmas.List.{get_or_read}
 use Rattle.retention.specs.Graph.{size}
 use Rattle.retention.specs.Paths.{Points, marked, ArePartsFrom}

@@ -1,4 +1,4 @@
-use Rattle.std.proofs.Common.{◌≡◌, ◌+◌, ◌++◌, ◌∷◌, [], sym, ap, ◌∙◌, true, false}
+use Rattle.std.proofs.Common.{◌≡◌, ◌+◌, ◌++◌, ◌∷◌, [], sym, ◌∙◌}
 use Rattle.std.specs.Prelude.{filter}
 use Rattle.retention.specs.Layout.{upto}
 use Rattle.retention.specs.Components.{is_least_of}

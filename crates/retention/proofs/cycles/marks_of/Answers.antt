@@ -1,4 +1,4 @@
-use Rattle.std.proofs.Common.{◌≡◌, ◌<◌, ◌+◌, ◌++◌, ℕ, List, [], ◌∷◌, length, get_or, sym, ◌∙◌, subst, true, false, Bool}
+use Rattle.std.proofs.Common.{◌≡◌, ◌<◌, ◌+◌, ℕ, length, get_or, sym, ◌∙◌, subst, true, false}
 use Rattle.std.specs.Prelude.{◌↔◌}
 use Rattle.retention.specs.Components.{IsCyclic}
 use Rattle.retention.proofs.CountLemmas.{tested_more}

@@ -1,4 +1,4 @@
-use Rattle.std.proofs.Common.{◌≡◌, ◌<◌, length, arith}
+use Rattle.std.proofs.Common.{arith}
 use Rattle.std.specs.Prelude.{not, ◌&&◌}
 use Rattle.retention.specs.Graph.{alive_at}
 use Rattle.retention.specs.Walked.{has_come}

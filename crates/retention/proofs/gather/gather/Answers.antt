@@ -1,4 +1,4 @@
-use Rattle.std.proofs.Common.{◌≡◌, ◌<◌, ◌≤◌, ◌+◌, ℕ, get_or, length, sym, ap, ◌∙◌, subst, arith, true}
+use Rattle.std.proofs.Common.{◌≡◌, ◌<◌, length, sym, arith, true}
 use Rattle.std.proofs.lemmas.List.{get_or_read}
 use Rattle.retention.specs.Paths.{Points, marked}
 use Rattle.retention.proofs.GatherSteps.{gather_start, gather_more, gather_end, gathered_marked}

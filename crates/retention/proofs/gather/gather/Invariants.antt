@@ -1,8 +1,7 @@
 use Rattle.std.proofs.Common.{◌<◌, ◌+◌, ◌-◌, not, length}
 use Rattle.std.specs.List.{All, count_by}
-use Rattle.std.proofs.Common.{◌≡◌, true}
 use Rattle.retention.specs.Graph.{size}
-use Rattle.retention.specs.Paths.{Points, marked}
+use Rattle.retention.specs.Paths.{Points}
 use Rattle.retention.proofs.GatherSteps.{IsGathering}
 use Rattle.retention.proofs.gather.gather.Given as goal
 

@@ -1,4 +1,4 @@
-use Rattle.std.proofs.Common.{◌≡◌, ◌+◌, ◌<◌, ◌≤◌, ℕ, get_or, length, sym, ap, ◌∙◌, subst, arith, true}
+use Rattle.std.proofs.Common.{◌≡◌, ◌+◌, ◌<◌, ◌≤◌, get_or, length, sym, ap, subst, arith, true}
 use Rattle.std.specs.List.{All}
 use Rattle.retention.specs.Graph.{size, places, target_at}
 use Rattle.retention.specs.Layout.{naming}

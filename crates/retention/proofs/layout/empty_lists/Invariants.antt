@@ -1,4 +1,4 @@
-use Rattle.std.proofs.Common.{◌≡◌, ◌≤◌, ◌-◌, List, [], ℕ, length, replicate}
+use Rattle.std.proofs.Common.{◌≡◌, ◌≤◌, ◌-◌, [], length, replicate}
 use Rattle.retention.proofs.layout.empty_lists.Given as goal
 
 abbrev pub invariant-lists : goal.invariant-lists

@@ -1,4 +1,4 @@
-use Rattle.std.proofs.Common.{◌<◌, ◌≤◌, ◌+◌, ℕ, length, get_or, sym, subst, arith}
+use Rattle.std.proofs.Common.{sym, subst, arith}
 use Rattle.retention.proofs.LayoutLemmas.{AreBeingSourced, sourcing_more}
 use Rattle.retention.proofs.layout.sources_of.Goals as goal
 

@@ -1,5 +1,4 @@
 use Rattle.std.proofs.Common.{length, refl, sym, ◌∙◌}
-use Rattle.std.specs.Prelude.{Some}
 use Rattle.retention.proofs.LayoutLemmas.{target_found, target_none, search_found, search_none}
 use Rattle.retention.proofs.layout.target_of.Goals as goal
 

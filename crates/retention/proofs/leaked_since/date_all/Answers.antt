@@ -1,7 +1,6 @@
-use Rattle.std.proofs.Common.{◌≡◌, ℕ, ◌+◌, ◌<◌, ◌∙◌, List, [], ◌∷◌, ◌++◌, length, subst, arith}
-use Rattle.retention.specs.Graph.{size, holds, IsFieldAt}
+use Rattle.std.proofs.Common.{◌∙◌, subst, arith}
 use Rattle.retention.specs.DatingSteps.{IsDating}
-use Rattle.retention.proofs.DatingLemmas.{has_last, dating_start, dating_next, dating_end, work_less}
+use Rattle.retention.proofs.DatingLemmas.{has_last, dating_start, dating_next, work_less}
 use Rattle.retention.proofs.AccountLemmas.{holds_within}
 use Rattle.retention.proofs.leaked_since.date_all.Goals as goal
 

@@ -1,5 +1,5 @@
-use Rattle.std.proofs.Common.{◌≡◌, ◌+◌, ◌<◌, ◌≤◌, ◌∙◌, length, arith}
-use Rattle.retention.specs.Graph.{size, places, start_at, IsFieldAt}
+use Rattle.std.proofs.Common.{◌+◌, ◌<◌, ◌≤◌, ◌∙◌, arith}
+use Rattle.retention.specs.Graph.{start_at}
 use Rattle.retention.proofs.DatingLemmas.{fields_start, fields_place, fields_end}
 use Rattle.retention.proofs.leaked_since.date_fields.Goals as goal
 

@@ -1,4 +1,4 @@
-use Rattle.std.proofs.Common.{◌≡◌, ◌<◌, ◌≤◌, ◌+◌, ◌++◌, ℕ, List, [], ◌∷◌, length, get_or, take, sym, ap, ◌∙◌, subst, arith, refl, length-append}
+use Rattle.std.proofs.Common.{◌≡◌, ◌<◌, ◌≤◌, ◌+◌, ◌++◌, [], ◌∷◌, length, get_or, take, sym, ap, ◌∙◌, subst, arith, refl, length-append}
 use Rattle.std.specs.FinMap.{get}
 use Rattle.retention_model.specs.Places.{object_places}
 use Rattle.retention.specs.HeldPlaces.{held_among, field_places_of}

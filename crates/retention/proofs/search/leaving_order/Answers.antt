@@ -1,4 +1,4 @@
-use Rattle.std.proofs.Common.{◌≡◌, ◌<◌, ◌≤◌, ℕ, sym, subst, arith}
+use Rattle.std.proofs.Common.{subst, arith}
 use Rattle.retention.specs.Graph.{size}
 use Rattle.retention.specs.Paths.{Points, IsSearching}
 use Rattle.retention.proofs.SearchSteps.{all_left}

@@ -1,7 +1,7 @@
 use Rattle.std.proofs.Common.{◌≡◌, ◌<◌, ◌+◌, ℕ, length, get_or, take, refl, sym, ◌∙◌, subst, arith}
 use Rattle.std.specs.Prelude.{Some}
 use Rattle.ownership_model.specs.Reach.{has}
-use Rattle.retention.specs.Paths.{marked, with_member, with_mark}
+use Rattle.retention.specs.Paths.{marked, with_member}
 use Rattle.retention.specs.Pictured.{AreTheMarked}
 use Rattle.retention.proofs.ShownSteps.{shows, given_more}
 use Rattle.retention.proofs.shown.push_given.Goals as goal

@@ -1,7 +1,7 @@
-use Rattle.std.proofs.Common.{◌≡◌, ◌<◌, ◌≤◌, ◌+◌, ◌⊎◌, ℕ, length, sym, ◌∙◌, subst, arith, true, false}
+use Rattle.std.proofs.Common.{◌≡◌, ◌<◌, ◌+◌, ◌⊎◌, ℕ, length, sym, ◌∙◌, subst, arith, true, false}
 use Rattle.std.specs.Prelude.{◌↔◌}
 use Rattle.retention.specs.Graph.{size, alive_at}
-use Rattle.retention.specs.Paths.{marked, with_member, with_mark}
+use Rattle.retention.specs.Paths.{marked, with_member}
 use Rattle.retention.specs.Pictured.{AreTheMarked}
 use Rattle.retention.proofs.ShownSteps.{interest_more}
 use Rattle.retention.proofs.shown.push_of_interest.Goals as goal

@@ -1,8 +1,8 @@
-use Rattle.std.proofs.Common.{◌≡◌, ◌<◌, ◌≤◌, ◌+◌, ℕ, length, get_or, sym, ap, ◌∙◌, subst, arith, true}
+use Rattle.std.proofs.Common.{◌≡◌, ◌<◌, ◌≤◌, ◌+◌, length, get_or, sym, ap, ◌∙◌, subst, arith, true}
 use Rattle.std.proofs.lemmas.List.{get_or_read}
 use Rattle.ownership_model.specs.Reach.{has}
 use Rattle.retention.specs.Layout.{naming}
-use Rattle.retention.specs.Graph.{size, places, target_at}
+use Rattle.retention.specs.Graph.{places, target_at}
 use Rattle.retention.specs.Paths.{marked, with_member}
 use Rattle.retention.proofs.PathLemmas.{has_at}
 use Rattle.retention.proofs.JoinSteps.{naming_at}

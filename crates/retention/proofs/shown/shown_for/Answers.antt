@@ -1,4 +1,4 @@
-use Rattle.std.proofs.Common.{◌<◌, ℕ, ◌∙◌, subst}
+use Rattle.std.proofs.Common.{◌<◌, ◌∙◌, subst}
 use Rattle.retention.specs.Graph.{size}
 use Rattle.retention.specs.Pictured.{IsAskedAt}
 use Rattle.retention.proofs.PathLemmas.{has_all}

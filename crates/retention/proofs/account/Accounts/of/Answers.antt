@@ -1,4 +1,4 @@
-use Rattle.std.proofs.Common.{◌≡◌, ◌∙◌, length, ap, arith}
+use Rattle.std.proofs.Common.{◌∙◌, length, ap, arith}
 use Rattle.retention.proofs.AccountLemmas.{rising_distinct}
 use Rattle.retention.proofs.account.Accounts.of.Goals as goal
 

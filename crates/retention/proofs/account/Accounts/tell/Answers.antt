@@ -1,5 +1,3 @@
-use Rattle.std.proofs.Common.{refl}
-use Rattle.retention.specs.Dating.{date_at}
 use Rattle.retention.proofs.AccountsTold.{account_told}
 use Rattle.retention.proofs.account.Accounts.tell.Goals as goal
 

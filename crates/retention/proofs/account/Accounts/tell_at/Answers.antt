@@ -1,7 +1,6 @@
-use Rattle.std.proofs.Common.{◌≡◌, ℕ, ◌<◌, length, sym, subst, arith}
+use Rattle.std.proofs.Common.{◌≡◌, ℕ, ◌<◌, length, subst, arith}
 use Rattle.std.specs.Prelude.{Option, None}
 use Rattle.std.proofs.lemmas.List.{get_or_read}
-use Rattle.retention.specs.Graph.{size}
 use Rattle.retention.specs.Dating.{date_at}
 use Rattle.retention.specs.AccountsAt.{IsWhyAt}
 use Rattle.retention.proofs.account.Accounts.tell_at.Goals as goal

@@ -1,4 +1,4 @@
-use Rattle.std.proofs.Common.{◌≡◌, ◌∙◌, List, Bool, length, ap, sym, subst, arith}
+use Rattle.std.proofs.Common.{◌∙◌, List, Bool, length, ap, subst, arith}
 use Rattle.retention.specs.Components.{AreCycles}
 use Rattle.retention.proofs.ending.Ending.of.Goals as goal
 

@@ -1,4 +1,4 @@
-use Rattle.std.proofs.Common.{◌≡◌, ◌<◌, ℕ, length, get_or, subst, sym, false}
+use Rattle.std.proofs.Common.{◌≡◌, ◌<◌, length, get_or, subst, sym, false}
 use Rattle.ownership_model.specs.Reach.{has}
 use Rattle.retention.specs.Layout.{IsRising}
 use Rattle.retention.proofs.LayoutLemmas.{search_found, search_none}

@@ -7,7 +7,6 @@ use Rattle.retention.specs.Targets.{AreTargets}
 use Rattle.retention.specs.HeldPlaces.{held_among, field_places_of}
 use Rattle.retention.proofs.LayoutLemmas.{all_laid}
 use Rattle.retention.proofs.MadeLemmas.{keys_rising, made}
-use Rattle.retention.proofs.CycleLaws.{cycle_told}
 use Rattle.retention.proofs.graph.Graph.of.Goals as goal
 
 pub push_all_fields-requires : goal.push_all_fields-requires

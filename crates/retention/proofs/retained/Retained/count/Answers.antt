@@ -1,6 +1,5 @@
-use Rattle.std.proofs.Common.{◌≡◌, ℕ, ◌+◌, ◌-◌, ◌<◌, ◌≤◌, ◌^◌, ◌∙◌, List, [], ◌∷◌, ◌++◌, length, slice_index, ap, sym, subst, arith}
-use Rattle.retention.specs.RetainingSteps.{times, positives, IsRetaining}
-use Rattle.retention.proofs.RetainingLemmas.{start, whole, ready_again, fits_back}
+use Rattle.std.proofs.Common.{◌≡◌, ◌∙◌, [], ◌∷◌, ◌++◌, length, ap, arith}
+use Rattle.retention.proofs.RetainingLemmas.{start, whole, fits_back}
 use Rattle.retention.proofs.retained.Retained.count.Goals as goal
 
 pub loop-at-init : goal.loop-at-init

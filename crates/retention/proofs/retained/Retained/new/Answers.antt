@@ -1,7 +1,7 @@
-use Rattle.std.proofs.Common.{◌≡◌, ◌+◌, ◌<◌, ◌∙◌, length, ap, arith, replicate}
+use Rattle.std.proofs.Common.{◌∙◌, length, ap, arith, replicate}
 use Rattle.std.proofs.lemmas.List.{length-replicate}
-use Rattle.retention.specs.Graph.{size, places}
-use Rattle.retention.proofs.RetainingLemmas.{counted_start, counted_place, counted_few, counted_end}
+use Rattle.retention.specs.Graph.{size}
+use Rattle.retention.proofs.RetainingLemmas.{counted_start, counted_place, counted_few}
 use Rattle.retention.proofs.retained.Retained.new.Goals as goal
 
 pub loop-place-init : goal.loop-place-init

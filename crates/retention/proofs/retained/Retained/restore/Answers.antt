@@ -1,4 +1,4 @@
-use Rattle.std.proofs.Common.{◌≡◌, ℕ, ◌+◌, ◌<◌, ◌≤◌, ◌∙◌, length, slice_index, sym, arith}
+use Rattle.std.proofs.Common.{◌≡◌, ◌+◌, ◌<◌, ◌∙◌, length, slice_index, arith}
 use Rattle.std.proofs.lemmas.List.{length-set, get_or_read}
 use Rattle.retention.specs.RetainingSteps.{times}
 use Rattle.retention.proofs.RetainingLemmas.{restore_more, fewer_left, some_left}

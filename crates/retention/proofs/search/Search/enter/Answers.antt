@@ -1,4 +1,4 @@
-use Rattle.std.proofs.Common.{◌≡◌, ◌<◌, ℕ, ◌++◌, ◌∷◌, [], length, sym, subst, set, arith, true}
+use Rattle.std.proofs.Common.{sym, subst, set, arith, true}
 use Rattle.retention.specs.Graph.{size}
 use Rattle.retention.specs.Paths.{Points, IsSearching}
 use Rattle.retention.proofs.SearchSteps.{enters}

@@ -1,4 +1,4 @@
-use Rattle.std.proofs.Common.{◌≡◌, ◌<◌, ◌-◌, ℕ, ◌++◌, ◌∷◌, [], length, get_or, sym, ap, ◌∙◌, subst, arith}
+use Rattle.std.proofs.Common.{◌≡◌, ◌-◌, ◌++◌, ◌∷◌, [], length, get_or, sym, subst, arith}
 use Rattle.retention.specs.Graph.{size}
 use Rattle.retention.specs.Paths.{Points, IsSearching}
 use Rattle.retention.proofs.SearchSteps.{leaves_last}

@@ -1,8 +1,8 @@
-use Rattle.std.proofs.Common.{◌≡◌, ◌<◌, ◌-◌, ◌+◌, ℕ, List, length, get_or, set, sym, ap, ◌∙◌, subst, arith, Bool, true, false}
-use Rattle.std.specs.Prelude.{Some, None}
+use Rattle.std.proofs.Common.{◌≡◌, ◌<◌, ◌-◌, ◌+◌, length, get_or, set, sym, ap, ◌∙◌, subst, arith, true, false}
+use Rattle.std.specs.Prelude.{Some}
 use Rattle.std.proofs.lemmas.List.{get_or_read}
 use Rattle.retention.specs.Graph.{size, holds, start_at}
-use Rattle.retention.specs.Paths.{Points, marked, IsSearching, AreLeft}
+use Rattle.retention.specs.Paths.{Points, marked}
 use Rattle.retention.proofs.LeftSteps.{next_field, pass_left, from_last, last_seen, still_marked, now_entered, now_marked}
 use Rattle.retention.proofs.search.Search.pass.Goals.{in-Some+then-not-index+in_ok-enter, in-Some+else-not-index, in_default}
 use Rattle.retention.proofs.search.Search.pass.Goals as goal

@@ -5,7 +5,7 @@ use Rattle.std.proofs.lemmas.Result.{IfOk-weaker}
 use Rattle.ownership_model.specs.Reach.{has}
 use Rattle.retention.specs.declared.walk.Walk.{Walk}
 use Rattle.retention.specs.Layout.{upto, IsRising}
-use Rattle.retention.specs.Graph.{size, places, is_field_of}
+use Rattle.retention.specs.Graph.{places, is_field_of}
 use Rattle.retention.specs.Walked.{IsWalkFrom}
 use Rattle.retention.proofs.JoinSteps.{upto_has, kept_has}
 use Rattle.retention.proofs.BeginLemmas.{kept_rising, all_below, in_kept}

@@ -1,10 +1,10 @@
-use Rattle.std.proofs.Common.{◌≡◌, ◌<◌, ◌≤◌, ◌+◌, ℕ, sym, ap, ◌∙◌, subst, arith, Bool}
+use Rattle.std.proofs.Common.{◌≡◌, ◌<◌, ◌≤◌, ℕ, sym, ap, ◌∙◌, subst, arith, Bool}
 use Rattle.std.specs.List.{All}
 use Rattle.std.proofs.lemmas.Result.{IfOk-weaker}
 use Rattle.ownership_model.specs.Reach.{has}
 use Rattle.retention.specs.declared.walk.Walk.{Walk}
 use Rattle.retention.specs.Layout.{upto, IsRising}
-use Rattle.retention.specs.Graph.{size, places, start_at, is_root_at}
+use Rattle.retention.specs.Graph.{places, start_at, is_root_at}
 use Rattle.retention.specs.Walked.{IsWalkFrom}
 use Rattle.retention.proofs.JoinSteps.{upto_has}
 use Rattle.retention.proofs.BeginLemmas.{upto_rising, all_below, in_upto}

@@ -1,9 +1,8 @@
-use Rattle.std.proofs.Common.{◌≡◌, ◌<◌, ◌≤◌, ◌+◌, ◌-◌, ℕ, length, get_or, sym, ap, ◌∙◌, subst, arith, Bool}
+use Rattle.std.proofs.Common.{◌≡◌, ◌<◌, ◌≤◌, ◌+◌, ◌-◌, length, sym, ap, ◌∙◌, subst, arith}
 use Rattle.std.specs.List.{All, range_with_len}
-use Rattle.std.proofs.lemmas.List.{get_or_read}
 use Rattle.ownership_model.specs.Reach.{has}
 use Rattle.retention.specs.Layout.{IsRising}
-use Rattle.retention.specs.Graph.{size, places, start_at, is_field_at, IsFieldAt}
+use Rattle.retention.specs.Graph.{size, places, start_at, is_field_at}
 use Rattle.retention.specs.Walked.{IsFresh}
 use Rattle.retention.proofs.BeginLemmas.{range_rising, all_below, in_range, range_has}
 use Rattle.retention.proofs.OwnLemmas.{own_came_by, own_told}

@@ -1,9 +1,8 @@
-use Rattle.std.proofs.Common.{◌≡◌, ℕ, ◌<◌, ◌≤◌, ◌+◌, length, get_or, sym, ap, ◌∙◌, subst, arith, true}
-use Rattle.std.specs.Prelude.{Some}
+use Rattle.std.proofs.Common.{◌≡◌, ◌<◌, ◌≤◌, ◌+◌, length, get_or, sym, subst, arith}
 use Rattle.ownership_model.specs.Reach.{has}
 use Rattle.retention.specs.Graph.{size, places, start_at, IsFieldAt}
 use Rattle.retention.specs.Walked.{holds_in}
-use Rattle.retention.proofs.WalkSteps.{IsBeginning, IsGone, begin_start, begin_either, gone_start, going_start, going_either, gone_more, walked, next_source, next_within}
+use Rattle.retention.proofs.WalkSteps.{IsBeginning, begin_start, begin_either, gone_start, going_start, going_either, gone_more, walked, next_source, next_within}
 use Rattle.retention.proofs.PathLemmas.{has_at, at_has}
 use Rattle.retention.proofs.GraphPaths.{in_part_holds, held_object, held_place}
 use Rattle.retention.proofs.BeginLemmas.{walked_alike}

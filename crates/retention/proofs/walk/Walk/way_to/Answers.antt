@@ -1,5 +1,4 @@
-use Rattle.std.proofs.Common.{◌≡◌, ◌≤◌, ◌+◌, ℕ, List, length, map, take, drop, get_or, reverse, refl, sym, ap, ◌∙◌, subst}
-use Rattle.retention.specs.declared.walk.Step.TheVariants.{Never}
+use Rattle.std.proofs.Common.{map, drop, reverse, sym, ap, ◌∙◌, subst}
 use Rattle.retention.specs.Graph.{held_at, IsFieldAt}
 use Rattle.retention.specs.Walked.{CameBy}
 use Rattle.retention.proofs.BackLemmas.{back_further, back_first, back_never, one_back, all_taken, place_within, later, map_reverse}

@@ -1,6 +1,6 @@
-use Rattle.std.proofs.Common.{◌≡◌, ◌≤◌, ℕ, List, length, map, take, drop, get_or}
+use Rattle.std.proofs.Common.{◌≡◌, ℕ, List, map, take, drop, get_or}
 use Rattle.retention.specs.declared.walk.Step.TheVariants.{Never}
-use Rattle.retention.specs.Graph.{size, held_at, IsFieldAt}
+use Rattle.retention.specs.Graph.{held_at, IsFieldAt}
 use Rattle.retention.specs.Walked.{CameBy}
 use Rattle.retention.proofs.walk.Walk.way_to.Given as goal
 
