@@ -7,7 +7,7 @@ mod holders;
 mod leaks;
 mod line_text;
 pub mod lives;
-pub mod made;
+mod made;
 pub mod report;
 mod rising;
 mod shown;

@@ -25,7 +25,7 @@ pub fn write_report<K: Sink>(alloc: Global, sink: &mut K, report: &Report) -> Re
         (Appends (K.held sink.old) (K.held sink.new) (report_text report.now)) }
     ensures ok_unraised { OnOk result (K.failed sink.new ≡ K.failed sink.old) }
 
-    // A front of the text was written, and the flag is raised.
+    // A prefix of the text was written, and the flag is raised.
     ensures device { IsErrOf result WriteFault.Device
         → AppendsFront (K.held sink.old) (K.held sink.new) (report_text report.now) }
     ensures device_raised { IsErrOf result WriteFault.Device → K.failed sink.new ≡ true }

@@ -24,7 +24,7 @@ use trace_types::outcomes::{Event, Outcome};
 /// What a replay leaves: the objects that it made and all events, each with the number of its operation; the heap at the end, since when
 /// each place holds what it does, which strong slots were lost on the way, and, where they are wanted, the marks of all objects.
 ///
-/// It keeps no outcomes: of a long trace these would take more than all of it.
+/// It keeps no outcomes: what lives need of them are the objects made and the events.
 #[derive(Drop)]
 pub struct Story {
     pub made: Vec<u32>,
