@@ -38,7 +38,13 @@ pub record AreHolders (objects : ℕ) (targets : List ℕ) (holders : List (List
 abbrev pub IsRising : List ℕ → Type 0
 IsRising ps = (i j : ℕ) → i < j → j < length ps → slice_index ps i < slice_index ps j
 
--- all of that
+-- objects, whether each lives, how many places name them, and where the fields of each begin
+pub record AreListed (objects : List ℕ) (alive : List Bool) (places : ℕ) (starts : List ℕ) : Type 0 where
+  pub rising : IsRising objects
+  pub alive_long : length alive ≡ length objects
+  pub are_starts : AreStarts (length objects) places starts
+
+-- all of that, and what is laid out from it
 pub record AreLaid (objects : List ℕ) (alive : List Bool) (places : ℕ) (targets sources starts : List ℕ) (holders : List (List ℕ)) : Type 0 where
   pub rising : IsRising objects
   pub alive_long : length alive ≡ length objects
@@ -55,6 +61,9 @@ AreSources-prop objects places starts sources = hlevel props
 
 AreHolders-prop : (objects : ℕ) (targets : List ℕ) (holders : List (List ℕ)) → IsProp (AreHolders objects targets holders)
 AreHolders-prop objects targets holders = hlevel props
+
+pub AreListed-prop : (objects : List ℕ) (alive : List Bool) (places : ℕ) (starts : List ℕ) → IsProp (AreListed objects alive places starts)
+AreListed-prop objects alive places starts = hlevel props
 
 pub AreLaid-prop : (objects : List ℕ) (alive : List Bool) (places : ℕ) (targets sources starts : List ℕ) (holders : List (List ℕ)) → IsProp (AreLaid objects alive places targets sources starts holders)
 AreLaid-prop objects alive places targets sources starts holders = hlevel props

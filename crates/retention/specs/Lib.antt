@@ -3,6 +3,7 @@ pub mod Lists
 pub mod Dates
 pub mod Stories
 pub mod HeldPlaces
+pub mod Named
 pub mod Targets
 pub mod Graph
 pub mod Walked

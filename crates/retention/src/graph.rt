@@ -2,10 +2,8 @@
 ghost use Rattle.std.specs.Prelude.{length};
 ghost use Rattle.retention.specs.Layout.{AreLaid, AreLaid-prop};
 
-use crate::dates::Dates;
 use crate::layout::{holders_of, sources_of, targets_of};
-use crate::named::{held_roots, push_all_fields, which_live};
-use object_heap::Heap;
+use crate::named::Named;
 use retention_model::Held;
 use std::alloc::{AllocError, Global};
 use std::ops::Range;
@@ -39,18 +37,20 @@ impl Graph {
     ghost use Rattle.retention_model.specs.declared.place.Place.{Place};
     ghost use Rattle.retention.specs.Layout.{naming};
     ghost use Rattle.retention.specs.Graph as of;
-    ghost use Rattle.retention.specs.Dates.{Tell};
+    ghost use Rattle.ownership_model.specs.State.{State};
+    ghost use Rattle.retention.specs.Named.{IsNamedOf};
 
-    /// The graph of a heap, of which these are the dates.
-    pub fn of(alloc: Global, heap: &Heap, dates: &Dates) -> Result<Graph, AllocError>
-        requires { (since : Place → ℕ) × Tell dates.now heap.now since }
-        ensures { IfOk result (λ g. (since : Place → ℕ) → Tell dates.now heap.now since →
-            of.IsGraphOf heap.now since g) }
+    /// The graph of the objects at the end and what names them.
+    pub fn of(alloc: Global, named: Named) -> Result<Graph, AllocError>
+        ensures { IfOk result (λ g. (m : State) (since : Place → ℕ) → IsNamedOf m since named →
+            of.IsGraphOf m since g) }
     {
-        let objects = heap.objects(alloc)?;
-        let alive = which_live(alloc, heap, &objects)?;
-        let mut held = held_roots(alloc, heap, dates)?;
-        let starts = push_all_fields(alloc, dates, &objects, &mut held)?;
+        let Named {
+            objects,
+            alive,
+            held,
+            starts,
+        } = named;
         let sources = sources_of(alloc, &starts)?;
         let targets = targets_of(alloc, &objects, &held)?;
         let holders = holders_of(alloc, objects.len(), &targets)?;

@@ -14,8 +14,8 @@ use Rattle.ownership_model.specs.State.{nothing_held}
 use Rattle.ownership_model.specs.Step.{end_from, AreNew}
 use Rattle.ownership_model.specs.Reach.{has}
 use Rattle.retention_model.specs.Since.{since_from}
-use Rattle.retention.specs.declared.story.Story.{Story}
-use Rattle.retention.specs.Dates.{Tell}
+use Rattle.retention.specs.declared.named.Named.{Named}
+use Rattle.retention.specs.Named.{IsNamedOf}
 use Rattle.retention.specs.Graph.{size}
 use Rattle.retention.specs.Endings.{IsEndOf}
 use Rattle.retention.specs.Ends.{AreTotals}
@@ -134,11 +134,10 @@ objects_text e m shown given = flat_map (object_of e m given) (filter (is_marked
 abbrev pub drawn_text : Ending → State → List Bool → List Bool → Totals → List ℕ
 drawn_text e m shown given totals = head_text totals ++ roots_text e.graph shown ++ objects_text e m shown given ++ edges_text e shown ++ codes "}\n"
 
--- the replay of operations
-pub record IsStoryOfEnd (ops : List Operation) (s : Story) : Type 0 where
+-- what is named at the end of the replay of operations
+pub record IsNamedAtEnd (ops : List Operation) (n : Named) : Type 0 where
   pub new : AreNew nothing_held ops
-  pub end : s.end ≡ end_from nothing_held ops
-  pub dates : Tell s.dates s.end (λ p. since_from nothing_held ops p 0)
+  pub named : IsNamedOf (end_from nothing_held ops) (λ p. since_from nothing_held ops p 0) n
 
 -- which objects are marked as shown, where these were given
 abbrev pub AreShownAt : Bool → Ending → List ℕ → List Bool → Type 0

@@ -10,13 +10,13 @@ ghost use Rattle.retention.specs.Graph.{size};
 ghost use Rattle.retention.specs.Endings.{IsEnding, IsEndOf};
 ghost use Rattle.retention.specs.Ends.{AreTotals};
 ghost use Rattle.retention_report.specs.Pictured.{Pictures};
-ghost use Rattle.retention_report.specs.Drawn.{IsStoryOfEnd, AreShownAt, IsDrawnText, drawn_text};
+ghost use Rattle.retention_report.specs.Drawn.{IsNamedAtEnd, AreShownAt, IsDrawnText, drawn_text};
 
 use crate::answer::{Answer, no_object};
 use crate::drawing::{push_edges, push_objects, push_roots};
 use crate::given::{first_absent, indices_of, marks_of};
 use object_heap::Heap;
-use retention::{Ending, Graph, Story, all_shown, shown_for, tell};
+use retention::{Ending, Graph, Named, Story, all_shown, shown_for, tell};
 use retention_text::push_head;
 use std::alloc::{AllocError, Global};
 use trace_types::ops::Op;
@@ -34,14 +34,21 @@ pub fn picture(
         Pictures with_all ops.now objects.now (string_bytes a.text) a.is_missing) }
 {
     let story = tell(alloc, ops, false)?;
-    let end = end_of(alloc, &story)?;
+    let Story {
+        end: heap,
+        dates,
+        ..
+    } = story;
+    let named = Named::of(alloc, &heap, &dates)?;
+    drop(dates);
+    let end = end_of(alloc, named)?;
     match first_absent(&end.graph, objects) {
         Some(object) => {
             let answer = no_object(alloc, object)?;
             Ok(answer)
         }
         None => {
-            let text = text_of(alloc, &story.end, &end, objects, with_all)?;
+            let text = text_of(alloc, &heap, &end, objects, with_all)?;
             Ok(Answer {
                 text,
                 is_missing: false,
@@ -51,13 +58,11 @@ pub fn picture(
 }
 
 // The end of a replay as a graph.
-fn end_of(alloc: Global, story: &Story) -> Result<Ending, AllocError>
-    requires { (ops : List Operation) × IsStoryOfEnd ops story.now }
+fn end_of(alloc: Global, named: Named) -> Result<Ending, AllocError>
     ensures ending { IfOk result (λ e. IsEnding e) }
-    ensures of { IfOk result
-        (λ e. (ops : List Operation) → IsStoryOfEnd ops story.now → IsEndOf ops e) }
+    ensures of { IfOk result (λ e. (ops : List Operation) → IsNamedAtEnd ops named → IsEndOf ops e) }
 {
-    let graph = Graph::of(alloc, &story.end, &story.dates)?;
+    let graph = Graph::of(alloc, named)?;
     let end = Ending::of(alloc, graph)?;
     Ok(end)
 }

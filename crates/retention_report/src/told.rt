@@ -5,7 +5,7 @@ ghost use Rattle.ownership_model.specs.State.{nothing_held};
 ghost use Rattle.retention_model.specs.Turns.{AreMarked};
 ghost use Rattle.retention_report.specs.Sources.{IsStoryOf, IsToldOf, AreLivesOf};
 
-use retention::{Accounts, Ending, Graph, Lifelines, Story};
+use retention::{Accounts, Ending, Graph, Lifelines, Named, Story};
 use retention_model::Marked;
 use std::alloc::{AllocError, Global};
 
@@ -32,12 +32,13 @@ impl Told {
             losses,
             marked,
         } = story;
-        // what the walks don't ask is let go before they take memory of their own
+        // what is not asked any more is let go before memory is taken for the graph and the walks
         drop(made);
         drop(events);
-        let graph = Graph::of(alloc, &end, &dates)?;
+        let named = Named::of(alloc, &end, &dates)?;
         drop(end);
         drop(dates);
+        let graph = Graph::of(alloc, named)?;
         let ending = Ending::of(alloc, graph)?;
         let accounts = Accounts::of(alloc, &ending, &losses)?;
         let lines = lines_of(marked, with_lives)?;

@@ -67,7 +67,8 @@ fn all_elements(
     ensures length { IfOk result (λ fields. length fields ≡ length elements.now) }
     ensures within { IfOk result (λ fields. IsTrue (list_all (field_test cyclic) fields)) }
 {
-    let mut fields = Sequence::empty(alloc);
+    // A list that grew by itself would have room for four.
+    let mut fields = Sequence::from_vec(Vec::with_capacity(alloc, elements.len())?);
     for element in elements {
         let field = element_of(*element, cyclic)?;
         fields.push(field)?;

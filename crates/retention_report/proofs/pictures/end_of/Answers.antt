@@ -5,12 +5,9 @@ use Rattle.retention_model.specs.Since.{since_from}
 use Rattle.retention.specs.Graph.{IsGraphOf}
 use Rattle.retention_report.proofs.pictures.end_of.Goals as goal
 
-pub of-requires : goal.of-requires
-of-requires c = (λ p. since_from nothing_held c.requires.0 p 0, c.requires.1.dates)
-
 pub returns-clause-of : goal.returns-clause-of
-returns-clause-of c = λ ops s. (
-  s.new,
+returns-clause-of c = λ ops is. (
+  is.new,
   subst (λ g. IsGraphOf (end_from nothing_held ops) (λ p. since_from nothing_held ops p 0) g) (sym c.in_ok-end.ensures.graph)
-      (subst (λ m. IsGraphOf m (λ p. since_from nothing_held ops p 0) c.in_ok-graph.graph) s.end (c.in_ok-graph.ensures (λ p. since_from nothing_held ops p 0) s.dates)),
+      (c.in_ok-graph.ensures (end_from nothing_held ops) (λ p. since_from nothing_held ops p 0) is.named),
 )

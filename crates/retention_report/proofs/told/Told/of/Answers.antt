@@ -16,7 +16,7 @@ returns c = λ ops s. record {
   of = (
     s.new,
     subst (λ (g : Graph). IsGraphOf (end_from nothing_held ops) (λ p. since_from nothing_held ops p 0) g) (sym c.in_ok-ending.ensures.graph)
-        (subst (λ (m : State). IsGraphOf m (λ p. since_from nothing_held ops p 0) c.in_ok-graph.graph) s.end (c.in_ok-graph.ensures (λ p. since_from nothing_held ops p 0) s.dates)),
+        (subst (λ (m : State). IsGraphOf m (λ p. since_from nothing_held ops p 0) c.in_ok-graph.graph) s.end (c.in_ok-graph.ensures c.args.story.end (λ p. since_from nothing_held ops p 0) (c.in_ok-named.ensures (λ p. since_from nothing_held ops p 0) s.dates))),
   );
   ending = c.in_ok-ending.ensures.ending;
   accounts = c.in_ok-accounts.ensures.accounts;
