@@ -78,7 +78,7 @@ fn two_thousand_requests(rt: HostRuntime) -> Result<(), Fail> {
 }
 
 // Lends the run of a trace that is loaded over a shelf.
-fn with_kept<F: FnOnce(&mut Run, &mut MarkShelf) -> Result<(), Fail>>(
+pub fn with_kept<F: FnOnce(&mut Run, &mut MarkShelf) -> Result<(), Fail>>(
     alloc: Global,
     trace: &Trace,
     shelf: &mut MarkShelf,
@@ -126,7 +126,7 @@ pub fn over(
 }
 
 // Puts in the run's place what it is after an edit over a shelf, and tells how many operations were stepped for that.
-fn step_over(
+pub fn step_over(
     alloc: Global,
     run: &mut Run,
     edits: &Batch,

@@ -23,15 +23,20 @@ const MADE: u32 = 2_000;
 const OPS: u32 = 400;
 
 // The number of the operation that comes and goes.
-const TURNED: u32 = 999;
+const TURNED: u32 = 999_999;
 
-// Numbers that follow from a seed.
+/// Numbers that follow from a seed.
 #[derive(Drop)]
-struct Dice {
+pub struct Dice {
     state: u32,
 }
 
 impl Dice {
+    /// The first of them.
+    pub fn of(seed: u32) -> Dice {
+        Dice { state: seed }
+    }
+
     // A number below the bound.
     fn roll(&mut self, bound: u32) -> u32
         requires { 0 < bound }
@@ -61,17 +66,21 @@ fn rolled(alloc: Global, dice: &mut Dice) -> Result<Kind, Fail> {
     })
 }
 
-fn rolled_trace(alloc: Global, dice: &mut Dice) -> Result<Trace, Fail> {
+/// So many operations.
+pub fn rolled_trace(alloc: Global, dice: &mut Dice, ops: u32) -> Result<Trace, Fail> {
     let mut trace = Trace::new(alloc);
-    for id in 1..=OPS {
+    for id in 1..=ops {
         add(&mut trace, id, rolled(alloc, dice)?)?;
     }
     Ok(trace)
 }
 
-// An edit near the front, whose new operation, if it has one, has a number of its own.
-fn rolled_edit(alloc: Global, dice: &mut Dice, id: u32) -> Result<Batch, Fail> {
-    let at = dice.roll(OPS / 2) + 1;
+// An edit of one of the first operations, whose new operation, if it has one, has a number of its own.
+fn rolled_edit(alloc: Global, dice: &mut Dice, id: u32, first: u32) -> Result<Batch, Fail>
+    requires some { 0 < first }
+    requires few { first < 1_000_000 }
+{
+    let at = dice.roll(first) + 1;
     let op = op(id, rolled(alloc, dice)?)?;
     let edit = match dice.roll(3) {
         0 => Edit::Insert { after: at, op },
@@ -101,7 +110,7 @@ fn give_up_some(alloc: Global, run: &mut Run, dice: &mut Dice) -> Result<(), Fai
 
 // How many edits were made, how many of them stopped early though the ends differ, and how many stepped nothing.
 #[derive(Clone, Copy)]
-struct Tally {
+pub struct Tally {
     made: u32,
     early: u32,
     known: u32,
@@ -114,6 +123,11 @@ impl Tally {
             early: 0,
             known: 0,
         }
+    }
+
+    /// How many edits were made.
+    pub fn made(self) -> u32 {
+        self.made
     }
 
     // An edit that was made, and how many operations were stepped for it.
@@ -174,27 +188,35 @@ fn rolled_edits(
     turns: bool,
     is_there: bool,
     id: u32,
-) -> Result<Batch, Fail> {
+    first: u32,
+) -> Result<Batch, Fail>
+    requires some { 0 < first }
+    requires few { first < 1_000_000 }
+{
     if turns {
         turned(alloc, is_there)
     } else {
-        rolled_edit(alloc, dice, id)
+        rolled_edit(alloc, dice, id, first)
     }
 }
 
-// Edits of a run, one after another, over a shelf.
-fn edited_often(
+/// Edits of a run, one after another, over a shelf, of some of the first operations.
+pub fn edited_often(
     alloc: Global,
     dice: &mut Dice,
     run: &mut Run,
     shelf: &mut MarkShelf,
-) -> Result<Tally, Fail> {
+    first: u32,
+) -> Result<Tally, Fail>
+    requires some { 0 < first }
+    requires few { first < 1_000_000 }
+{
     let mut tally = Tally::nothing();
     let mut is_there = false;
     for turn in 0..EDITS {
         give_up_some(alloc, run, dice)?;
         let turns = dice.roll(3) == 0;
-        let edits = rolled_edits(alloc, dice, turns, is_there, 1000 + turn)?;
+        let edits = rolled_edits(alloc, dice, turns, is_there, 1_000_000 + turn, first)?;
         // an operation that went in an earlier turn can't be edited
         if edit_once(alloc, run, &edits, shelf, &mut tally)? {
             is_there = is_there != turns;
@@ -208,13 +230,13 @@ fn told_of(alloc: Global, dice: &mut Dice, run: &mut Run, seed: u32) -> Result<T
     // a shelf with few names answers most that an edit touches
     let marks = if seed % 2 == 0 { 64 } else { 3 };
     let mut shelf = MarkShelf::new(alloc, marks, 32, 32)?;
-    edited_often(alloc, dice, run, &mut shelf)
+    edited_often(alloc, dice, run, &mut shelf, OPS / 2)
 }
 
 // The edits of one trace.
 fn told(alloc: Global, seed: u32) -> Result<Tally, Fail> {
     let mut dice = Dice { state: seed };
-    let trace = rolled_trace(alloc, &mut dice)?;
+    let trace = rolled_trace(alloc, &mut dice, OPS)?;
     let mut run = run_of(alloc, trace)?;
     told_of(alloc, &mut dice, &mut run, seed)
 }

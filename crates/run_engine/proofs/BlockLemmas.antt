@@ -160,7 +160,7 @@ sound-part (Some x) a n ss h = sound-take x n (drop a ss) (sound-drop x a ss h)
 pub sound-without : (x : Option Remains) (i : ℕ) (ss : List SegmentView) → AreSoundBelow x ss → AreSoundBelow x (without_mark ss i)
 sound-without None i ss h = tt
 sound-without (Some x) i [] h = tt
-sound-without (Some x) zero (s ∷ ss) h = (tt, h.1)
+sound-without (Some x) zero (s ∷ ss) h = ((tt, h.0.1), h.1)
 sound-without (Some x) (suc i) (s ∷ ss) h = (h.0, sound-without (Some x) i ss h.1)
 
 pub sound-bare : (x : Option Remains) (ss : List SegmentView) → is_some x ≡ false → AreSoundBelow x ss
@@ -192,8 +192,14 @@ under-then x r y None both can = (refl, tt)
 under-then x r y (Some m) both can = let same = both m can.there in (ap Some same, subst (λ (n : State). IsSound n []) (sym same) can.sound)
 
 laid-then : (x : Option Remains) (r y : Remains) (s : SegmentView) → IsBoth x r y → IsExchangeable r (laid_over x s) → (laid_over (Some y) s ≡ exchanged r (laid_over x s)) × IsSoundBelow y s
-laid-then None r y s both can = let h = bare-then r y s.mark both can in (ap (λ o. record s { mark = o }) h.0, h.1)
-laid-then (Some x) r y s both can = let h = under-then x r y s.mark both can in (ap (λ o. record s { mark = o }) h.0, h.1)
+laid-then None r y s both can =
+    let h = bare-then r y s.mark both can.0 in
+    let k = bare-then r y s.anchor both can.1 in
+    ((λ j. record s { mark = h.0 j; anchor = k.0 j }), (h.1, k.1))
+laid-then (Some x) r y s both can =
+    let h = under-then x r y s.mark both can.0 in
+    let k = under-then x r y s.anchor both can.1 in
+    ((λ j. record s { mark = h.0 j; anchor = k.0 j }), (h.1, k.1))
 
 pub laid-both : (x : Option Remains) (r y : Remains) (ss : List SegmentView) → IsBoth x r y → AreExchangeable r (map (laid_over x) ss) → map (laid_over (Some y)) ss ≡ map (exchanged r) (map (laid_over x) ss)
 laid-both x r y [] both can = refl

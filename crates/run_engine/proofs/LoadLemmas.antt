@@ -1,6 +1,6 @@
 -- A run that is loaded as far as a position.
 use Rattle.std.proofs.Common.{◌≡◌, ◌≢◌, ℕ, zero, suc, ◌+◌, ◌-◌, ◌%◌, min, ◌<◌, ◌≤◌, Bool, false, cond, nat_eq, eq-eqb, List, [], ◌∷◌, ◌++◌, length, drop, refl, ap, sym, ◌∙◌, arith, add-zero, zero-add, true, not, append-nil}
-use Rattle.std.specs.Prelude.{◌/◌, ◌&&◌, filter, get_or, nat_lt, slice_range}
+use Rattle.std.specs.Prelude.{◌/◌, ◌&&◌, Option, IfSome, filter, get_or, nat_lt, slice_range}
 use Rattle.std.specs.List.{range_with_len}
 use Rattle.std.proofs.lemmas.Bool.{ne_eqb}
 use Rattle.std.proofs.lemmas.List.Elements.{filter-append}
@@ -79,19 +79,19 @@ IsLoaded-kept ops gone before at to len count segments more heap end h lt there 
     }
 
 -- it goes on with no checkpoint
-pub IsLoaded-gone : (ops next : List Operation) (gone : List Bool) (before at to count : ℕ) (segments : List SegmentView) (heap : State)
-    → IsLoaded ops gone before at segments heap count → at < length ops → to ≡ at + min (length ops - at) 64 → next ≡ slice_range ops at to → is_given_up gone at ≡ true
-    → IsLoaded ops gone before (at + length next) (segments ++ bare_segment heap next ∷ []) (end_from heap next) (raised count (length next))
-IsLoaded-gone ops next gone before at to count segments heap h lt there is goes =
+pub IsLoaded-gone : (ops next : List Operation) (gone : List Bool) (before at to count : ℕ) (segments : List SegmentView) (heap : State) (anchor : Option State)
+    → IsLoaded ops gone before at segments heap count → at < length ops → to ≡ at + min (length ops - at) 64 → IfSome anchor (λ n. n ≡ heap) → next ≡ slice_range ops at to → is_given_up gone at ≡ true
+    → IsLoaded ops gone before (at + length next) (segments ++ bare_segment anchor heap next ∷ []) (end_from heap next) (raised count (length next))
+IsLoaded-gone ops next gone before at to count segments heap anchor h lt there same is goes =
     let counted = h.count_is in
     let within = h.prefix.within in
     let long : length next ≡ to - at = ap length is ∙ omega (arith, length-take (to - at) (drop at ops), length-drop at ops) in
     let cut : to ≡ at + length next = omega arith in
     let pos : 0 < length next = omega arith in
     record {
-      prefix = IsReached-bare ops next at segments heap h.prefix (gone-behind gone at goes) (omega arith) pos (is ∙ ap (slice_range ops at) cut);
+      prefix = IsReached-bare ops next at segments heap anchor h.prefix (gone-behind gone at goes) (omega arith) pos same (is ∙ ap (slice_range ops at) cut);
       aligned = λ lt2. let z : at % 64 ≡ 0 = h.aligned lt in let c : length next ≡ 64 = omega arith in omega arith;
-      marks = marks_from-bare 0 segments heap next ∙ h.marks
+      marks = marks_from-bare 0 segments heap anchor next ∙ h.marks
           ∙ sym (kept-next gone at (at + length next) true (multiples_below-next at (length next) (h.aligned lt) pos (omega arith)) goes ∙ append-nil (kept_below gone at));
       count_is = omega arith;
     }

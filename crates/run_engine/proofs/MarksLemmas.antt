@@ -1,8 +1,8 @@
 -- The checkpoints of an edited trace.
-use Rattle.std.proofs.Common.{IsTrue, IfSome, is_some, add-zero, zero, suc, Bool, true, false, cond, nat_lt, le-ltb, lt-ltb}
+use Rattle.std.proofs.Common.{IsTrue, is_some, add-zero, zero, suc, Bool, true, false, cond, nat_lt, le-ltb, lt-ltb}
 use Rattle.run_engine.proofs.SegmentLemmas.{trace_of-append}
 use Rattle.std.proofs.Common.{◌≡◌, ℕ, ◌+◌, ◌-◌, ◌<◌, ◌≤◌, List, [], ◌∷◌, ◌++◌, length, take, drop, get_or, refl, ap, sym, subst, ◌∙◌, arith, append_assoc, length-append, take-append-drop}
-use Rattle.std.specs.Prelude.{Some, None, Option, map, filter, Contains}
+use Rattle.std.specs.Prelude.{Some, None, Option, map, filter, Contains, ◌⊎◌}
 use Rattle.std.proofs.lemmas.List.{append-nil, take_more, map-append, length-take, drop-drop}
 use mathlib.Core.Logic.{⊎_elim, inl, inr}
 use Rattle.std.proofs.lemmas.List.Elements.{Contains-append_cases, Contains-append_right, filter-append}
@@ -15,7 +15,7 @@ use Rattle.run_engine.specs.Bounds.{AgreesAt}
 use Rattle.op_step.specs.Chunk.{Chunk}
 use Rattle.run_engine.specs.Guesses.{Reusable}
 use Rattle.run_engine.specs.inner.OldRun.{reusable_in}
-use Rattle.run_engine.specs.NewMarks.{IsGap, AreNeighbours, LeadTo, AreLaid, AreMarksOf}
+use Rattle.run_engine.specs.NewMarks.{IsGap, IsFirstPart, LeadTo, AreLaid, AreMarksOf}
 use Rattle.run_engine.proofs.SegmentLemmas.{marks_from-append, length-trace_of-next}
 use Rattle.run_engine.proofs.ListingLemmas.{around}
 use Rattle.run_engine.proofs.PieceLemmas.{AreFull-prefix, AreFull-back, mark-is}
@@ -169,42 +169,68 @@ below-restart segments i at full stands =
     ∙ ap (λ ps. marks_from 0 (take i segments) ++ ps) (none-pass test rest (λ p k. le-ltb p at (after-least at n (drop i segments) p fits k)))
     ∙ append-nil (marks_from 0 (take i segments))
 
-abbrev pub first-mark : (at : ℕ) (c : List SegmentView) → BeginsMarked c → List ℕ
-first-mark at [] h = []
-first-mark at (t ∷ c) h = marks_from (at + length (ops_of t)) c ++ (at + length (trace_of (t ∷ c))) ∷ []
+-- where segments that begin at `at` have their first checkpoint, or where they end, at n
+record HasNext (at : ℕ) (segments : List SegmentView) (n : ℕ) : Type 0 where
+  gap : ℕ
+  after : List ℕ
+  is : marks_from at segments ++ n ∷ [] ≡ (at + gap) ∷ after
+  first : BeginsMarked segments → gap ≡ 0
 
-mark_here-is : (at : ℕ) (o : Option State) → IsTrue (is_some o) → mark_here at o ≡ at ∷ []
-mark_here-is at None h = cc
-mark_here-is at (Some m) h = refl
+next-behind : (at n : ℕ) (s : SegmentView) (segments : List SegmentView) (o : Option State) → s.mark ≡ o → HasNext (at + length (ops_of s)) segments n → HasNext at (s ∷ segments) n
+next-behind at n s segments None e h =
+    let place : at + length (ops_of s) + h.gap ≡ at + (length (ops_of s) + h.gap) = omega arith in
+    record {
+      gap = length (ops_of s) + h.gap;
+      after = h.after;
+      is = ap (λ o. (mark_here at o ++ marks_from (at + length (ops_of s)) segments) ++ n ∷ []) e ∙ h.is ∙ ap (λ p. p ∷ h.after) place;
+      first = λ begins. let none : IsTrue false = subst (λ o. IsTrue (is_some o)) e begins in cc;
+    }
+next-behind at n s segments (Some m) e h = record {
+  gap = 0;
+  after = marks_from (at + length (ops_of s)) segments ++ n ∷ [];
+  is = ap (λ o. (mark_here at o ++ marks_from (at + length (ops_of s)) segments) ++ n ∷ []) e ∙ ap (λ p. p ∷ (marks_from (at + length (ops_of s)) segments ++ n ∷ [])) (sym (add-zero at));
+  first = λ begins. refl;
+}
 
-first-mark-is : (at : ℕ) (c : List SegmentView) (h : BeginsMarked c) → marks_from at c ++ (at + length (trace_of c)) ∷ [] ≡ at ∷ first-mark at c h
-first-mark-is at [] h = ap (λ n. n ∷ []) (add-zero at)
-first-mark-is at (t ∷ c) h = ap (λ ps. (ps ++ marks_from (at + length (ops_of t)) c) ++ (at + length (trace_of (t ∷ c))) ∷ []) (mark_here-is at t.mark h)
+has-next : (at n : ℕ) (segments : List SegmentView) → n ≡ at + length (trace_of segments) → HasNext at segments n
+has-next at n [] e = record { gap = 0; after = []; is = ap (λ p. p ∷ []) e; first = λ begins. refl }
+has-next at n (s ∷ segments) e =
+    let later : n ≡ at + length (ops_of s) + length (trace_of segments) = omega (arith, e, length-append (ops_of s) (trace_of segments)) in
+    next-behind at n s segments s.mark refl (has-next (at + length (ops_of s)) n segments later)
 
--- a stretch from a checkpoint to the next
-pub stretch-neighbours : (a b c : List SegmentView) (s : SegmentView) (m : State) (len : ℕ) → s.mark ≡ Some m → ((at : ℕ) → marks_from at b ≡ []) → length (trace_of (s ∷ b)) ≡ len → BeginsMarked c
-    → AreNeighbours (all_marks (a ++ ((s ∷ b) ++ c))) len
-stretch-neighbours a b c s m len mark bare long begins =
+-- a stretch from a checkpoint to the next, or the first of one with more operations, of which there are at least 64
+pub stretch-part : (a b c : List SegmentView) (s : SegmentView) (m : State) (len : ℕ) → s.mark ≡ Some m → ((at : ℕ) → marks_from at b ≡ []) → length (trace_of (s ∷ b)) ≡ len → (BeginsMarked c ⊎ (64 ≤ len))
+    → IsFirstPart (all_marks (a ++ ((s ∷ b) ++ c))) len
+stretch-part a b c s m len mark bare long whole =
     let p : ℕ = 0 + length (trace_of a) in
     let n : ℕ = length (trace_of (a ++ ((s ∷ b) ++ c))) in
-    let whole : length (trace_of (a ++ ((s ∷ b) ++ c))) ≡ 0 + length (trace_of a) + len + length (trace_of c) =
+    let all : length (trace_of (a ++ ((s ∷ b) ++ c))) ≡ 0 + length (trace_of a) + len + length (trace_of c) =
     ap length (trace_of-append a ((s ∷ b) ++ c) ∙ ap (λ t. trace_of a ++ t) (trace_of-append (s ∷ b) c))
     ∙ omega (arith, length-append (trace_of a) (trace_of (s ∷ b) ++ trace_of c), length-append (trace_of (s ∷ b)) (trace_of c)) in
     let own : marks_from p (s ∷ b) ≡ p ∷ [] = ap (λ o. mark_here p o ++ marks_from (p + length (ops_of s)) b) mark ∙ ap (λ ps. p ∷ ps) (bare (p + length (ops_of s))) in
+    let next : HasNext (p + len) c n = has-next (p + len) n c all in
+    let place : p + len + next.gap ≡ p + (len + next.gap) = omega arith in
     record {
-      before = marks_from 0 a;
-      after = first-mark (p + len) c begins;
-      at = p;
-      marks_are = ap (λ ps. ps ++ n ∷ []) (marks_from-append 0 a ((s ∷ b) ++ c) ∙ ap (λ ps. marks_from 0 a ++ ps) (marks_from-append p (s ∷ b) c ∙ ap (λ ps. ps ++ marks_from (p + length (trace_of (s ∷ b))) c) own ∙ ap (λ l. p ∷ marks_from (p + l) c) long))
-          ∙ append_assoc (marks_from 0 a) (p ∷ marks_from (p + len) c) (n ∷ [])
-          ∙ ap (λ l. marks_from 0 a ++ (p ∷ (marks_from (p + len) c ++ l ∷ []))) whole
-          ∙ ap (λ ps. marks_from 0 a ++ (p ∷ ps)) (first-mark-is (p + len) c begins);
+      long = len + next.gap;
+      neighbours = record {
+        before = marks_from 0 a;
+        after = next.after;
+        at = p;
+        marks_are = ap (λ ps. ps ++ n ∷ []) (marks_from-append 0 a ((s ∷ b) ++ c) ∙ ap (λ ps. marks_from 0 a ++ ps) (marks_from-append p (s ∷ b) c ∙ ap (λ ps. ps ++ marks_from (p + length (trace_of (s ∷ b))) c) own ∙ ap (λ l. p ∷ marks_from (p + l) c) long))
+            ∙ append_assoc (marks_from 0 a) (p ∷ marks_from (p + len) c) (n ∷ [])
+            ∙ ap (λ ps. marks_from 0 a ++ (p ∷ ps)) (next.is ∙ ap (λ q. q ∷ next.after) place);
+      };
+      within = omega arith;
+      whole = λ few. ⊎_elim
+          (λ (begins : BeginsMarked c). let none : next.gap ≡ 0 = next.first begins in omega arith)
+          (λ (many : 64 ≤ len). omega arith)
+          whole;
     }
 
-pub old-neighbours : (old : List SegmentView) (i k : ℕ) (s : SegmentView) (heap : State) (ops : List Operation) (len : ℕ)
+pub old-part : (old : List SegmentView) (i k : ℕ) (s : SegmentView) (heap : State) (ops : List Operation) (len : ℕ)
     → i < length old → s ≡ get_or old i s → s.mark ≡ Some heap → ((at : ℕ) → marks_from at (take k (drop (i + 1) old)) ≡ [])
-    → len ≤ length ops → trace_of (take (suc k) (drop i old)) ≡ take len ops → BeginsMarked (drop (i + suc k) old) → AreNeighbours (all_marks old) len
-old-neighbours old i k s heap ops len lt is mark bare fits same begins =
+    → len ≤ length ops → trace_of (take (suc k) (drop i old)) ≡ take len ops → (BeginsMarked (drop (i + suc k) old) ⊎ (64 ≤ len)) → IsFirstPart (all_marks old) len
+old-part old i k s heap ops len lt is mark bare fits same whole =
     let b : List SegmentView = take k (drop (i + 1) old) in
     let c : List SegmentView = drop k (drop (i + 1) old) in
     let here : drop i old ≡ s ∷ drop (i + 1) old = around old i s lt is in
@@ -213,14 +239,7 @@ old-neighbours old i k s heap ops len lt is mark bare fits same begins =
     let long : length (trace_of (s ∷ b)) ≡ len = ap (λ ss. length (trace_of ss)) (sym stretch) ∙ ap length same ∙ omega (arith, length-take len ops) in
     let j : i + 1 + k ≡ i + suc k = omega arith in
     let rest : drop k (drop (i + 1) old) ≡ drop (i + suc k) old = drop-drop k (i + 1) old ∙ ap (λ n. drop n old) j in
-    subst (λ ss. AreNeighbours (all_marks ss) len) parts (stretch-neighbours (take i old) b c s heap len mark bare long (subst BeginsMarked (sym rest) begins))
-
-pub IfSome-begins : (segments : List SegmentView) (j : ℕ) (s : SegmentView) → j < length segments → s ≡ get_or segments j s → IfSome s.mark (λ h. BeginsMarked (drop j segments))
-IfSome-begins segments j s lt is = go s.mark refl
-  where
-    go : (o : Option State) → s.mark ≡ o → IfSome o (λ h. BeginsMarked (drop j segments))
-    go None e = tt
-    go (Some m) e = subst BeginsMarked (sym (around segments j s lt is)) (ap is_some e)
+    subst (λ ss. IsFirstPart (all_marks ss) len) parts (stretch-part (take i old) b c s heap len mark bare long (subst (λ ss. BeginsMarked ss ⊎ (64 ≤ len)) (sym rest) whole))
 
 pub marks_from-next : (segments : List SegmentView) (j : ℕ) (s : SegmentView) (at : ℕ) → j < length segments → s ≡ get_or segments j s → at ≡ length (trace_of (take j segments))
     → marks_from 0 (take (j + 1) segments) ≡ marks_from 0 (take j segments) ++ mark_here at s.mark
@@ -239,16 +258,16 @@ pub mark_here-marked : (at : ℕ) (o : Option State) → is_some o ≡ true → 
 mark_here-marked at None e = cc
 mark_here-marked at (Some m) e = refl
 
--- a stretch from a checkpoint to the next is one of the old trace
-stretch-old : (a b c : List SegmentView) (s : SegmentView) (m : State) (ops : List Operation) (len : ℕ) → s.mark ≡ Some m → ((at : ℕ) → marks_from at b ≡ []) → length (trace_of (s ∷ b)) ≡ len → BeginsMarked c
+-- such a stretch is one of the old trace
+stretch-old : (a b c : List SegmentView) (s : SegmentView) (m : State) (ops : List Operation) (len : ℕ) → s.mark ≡ Some m → ((at : ℕ) → marks_from at b ≡ []) → length (trace_of (s ∷ b)) ≡ len → (BeginsMarked c ⊎ (64 ≤ len))
     → m ≡ end_from nothing_held (trace_of a) → trace_of (s ∷ b) ≡ take len ops → IsOldStretch (trace_of (a ++ ((s ∷ b) ++ c))) (all_marks (a ++ ((s ∷ b) ++ c))) m ops len
-unfolding stretch-neighbours
-stretch-old a b c s m ops len mark bare long begins is same =
+unfolding stretch-part
+stretch-old a b c s m ops len mark bare long whole_or is same =
     let rest : List Operation = trace_of ((s ∷ b) ++ c) in
     let place : 0 + length (trace_of a) ≡ length (trace_of a) = omega arith in
     let whole : trace_of (a ++ ((s ∷ b) ++ c)) ≡ trace_of a ++ rest = trace_of-append a ((s ∷ b) ++ c) in
     record {
-      place = stretch-neighbours a b c s m len mark bare long begins;
+      place = stretch-part a b c s m len mark bare long whole_or;
       start_is = is ∙ ap (end_from nothing_held) (sym (ap (take (0 + length (trace_of a))) whole ∙ ap (λ n. take n (trace_of a ++ rest)) place ∙ take-append_seam (trace_of a) rest));
       ops_are = ap (take len) (ap (drop (0 + length (trace_of a))) whole ∙ ap (λ n. drop n (trace_of a ++ rest)) place ∙ drop-append_seam (trace_of a) rest ∙ trace_of-append (s ∷ b) c)
           ∙ ap (λ n. take n (trace_of (s ∷ b) ++ trace_of c)) (sym long) ∙ take-append_seam (trace_of (s ∷ b)) (trace_of c) ∙ same;
@@ -256,8 +275,8 @@ stretch-old a b c s m ops len mark bare long begins is same =
 
 pub old-stretch-is : (old : List SegmentView) (end : State) (i k : ℕ) (s : SegmentView) (heap : State) (ops : List Operation) (len : ℕ)
     → IsRun old end → i < length old → s ≡ get_or old i s → s.mark ≡ Some heap → ((at : ℕ) → marks_from at (take k (drop (i + 1) old)) ≡ [])
-    → len ≤ length ops → trace_of (take (suc k) (drop i old)) ≡ take len ops → BeginsMarked (drop (i + suc k) old) → IsOldStretch (trace_of old) (all_marks old) heap ops len
-old-stretch-is old end i k s heap ops len run lt is mark bare fits same begins =
+    → len ≤ length ops → trace_of (take (suc k) (drop i old)) ≡ take len ops → (BeginsMarked (drop (i + suc k) old) ⊎ (64 ≤ len)) → IsOldStretch (trace_of old) (all_marks old) heap ops len
+old-stretch-is old end i k s heap ops len run lt is mark bare fits same whole =
     let b : List SegmentView = take k (drop (i + 1) old) in
     let c : List SegmentView = drop k (drop (i + 1) old) in
     let here : drop i old ≡ s ∷ drop (i + 1) old = around old i s lt is in
@@ -267,7 +286,7 @@ old-stretch-is old end i k s heap ops len run lt is mark bare fits same begins =
     let j : i + 1 + k ≡ i + suc k = omega arith in
     let rest : drop k (drop (i + 1) old) ≡ drop (i + suc k) old = drop-drop k (i + 1) old ∙ ap (λ n. drop n old) j in
     subst (λ ss. IsOldStretch (trace_of ss) (all_marks ss) heap ops len) parts
-    (stretch-old (take i old) b c s heap ops len mark bare long (subst BeginsMarked (sym rest) begins) (mark-is old i s heap run.replay lt is (sym mark)) (ap trace_of (sym stretch) ∙ same))
+    (stretch-old (take i old) b c s heap ops len mark bare long (subst (λ ss. BeginsMarked ss ⊎ (64 ≤ len)) (sym rest) whole) (mark-is old i s heap run.replay lt is (sym mark)) (ap trace_of (sym stretch) ∙ same))
 
 rising-earlier : (a b to : ℕ) (ps : List ℕ) → a ≤ b → AreRising b to ps → AreRising a to ps
 rising-earlier a b to [] le h = tt

@@ -1,6 +1,6 @@
 -- Stretches of a run as pieces of another.
-use Rattle.std.proofs.Common.{◌≡◌, ℕ, ◌+◌, ◌-◌, ◌<◌, ◌≤◌, suc, List, [], ◌∷◌, ◌++◌, length, take, drop, get_or, false, refl, ap, sym, subst, ◌∙◌, arith, length-append, length-drop}
-use Rattle.std.specs.Prelude.{Some, None, Option, is_some, IsTrue, slice_range}
+use Rattle.std.proofs.Common.{◌≡◌, ℕ, ◌+◌, ◌-◌, ◌<◌, ◌≤◌, suc, Bool, List, [], ◌∷◌, ◌++◌, length, take, drop, get_or, true, false, refl, ap, sym, subst, ◌∙◌, arith, length-append, length-drop}
+use Rattle.std.specs.Prelude.{Some, None, Option, is_some, IsTrue, slice_range, if◌then◌else◌}
 use Rattle.std.proofs.lemmas.List.{append-nil, take_more, length-take, take-append-drop, drop-take, drop-drop, get_or-drop}
 use Rattle.std.proofs.Math.Seq.{take-add, take-length}
 use Rattle.std.specs.Prelude.{IfSome}
@@ -143,6 +143,10 @@ IsReached-next ops at to len segments more heap end h le within piece =
 pub mark-is : (old : List SegmentView) (i : ℕ) (s : SegmentView) (n : State) → AreReplayFrom nothing_held old → i < length old → s ≡ get_or old i s → Some n ≡ s.mark → n ≡ end_from nothing_held (trace_of (take i old))
 mark-is old i s n h lt is e = subst (λ o. IfSome o (λ h. h ≡ end_from nothing_held (trace_of (take i old)))) (sym e) (mark-at nothing_held old i s h lt is)
 
+-- so is an anchor
+pub anchor-is : (old : List SegmentView) (i : ℕ) (s : SegmentView) (n : State) → AreReplayFrom nothing_held old → i < length old → s ≡ get_or old i s → Some n ≡ s.anchor → n ≡ end_from nothing_held (trace_of (take i old))
+anchor-is old i s n h lt is e = subst (λ o. IfSome o (λ h. h ≡ end_from nothing_held (trace_of (take i old)))) (sym e) (segment-at nothing_held old i s h lt is).anchor
+
 -- a piece of the first n operations is one of more of them
 pub IsPiece-of-more : (start end : State) (ops : List Operation) (n m len : ℕ) (segments : List SegmentView) → n ≤ m → IsPiece start (take n ops) segments end len → IsPiece start (take m ops) segments end len
 IsPiece-of-more start end ops n m len segments le h =
@@ -185,46 +189,51 @@ take-next ops next at l to len is whole le within =
     take-shorter len (to - at) (drop at ops) (omega (arith, long)) ∙ ap (λ n. take n (drop at ops)) long ∙ sym next_is
 
 -- one segment is a piece
-pub IsPiece-one : (start end : State) (ops : List Operation) (outcomes : List Outcome) → 0 < length ops → outcomes ≡ outcomes_from start ops → end ≡ end_from start ops
-    → IsPiece start ops (record { mark = Some start; ops = ops; outcomes = outcomes } ∷ []) end (length ops)
-IsPiece-one start end ops outcomes some out is =
+pub IsPiece-one : (start end : State) (anchor : Option State) (ops : List Operation) (outcomes : List Outcome) → 0 < length ops → IfSome anchor (λ n. n ≡ start) → outcomes ≡ outcomes_from start ops → end ≡ end_from start ops
+    → IsPiece start ops (record { mark = Some start; anchor = anchor; ops = ops; outcomes = outcomes } ∷ []) end (length ops)
+IsPiece-one start end anchor ops outcomes some same out is =
     let whole : take (length ops) ops ≡ ops = take-length ops in
     record {
       some = some;
       fits = omega arith;
       trace = append-nil ops ∙ sym whole;
-      replay = (record { mark = refl; outcomes = out }, tt);
+      replay = (record { mark = refl; anchor = same; outcomes = out }, tt);
       full = (some, tt);
       begins = refl;
       state = is ∙ ap (end_from start) (sym whole);
       marks = λ at. refl;
     }
 
+-- an anchor that is made if it is wanted
+pub anchored : (start : State) (wanted : Bool) → IfSome (if wanted then Some start else None) (λ n. n ≡ start)
+anchored start true = refl
+anchored start false = tt
+
 -- behind some operations a replay goes on by a segment with no checkpoint
-pub IsReached-bare : (ops next : List Operation) (at : ℕ) (segments : List SegmentView) (heap : State) → IsReached ops at segments heap → 0 < at → at + length next ≤ length ops → 0 < length next
-    → next ≡ slice_range ops at (at + length next) → IsReached ops (at + length next) (segments ++ bare_segment heap next ∷ []) (end_from heap next)
-IsReached-bare ops next at segments heap h pos within some is =
+pub IsReached-bare : (ops next : List Operation) (at : ℕ) (segments : List SegmentView) (heap : State) (anchor : Option State) → IsReached ops at segments heap → 0 < at → at + length next ≤ length ops → 0 < length next
+    → IfSome anchor (λ n. n ≡ heap) → next ≡ slice_range ops at (at + length next) → IsReached ops (at + length next) (segments ++ bare_segment anchor heap next ∷ []) (end_from heap next)
+IsReached-bare ops next at segments heap anchor h pos within some same is =
     let cut : at + length next - at ≡ length next = omega arith in
     let part : next ≡ take (length next) (drop at ops) = is ∙ ap (λ n. take n (drop at ops)) cut in
     let here : heap ≡ end_from nothing_held (trace_of segments) = h.state ∙ ap (end_from nothing_held) (sym h.trace) in
-    let bare : SegmentView = bare_segment heap next in
+    let bare : SegmentView = bare_segment anchor heap next in
     let whole : take at ops ++ next ≡ take (at + length next) ops = ap (λ xs. take at ops ++ xs) part ∙ sym (take-add at (length next) ops) in
     record {
       within = within;
       trace = trace_of-append segments (bare ∷ []) ∙ ap (λ xs. trace_of segments ++ xs) (append-nil next) ∙ ap (λ xs. xs ++ next) h.trace ∙ whole;
-      replay = AreReplayFrom-append nothing_held segments (bare ∷ []) h.replay (subst (λ m. AreReplayFrom m (bare ∷ [])) here (record { mark = tt; outcomes = refl }, tt));
+      replay = AreReplayFrom-append nothing_held segments (bare ∷ []) h.replay (subst (λ m. AreReplayFrom m (bare ∷ [])) here (record { mark = tt; anchor = same; outcomes = refl }, tt));
       full = AreFull-append segments (bare ∷ []) h.full (some, tt);
       begins = begins segments (ap length h.trace ∙ omega (arith, length-take at ops)) h.begins;
       state = ap (λ m. end_from m next) h.state ∙ sym (appends.end nothing_held (take at ops) next) ∙ ap (end_from nothing_held) whole;
     }
   where
-    begins : (ss : List SegmentView) → length (trace_of ss) ≡ at → BeginsMarked ss → BeginsMarked (ss ++ bare_segment heap next ∷ [])
+    begins : (ss : List SegmentView) → length (trace_of ss) ≡ at → BeginsMarked ss → BeginsMarked (ss ++ bare_segment anchor heap next ∷ [])
     begins [] e b = absurd (omega arith)
     begins (s ∷ ss) e b = b
 
 -- it has the checkpoints of before
-pub marks_from-bare : (at : ℕ) (segments : List SegmentView) (heap : State) (next : List Operation) → marks_from at (segments ++ bare_segment heap next ∷ []) ≡ marks_from at segments
-marks_from-bare at segments heap next = marks_from-append at segments (bare_segment heap next ∷ []) ∙ append-nil (marks_from at segments)
+pub marks_from-bare : (at : ℕ) (segments : List SegmentView) (heap : State) (anchor : Option State) (next : List Operation) → marks_from at (segments ++ bare_segment anchor heap next ∷ []) ≡ marks_from at segments
+marks_from-bare at segments heap anchor next = marks_from-append at segments (bare_segment anchor heap next ∷ []) ∙ append-nil (marks_from at segments)
 
 -- a piece has one more checkpoint, where it begins
 pub marks_from-piece : (ops rest : List Operation) (at len : ℕ) (segments more : List SegmentView) (heap end : State) → IsReached ops at segments heap → IsPiece heap rest more end len

@@ -67,7 +67,10 @@ exchangeable-behind : (new old : State) (x : Remains) (p : List Operation) (late
 exchangeable-behind new old x p [] h replay = tt
 exchangeable-behind new old x p (s ∷ later) h replay =
     let here : IsExchangeOf (end_from new p) (end_from old p) x = exchange-behind new old x p (prefix-alike new old x p (trace_of (s ∷ later)) h) in (
-      each (λ m. m ≡ end_from old p) (CanExchange x) s.mark (λ m e. subst (CanExchange x) (sym e) here.can) replay.0.mark,
+      (
+        each (λ m. m ≡ end_from old p) (CanExchange x) s.mark (λ m e. subst (CanExchange x) (sym e) here.can) replay.0.mark,
+        each (λ m. m ≡ end_from old p) (CanExchange x) s.anchor (λ m e. subst (CanExchange x) (sym e) here.can) replay.0.anchor,
+      ),
       exchangeable-behind new old x (p ++ ops_of s) later (subst (GoOnAlike new old x) (sym (append_assoc p (ops_of s) (trace_of later))) h)
           (subst (λ m. AreReplayFrom m later) (sym (appends.end old p (ops_of s))) replay.1),
     )
@@ -90,6 +93,7 @@ replay-behind new old x p (s ∷ later) h replay =
     let stop : StopsLater new old x p (ops_of s) = patches.later (is_remaining (apart_from x) new old) new old x h.agree.law p (ops_of s) next.distinct next.unused next.old_unused in (
       record {
         mark = patched-mark x (end_from new p) (end_from old p) s.mark here.state replay.0.mark;
+        anchor = patched-mark x (end_from new p) (end_from old p) s.anchor here.state replay.0.anchor;
         outcomes = replay.0.outcomes ∙ sym stop.outcomes;
       },
       subst (λ m. AreReplayFrom m (map (exchanged x) later)) (appends.end new p (ops_of s))

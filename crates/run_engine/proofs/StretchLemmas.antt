@@ -1,8 +1,8 @@
 -- Operations of an edited trace that come from a stretch of the old one.
-use Rattle.std.proofs.Common.{◌≡◌, ℕ, ◌+◌, ◌-◌, ◌<◌, ◌≤◌, List, ◌++◌, length, take, drop, get_or, refl, ap, sym, ◌∙◌, arith, length-append}
+use Rattle.std.proofs.Common.{◌≡◌, ℕ, ◌+◌, ◌-◌, ◌<◌, ◌≤◌, List, [], ◌++◌, length, take, drop, get_or, refl, ap, sym, ◌∙◌, arith, length-append, length-drop}
 use Rattle.std.specs.Prelude.{slice_range, Some}
 use Rattle.std.proofs.Math.Seq.{take-add}
-use Rattle.std.proofs.lemmas.List.{take_at}
+use Rattle.std.proofs.lemmas.List.{take_at, get_or-drop}
 use Rattle.trace_types.specs.Operation.{Operation}
 use Rattle.ownership_model.specs.State.{State, nothing_held}
 use Rattle.ownership_model.specs.Step.{end_from}
@@ -11,9 +11,9 @@ use Rattle.run_engine.specs.declared.replay.revision.Revision.{Revision}
 use Rattle.run_engine.specs.SegmentView.{SegmentView}
 use Rattle.run_engine.specs.inner.OldRun.{old_trace, new_trace}
 use Rattle.run_engine.specs.inner.Divergence.{IsFork}
-use Rattle.run_engine.specs.Segments.{trace_of}
+use Rattle.run_engine.specs.Segments.{ops_of, trace_of, marks_from}
 use Rattle.run_engine.specs.HeadAndTail.{AreAlike}
-use Rattle.run_engine.proofs.SegmentLemmas.{trace_of-append}
+use Rattle.run_engine.proofs.SegmentLemmas.{trace_of-append, length-trace_of-next}
 use Rattle.run_engine.proofs.PieceLemmas.{mark-is}
 use Rattle.run_engine.proofs.PlaceLemmas.{trace_of-parted, trace_of-prefix, trace_of-back}
 use Rattle.run_engine.proofs.ListingLemmas.{take-shorter}
@@ -57,3 +57,40 @@ fork-mark r fork i at base s heap mark same there is place lt segment marked =
     mark-is r.segments.now i s mark r.holds.kept.run.replay lt segment marked
     ∙ ap (end_from nothing_held) (trace_of-prefix r.segments.now i base place ∙ ap (λ n. take n (old_trace r)) (sym there.1))
     ∙ sym same ∙ ap (λ n. end_from nothing_held (take n (new_trace r))) there.0 ∙ sym is
+
+-- the segments from `from` to j have no checkpoint behind the first's, and at most so many operations, but 64 at least, if there are any
+pub record IsPartTo (segments : List SegmentView) (from most j : ℕ) : Type 0 where
+  pub order : from ≤ j
+  pub within : j ≤ length segments
+  pub bare : (at : ℕ) → marks_from at (take (j - (from + 1)) (drop (from + 1) segments)) ≡ []
+  pub fits : length (trace_of (slice_range segments from j)) ≤ most
+  pub many : from < j → 64 ≤ length (trace_of (slice_range segments from j))
+
+-- no segments
+pub no-length : (segments : List SegmentView) (from : ℕ) → length (trace_of (slice_range segments from from)) ≡ 0
+no-length segments from = let none : from - from ≡ 0 = omega arith in ap (λ n. length (trace_of (take n (drop from segments)))) none
+
+pub bare-none : (segments : List SegmentView) (from n at : ℕ) → n ≡ 0 → marks_from at (take n (drop from segments)) ≡ []
+bare-none segments from n at none = ap (λ n. marks_from at (take n (drop from segments))) none
+
+pub IsPartTo-none : (segments : List SegmentView) (from most : ℕ) → from ≤ length segments → IsPartTo segments from most from
+IsPartTo-none segments from most within =
+    let none = no-length segments from in
+    record {
+      order = omega arith;
+      within = within;
+      bare = λ at. bare-none segments (from + 1) (from - (from + 1)) at (omega arith);
+      fits = omega arith;
+      many = λ lt. omega arith;
+    }
+
+-- a segment more
+pub length-next : (segments : List SegmentView) (from i len : ℕ) (s : SegmentView) (ops : List Operation) → length (trace_of (slice_range segments from i)) ≡ len → from ≤ i → i < length segments
+    → s ≡ get_or segments i s → ops ≡ s.ops → length (trace_of (slice_range segments from (i + 1))) ≡ len + length ops
+length-next segments from i len s ops long le lt is same =
+    let back : from + (i - from) ≡ i = omega arith in
+    let next : i + 1 - from ≡ i - from + 1 = omega arith in
+    let here : s ≡ get_or (drop from segments) (i - from) s = is ∙ ap (λ n. get_or segments n s) (sym back) ∙ sym (get_or-drop from segments (i - from) s) in
+    ap (λ n. length (trace_of (take n (drop from segments)))) next
+    ∙ length-trace_of-next (drop from segments) (i - from) s (omega (arith, length-drop from segments)) here
+    ∙ ap (λ n. n + length (ops_of s)) long ∙ ap (λ xs. len + length xs) (sym same)

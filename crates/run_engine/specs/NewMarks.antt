@@ -15,10 +15,17 @@ pub record AreNeighbours (marks : List ℕ) (g : ℕ) : Type 0 where
   pub at : ℕ
   pub marks_are : marks ≡ before ++ at ∷ (at + g) ∷ after
 
--- how far a new checkpoint is behind the one before it: up to 64, or as far as an old stretch or a guess is long
+-- g operations are an old stretch between neighbouring checkpoints, or the first of one that has more than 64
+pub record IsFirstPart (marks : List ℕ) (g : ℕ) : Type 0 where
+  pub long : ℕ
+  pub neighbours : AreNeighbours marks long
+  pub within : g ≤ long
+  pub whole : long ≤ 64 → g ≡ long
+
+-- how far a new checkpoint is behind the one before it: up to 64, or as far as an old stretch serves, or as a guess is long
 pub record IsGap (old : Reusable) (g : ℕ) : Type 0 where
   pub some : 0 < g
-  pub small : (g ≤ 64) ⊎ (AreNeighbours old.marks g ⊎ IsAsLong old.guesses g)
+  pub small : (g ≤ 64) ⊎ (IsFirstPart old.marks g ⊎ IsAsLong old.guesses g)
 
 -- the positions lead from r to `to`, each a gap behind the one before it
 abbrev pub LeadTo : Reusable → ℕ → List ℕ → ℕ → Type 0

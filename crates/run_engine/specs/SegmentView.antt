@@ -8,14 +8,16 @@ use Rattle.trace_types.specs.contracts.outcomes.Outcome as outcome
 use Rattle.ownership_model.specs.State.{State}
 use Rattle.object_heap.specs.StateCode.{state_code}
 
--- operations with their outcomes, and the state where they begin, if it is kept
+-- operations with their outcomes, and the state where they begin, if it is kept: as a checkpoint, or as an anchor, of which no call tells
 pub record SegmentView : Type 0 where
   pub mark : Option State
+  pub anchor : Option State
   pub ops : List Operation
   pub outcomes : List Outcome
 
 -- by which a proof tells segments apart
 abbrev pub segment_code : Coded SegmentView
 segment_code =
-    code_by (Option State × (List Operation × List Outcome)) (coded× (coded_option state_code) (coded× (coded_list op.the_row.coded) (coded_list outcome.the_row.coded)))
-    (λ s. (s.mark, (s.ops, s.outcomes))) (λ p. record { mark = p.0; ops = p.1.0; outcomes = p.1.1 }) (λ _. refl)
+    code_by (Option State × (Option State × (List Operation × List Outcome)))
+    (coded× (coded_option state_code) (coded× (coded_option state_code) (coded× (coded_list op.the_row.coded) (coded_list outcome.the_row.coded))))
+    (λ s. (s.mark, (s.anchor, (s.ops, s.outcomes)))) (λ p. record { mark = p.0; anchor = p.1.0; ops = p.1.1.0; outcomes = p.1.1.1 }) (λ _. refl)

@@ -28,9 +28,10 @@ abbrev pub marks_from : ℕ → List SegmentView → List ℕ
 marks_from at [] = []
 marks_from at (s ∷ segments) = mark_here at s.mark ++ marks_from (at + length (ops_of s)) segments
 
--- the segment's checkpoint, if it is kept, is the state m, and its outcomes are those from there
+-- the segment's checkpoint, if it is kept, is the state m, and so is its anchor, and its outcomes are those from there
 pub record IsSegmentFrom (m : State) (s : SegmentView) : Type 0 where
   pub mark : IfSome s.mark (λ n. n ≡ m)
+  pub anchor : IfSome s.anchor (λ n. n ≡ m)
   pub outcomes : s.outcomes ≡ outcomes_from m (ops_of s)
 
 -- the segments are a replay from m
@@ -89,9 +90,9 @@ pub record IsPiece (start : State) (ops : List Operation) (segments : List Segme
   pub state : end ≡ end_from start (take len ops)
   pub marks : (at : ℕ) → marks_from at segments ≡ at ∷ []
 
--- operations that go on from a state, with no checkpoint where they begin
-abbrev pub bare_segment : State → List Operation → SegmentView
-bare_segment start ops = record { mark = None; ops = ops; outcomes = outcomes_from start ops }
+-- operations that go on from a state, with no checkpoint where they begin, but maybe an anchor
+abbrev pub bare_segment : Option State → State → List Operation → SegmentView
+bare_segment anchor start ops = record { mark = None; anchor = anchor; ops = ops; outcomes = outcomes_from start ops }
 
 -- the positions of all checkpoints: the end is one
 abbrev pub all_marks : List SegmentView → List ℕ

@@ -9,14 +9,15 @@ use Rattle.run_engine.specs.HeadAndTail.{AreShared}
 use Rattle.run_engine.specs.Marks.{IsGreatest}
 use Rattle.run_engine.specs.Bounds.{AgreesAt}
 use Rattle.op_step.specs.Chunk.{Chunk}
-use Rattle.run_engine.specs.NewMarks.{AreNeighbours}
+use Rattle.run_engine.specs.NewMarks.{IsFirstPart}
 use Rattle.run_engine.specs.Memo.{IsAmong, AreSome}
 
--- an old stretch between neighbouring checkpoints begins with the state, and has the first `len` of the operations
+-- an old stretch between neighbouring checkpoints begins with the state and has the first `len` of the operations: all of them are its
+-- own, or if it has more than 64 its first ones
 pub record IsOldStretch (old : List Operation) (marks : List ℕ) (start : State) (ops : List Operation) (len : ℕ) : Type 0 where
-  pub place : AreNeighbours marks len
-  pub start_is : start ≡ end_from nothing_held (take place.at old)
-  pub ops_are : take len (drop place.at old) ≡ take len ops
+  pub place : IsFirstPart marks len
+  pub start_is : start ≡ end_from nothing_held (take place.neighbours.at old)
+  pub ops_are : take len (drop place.neighbours.at old) ≡ take len ops
 
 -- an old stretch begins with the state and has the first `len` of the operations, or one of the chunks does
 abbrev pub IsKnown : List Operation → List ℕ → List (ℕ × Chunk) → State → List Operation → ℕ → Type 0

@@ -1,5 +1,6 @@
 //! The replay of a trace, and that of an edited one beside an old run.
 pub mod ahead;
+pub mod anchors;
 pub mod converge;
 pub mod divergence;
 pub mod fresh;

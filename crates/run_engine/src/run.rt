@@ -50,7 +50,8 @@ use trace_types::trace::Trace;
 /// The replay of a trace, with its outcomes and heaps at some positions, its checkpoints. Contracts see the trace and
 /// the rising positions of the checkpoints, 0 and the end among them.
 ///
-/// The outcomes, the end and each checkpoint are those of the trace's replay. The versions of a run share what they have
+/// The outcomes, the end and each checkpoint are those of the trace's replay. A long run has anchors as well: some heaps spread over it, of which no
+/// call tells, from which an edit's replay goes on. The versions of a run share what they have
 /// in common: an edit copies no operation of a stretch that stays.
 #[derive(Drop)]
 pub struct Run {

@@ -17,14 +17,14 @@ left [] segments = segments
 left (gone ∷ more) [] = []
 left (gone ∷ more) (s ∷ segments) = cleared_if gone s ∷ left more segments
 
--- the segment, with what is laid over it exchanged in its checkpoint
+-- the segment, with what is laid over it exchanged in its checkpoint and its anchor
 abbrev pub laid_over : Option Remains → SegmentView → SegmentView
 laid_over None s = s
 laid_over (Some x) s = exchanged x s
 
--- with the exchange made the checkpoint, if there is one, is sound
+-- with the exchange made the checkpoint, if there is one, is sound, and so is the anchor
 abbrev pub IsSoundBelow : Remains → SegmentView → Type 0
-IsSoundBelow x s = IfSome s.mark (λ m. IsSound (patched m x) [])
+IsSoundBelow x s = IfSome s.mark (λ m. IsSound (patched m x) []) × IfSome s.anchor (λ m. IsSound (patched m x) [])
 
 -- so is each of the segments over which something is laid
 abbrev pub AreSoundBelow : Option Remains → List SegmentView → Type 0

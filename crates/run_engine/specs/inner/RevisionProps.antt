@@ -22,6 +22,7 @@ same_mark-prop m (Some n) x y = Coded-set state_code n m x y
 IsSegmentFrom-prop : (m : State) (s : SegmentView) → IsProp (IsSegmentFrom m s)
 IsSegmentFrom-prop m s x y = λ i. record {
   mark = same_mark-prop m s.mark x.mark y.mark i;
+  anchor = same_mark-prop m s.anchor x.anchor y.anchor i;
   outcomes = Coded-set (coded_list outcome.the_row.coded) _ _ x.outcomes y.outcomes i;
 }
 

@@ -99,16 +99,25 @@ fn next_cut(
     ensures len { IfOk result (λ f. f.len ≡ prefix.len + length next.items) }
     ensures metered { IsMetered meter.old meter.new 0 (length next.items) }
 {
-    let known = found(alloc, &prefix.end, &next, prefix.behind.number(), shelf)?;
+    let is_anchored = prefix.anchoring.is_due(prefix.len);
+    let known = found(
+        alloc,
+        &prefix.end,
+        &next,
+        prefix.behind.number(),
+        is_anchored,
+        shelf,
+    )?;
     if let Some(piece) = known {
         let prefix = joined(alloc, prefix, piece)?;
         return Ok(prefix);
     }
     if is_among(inner_name(ops, prefix.len), &prefix.answered) {
-        let prefix = replayed_on(alloc, prefix, next, meter)?;
+        let anchor = prefix.anchoring.anchor(&prefix.end, prefix.len);
+        let prefix = replayed_on(alloc, prefix, next, anchor, meter)?;
         return Ok(prefix);
     }
-    let piece = stepped(alloc, &prefix.end, next, meter)?;
+    let piece = stepped(alloc, &prefix.end, next, is_anchored, meter)?;
     let prefix = joined(alloc, prefix, piece)?;
     Ok(prefix)
 }

@@ -83,7 +83,15 @@ fn next_piece(
     }
     let len = (to - prefix.len).min(STRIDE);
     let next = revision.ops.copies(alloc, prefix.len, prefix.len + len)?;
-    let known = found(alloc, &prefix.end, &next, prefix.behind.number(), shelf)?;
+    let is_anchored = prefix.anchoring.is_due(prefix.len);
+    let known = found(
+        alloc,
+        &prefix.end,
+        &next,
+        prefix.behind.number(),
+        is_anchored,
+        shelf,
+    )?;
     if let Some(piece) = known {
         return Ok((piece, fork));
     }
@@ -92,7 +100,7 @@ fn next_piece(
         let edited = prefix.len + piece.len;
         return Ok((piece, Fork { edited, base }));
     }
-    let piece = stepped(alloc, &prefix.end, next, meter)?;
+    let piece = stepped(alloc, &prefix.end, next, is_anchored, meter)?;
     Ok((piece, fork))
 }
 
@@ -226,6 +234,7 @@ fn spliced(
         fresh: prefix.fresh,
         behind: Behind::Nothing,
         answered: prefix.answered,
+        anchoring: prefix.anchoring,
     })
 }
 

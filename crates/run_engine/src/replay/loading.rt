@@ -9,6 +9,7 @@ ghost use Rattle.run_engine.specs.GivenUp.{given_up, name_at, names_at, IsTouche
 ghost use Rattle.run_engine.specs.inner.Loaded.{is_given_up, kept_below, loaded_view};
 ghost use Rattle.run_engine.specs.inner.Metered.{IsMetered};
 
+use crate::replay::anchors::Anchoring;
 use crate::replay::fresh::Fresh;
 use crate::replay::origin::{Behind, Origin};
 use crate::replay::prefix::{Prefix, STRIDE, joined, replayed_on, stepped};
@@ -21,7 +22,7 @@ use std::collections::BTreeSet;
 use trace_types::ops::Op;
 use trace_types::trace::Trace;
 
-/// Replays operations, with checkpoints at the multiples of 64, but for those that are given up.
+/// Replays operations, with checkpoints at the multiples of 64, but for those that are given up, and with anchors if there are many.
 pub fn loaded(
     alloc: Global,
     ops: &[Op],
@@ -42,15 +43,18 @@ pub fn loaded(
         fresh: Fresh::none(alloc),
         behind: Behind::Nothing,
         answered: BTreeSet::new(alloc),
+        anchoring: Anchoring::loaded(ops.len()),
     };
     while prefix.len < ops.len() {
         let at = prefix.len;
         let to = at + (ops.len() - at).min(STRIDE);
         let copies = copy_ops(alloc, &ops[at..to])?;
         if is_given_up(flags, at) {
-            prefix = replayed_on(alloc, prefix, copies, meter)?;
+            let anchor = prefix.anchoring.anchor(&prefix.end, at);
+            prefix = replayed_on(alloc, prefix, copies, anchor, meter)?;
         } else {
-            let mut piece = stepped(alloc, &prefix.end, copies, meter)?;
+            let is_anchored = prefix.anchoring.is_due(at);
+            let mut piece = stepped(alloc, &prefix.end, copies, is_anchored, meter)?;
             // of a whole trace no chunk is remembered, and one that stayed would keep its heaps
             piece.origin = Origin::Old;
             prefix = joined(alloc, prefix, piece)?;

@@ -14,6 +14,7 @@ ghost use Rattle.run_engine.specs.inner.Placed.{IsPlaced, IsNext};
 ghost use Rattle.run_engine.specs.declared.replay.origin.Behind.TheVariants.{Stepped};
 ghost use Rattle.run_engine.specs.inner.Metered.{IsMetered};
 
+use crate::replay::anchors::Anchoring;
 use crate::replay::fresh::Fresh;
 use crate::replay::origin::{Behind, Origin};
 use crate::segments::blocks::Segments;
@@ -29,7 +30,7 @@ use trace_types::ops::Op;
 pub const STRIDE: usize = 64;
 
 /// The prefix of a trace that was replayed so far: its segments, the heap after them, and how many operations they have. Beside them the
-/// chunks that were stepped for it, what is known to end with that heap, and the names that the shelf has answered.
+/// chunks that were stepped for it, what is known to end with that heap, the names that the shelf has answered, and where the next anchor is due.
 #[derive(Drop)]
 pub struct Prefix {
     pub segments: Segments,
@@ -38,32 +39,37 @@ pub struct Prefix {
     pub fresh: Fresh,
     pub behind: Behind,
     pub answered: BTreeSet<u32>,
+    pub anchoring: Anchoring,
 }
 
-/// What a replay goes on with: its segments, the heap after them, how many operations they have, and where they come from.
+/// What a replay goes on with: its segments, the heap after them, how many operations they have, where they come from, and whether the old run
+/// has an anchor where they end.
 #[derive(Drop)]
 pub struct NextStretch {
     pub segments: Segments,
     pub end: Heap,
     pub len: usize,
     pub origin: Origin,
+    pub to_anchor: bool,
 }
 
 impl NextStretch {
-    /// A chunk to go on with. Whether it was stepped, or which of the shelf's it is, is for the caller to say.
-    pub fn of(alloc: Global, chunk: &ChunkRun) -> Result<Self, AllocError>
+    /// A chunk to go on with, with an anchor where it begins if that is wanted. Whether it was stepped, or which of the shelf's it is, is for
+    /// the caller to say.
+    pub fn of(alloc: Global, chunk: &ChunkRun, is_anchored: bool) -> Result<Self, AllocError>
         requires { 0 < length chunk.now.ops }
         ensures piece { IfOk result
             (λ p. IsPiece chunk.now.start chunk.now.ops p.segments p.end p.len) }
         ensures whole { IfOk result (λ p. p.len ≡ length chunk.now.ops) }
         ensures end { IfOk result (λ p. p.end ≡ end_from chunk.now.start chunk.now.ops) }
     {
-        let segments = Segments::empty(alloc).push(alloc, Segment::of(alloc, chunk)?)?;
+        let segments = Segments::empty(alloc).push(alloc, Segment::of(alloc, chunk, is_anchored)?)?;
         Ok(NextStretch {
             segments,
             end: chunk.end().share()?,
             len: chunk.ops().len(),
             origin: Origin::Old,
+            to_anchor: false,
         })
     }
 }
@@ -85,21 +91,28 @@ pub fn joined(alloc: Global, prefix: Prefix, next: NextStretch) -> Result<Prefix
     let segments = prefix.segments.append(alloc, next.segments)?;
     let mut fresh = prefix.fresh;
     let behind = fresh.go_on(prefix.behind, next.origin)?;
+    let len = prefix.len + next.len;
+    let anchoring = prefix
+        .anchoring
+        .behind(prefix.len)
+        .anew(len, next.to_anchor);
     Ok(Prefix {
         segments,
         end: next.end,
-        len: prefix.len + next.len,
+        len,
         fresh,
         behind,
         answered: prefix.answered,
+        anchoring,
     })
 }
 
-/// Steps all the operations, to go on with their chunk.
+/// Steps all the operations, to go on with their chunk, with an anchor where they begin if that is wanted.
 pub fn stepped(
     alloc: Global,
     heap: &Heap,
     ops: Vec<Op>,
+    is_anchored: bool,
     meter: &mut Meter,
 ) -> Result<NextStretch, AllocError>
     requires some { 0 < length ops.items }
@@ -112,18 +125,19 @@ pub fn stepped(
     ensures next { (chunks : List (ℕ × Chunk)) → IfOk result (IsNext chunks heap.now) }
 {
     let chunk = run_of(alloc, heap, ops, meter)?;
-    let mut piece = NextStretch::of(alloc, &chunk)?;
+    let mut piece = NextStretch::of(alloc, &chunk, is_anchored)?;
     piece.origin = Origin::Stepped(chunk);
     Ok(piece)
 }
 
 /// A chunk that the shelf has, which begins with this heap and has these operations, to go on with. The heap may be known to be that at
-/// which the shelf's chunk with a number ends.
+/// which the shelf's chunk with a number ends. It gets an anchor where it begins if that is wanted.
 pub fn found(
     alloc: Global,
     heap: &Heap,
     ops: &[Op],
     before: Option<u64>,
+    is_anchored: bool,
     shelf: &mut MarkShelf,
 ) -> Result<Option<NextStretch>, AllocError>
     requires some { 0 < length ops.now }
@@ -141,24 +155,25 @@ pub fn found(
     let Some(found) = shelf.find_behind(heap, ops, before) else {
         return Ok(None);
     };
-    let mut piece = NextStretch::of(alloc, &found.chunk)?;
+    let mut piece = NextStretch::of(alloc, &found.chunk, is_anchored)?;
     piece.origin = Origin::Shelf(found.number);
     Ok(Some(piece))
 }
 
 /// Goes on behind a prefix by operations, all of which are stepped on the prefix's own heap: they have no checkpoint where they begin, and
-/// no chunk.
+/// no chunk, but an anchor if one is given.
 pub fn replayed_on(
     alloc: Global,
     prefix: Prefix,
     ops: Vec<Op>,
+    anchor: Option<Heap>,
     meter: &mut Meter,
 ) -> Result<Prefix, AllocError>
     requires fits { prefix.len + length ops.items < 2 ^ 64 }
     requires distinct { IsTrue (has_distinct_numbers ops.items) }
     requires unused { AreUnused prefix.end ops.items }
     ensures segments { IfOk result
-        (λ p. p.segments ≡ prefix.segments ++ bare_segment prefix.end ops.items ∷ []) }
+        (λ p. p.segments ≡ prefix.segments ++ bare_segment anchor prefix.end ops.items ∷ []) }
     ensures end { IfOk result (λ p. p.end ≡ end_from prefix.end ops.items) }
     ensures len { IfOk result (λ p. p.len ≡ prefix.len + length ops.items) }
     ensures answered { IfOk result (λ p. p.answered ≡ prefix.answered) }
@@ -167,9 +182,10 @@ pub fn replayed_on(
     ensures metered { IsMetered meter.old meter.new 0 (length ops.items) }
 {
     let len = prefix.len + ops.len();
+    let anchoring = prefix.anchoring.behind(prefix.len);
     prefix.end.show_sound();
     let (outcomes, end) = replay_from(alloc, prefix.end, &ops, meter)?;
-    let bare = Segment::bare(alloc, ops, outcomes)?;
+    let bare = Segment::bare(alloc, anchor, ops, outcomes)?;
     let segments = prefix.segments.push(alloc, bare)?;
     Ok(Prefix {
         segments,
@@ -178,5 +194,6 @@ pub fn replayed_on(
         fresh: prefix.fresh,
         behind: Behind::Nothing,
         answered: prefix.answered,
+        anchoring,
     })
 }

@@ -13,6 +13,7 @@ ghost use Rattle.run_engine.specs.inner.Placed.{IsPlaced};
 
 use crate::editing::head_and_tail::{head, tail};
 use crate::editing::listing::Listing;
+use crate::replay::anchors::Anchoring;
 use crate::replay::converge::{Seam, converge};
 use crate::replay::fresh::Fresh;
 use crate::replay::origin::Behind;
@@ -31,6 +32,8 @@ struct Restart {
     index: usize,
     at: usize,
     heap: Heap,
+    // whether there is an anchor as well
+    is_anchored: bool,
 }
 
 // The greatest kept checkpoint at or before the head. The end of the old run is one.
@@ -44,17 +47,20 @@ fn greatest_mark(alloc: Global, revision: &Revision, head: usize) -> Result<Rest
             index: old.len(),
             at: len,
             heap: revision.end.share()?,
+            is_anchored: false,
         });
     }
     let (last, _) = old.last_from(head);
     let mut i = last + 1;
     while i > 0 {
         i -= 1;
-        if let Some(mark) = old.at(i).mark() {
+        let segment = old.at(i);
+        if let Some(mark) = segment.mark() {
             return Ok(Restart {
                 index: i,
                 at: old.position(i),
                 heap: mark.heap(alloc)?,
+                is_anchored: segment.is_anchored(),
             });
         }
     }
@@ -63,6 +69,7 @@ fn greatest_mark(alloc: Global, revision: &Revision, head: usize) -> Result<Rest
         index: 0,
         at: 0,
         heap: Heap::empty(),
+        is_anchored: false,
     })
 }
 
@@ -84,6 +91,7 @@ fn prefix(alloc: Global, revision: &Revision, head: usize) -> Result<Prefix, All
         fresh: Fresh::none(alloc),
         behind: Behind::Nothing,
         answered: BTreeSet::new(alloc),
+        anchoring: Anchoring::edited(revision.ops.len(), restart.at, restart.is_anchored),
     })
 }
 

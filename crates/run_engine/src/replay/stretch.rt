@@ -1,17 +1,17 @@
 //! Stretches of an old run that serve again.
-ghost use Rattle.std.specs.Prelude.{◌≡◌, ℕ, List, [], ◌+◌, ◌-◌, ◌<◌, ◌≤◌, IfOk, IfSome, IsTrue, length, take, drop, slice_range};
+ghost use Rattle.std.specs.Prelude.{◌≡◌, ◌⊎◌, ℕ, List, [], ◌+◌, ◌-◌, ◌<◌, ◌≤◌, IfOk, IfSome, IsTrue, length, take, drop, slice_range};
 ghost use Rattle.ownership_model.specs.State.{nothing_held};
 ghost use Rattle.ownership_model.specs.Step.{end_from};
 ghost use Rattle.run_engine.specs.Segments.{trace_of, marks_from, BeginsMarked, IsRun, IsPiece};
 ghost use Rattle.run_engine.specs.inner.OldRun.{old_trace, old_marks, new_trace};
 ghost use Rattle.run_engine.specs.inner.Divergence.{IsFork};
-ghost use Rattle.run_engine.specs.NewMarks.{AreNeighbours};
+ghost use Rattle.run_engine.specs.NewMarks.{IsFirstPart};
 ghost use Rattle.op_step.specs.Chunk.{Chunk};
 ghost use Rattle.run_engine.specs.Steps.{IsOldStretch};
 ghost use Rattle.run_engine.specs.inner.Placed.{IsNext};
 
 use crate::replay::origin::Origin;
-use crate::replay::prefix::NextStretch;
+use crate::replay::prefix::{NextStretch, STRIDE};
 use crate::replay::progress::Fork;
 use crate::replay::revision::Revision;
 use crate::segments::blocks::Segments;
@@ -19,9 +19,11 @@ use crate::segments::seek::segment_at;
 use agreement::Checkpoint;
 use object_heap::Heap;
 use std::alloc::{AllocError, Global};
+use trace_types::limits::MAX_OPS;
 
 /// The old stretch between neighbouring checkpoints that the operations from `at` on come from, if it begins with this heap,
-/// they are all of it, and it doesn't go past `to`; and how many old operations stand before its end.
+/// they are all of it, and it doesn't go past `to`; and how many old operations stand before its end. If it has more of them than serve, its
+/// first ones serve as far as the last anchor before.
 ///
 /// Where the fork stands just there, the heap is that of the stretch, and no heap is compared: as it is behind another old stretch.
 pub fn old_stretch(
@@ -37,7 +39,7 @@ pub fn old_stretch(
     requires heap { heap.now ≡ end_from nothing_held (take at (new_trace revision.now)) }
     requires fork { IsFork revision.now fork }
     ensures gap { IfOk result
-        (λ o. IfSome o (λ p. AreNeighbours (old_marks revision.now) p.0.len)) }
+        (λ o. IfSome o (λ p. IsFirstPart (old_marks revision.now) p.0.len)) }
     ensures stretch { IfOk result (λ o. IfSome o (λ p.
         IsOldStretch (old_trace revision.now) (old_marks revision.now) heap.now
         (slice_range (new_trace revision.now) at to) p.0.len)) }
@@ -61,15 +63,12 @@ pub fn old_stretch(
     let Some(mark) = old.at(i).mark() else {
         return Ok(None);
     };
-    let j = next_marked(old, i + 1);
+    let j = reach(old, i, (alike.len - before).min(to - at));
+    if j == i {
+        return Ok(None);
+    }
     let segments = old.stretch(alloc, i, j)?;
     let len = segments.ops_len();
-    if len > alike.len - before {
-        return Ok(None);
-    }
-    if len > to - at {
-        return Ok(None);
-    }
     let is_same = has_heap(alloc, &mark, heap, fork.is_at(at, from))?;
     if !is_same {
         return Ok(None);
@@ -82,6 +81,7 @@ pub fn old_stretch(
         end: after,
         len,
         origin: Origin::Old,
+        to_anchor: j < old.len() && old.at(j).is_anchored(),
     };
     Ok(Some((piece, from + len)))
 }
@@ -117,22 +117,38 @@ pub fn may_begin(revision: &Revision, at: usize) -> bool
     }
 }
 
-// The next segment from an index on that has a checkpoint, or the end.
-fn next_marked(segments: &Segments, from: usize) -> usize
-    requires { from ≤ length segments.now }
+// As far as which segment an old stretch serves that begins at the one at an index, where so many operations are wanted at most: to the next
+// checkpoint, or the end, or else to the last anchor before. If not even 64 operations stand before that, none serves, and it is the index.
+fn reach(segments: &Segments, from: usize, most: usize) -> usize
+    requires index { from < length segments.now }
+    requires few { length (trace_of segments.now) ≤ MAX_OPS }
     ensures order { from ≤ result }
     ensures within { result ≤ length segments.now }
-    ensures none { (at : ℕ) → marks_from at (take (result - from) (drop from segments.now)) ≡ [] }
+    ensures none { (at : ℕ) →
+        marks_from at (take (result - (from + 1)) (drop (from + 1) segments.now)) ≡ [] }
+    ensures fits { length (trace_of (slice_range segments.now from result)) ≤ most }
+    ensures whole { from < result → BeginsMarked (drop result segments.now)
+        ⊎ (64 ≤ length (trace_of (slice_range segments.now from result))) }
 {
+    let mut last = from;
+    let mut len = 0;
     for i in from..segments.len() {
-        if segments.at(i).is_marked() {
-            return i;
+        len += segments.at(i).ops().len();
+        if len > most {
+            return last;
+        }
+        let next = i + 1;
+        if next == segments.len() || segments.at(next).is_marked() {
+            return next;
+        }
+        if len >= STRIDE && segments.at(next).is_anchored() {
+            last = next;
         }
     }
-    segments.len()
+    last
 }
 
-// The heap where the segment at j begins, or the end, if it is kept.
+// The heap where the segment at j begins, or the end, if it is kept, as a checkpoint or as an anchor.
 fn heap_at(
     alloc: Global,
     segments: &Segments,
@@ -141,15 +157,18 @@ fn heap_at(
 ) -> Result<Option<Heap>, AllocError>
     requires within { j ≤ length segments.now }
     requires run { IsRun segments.now end.now }
-    ensures heap { IfOk result
+    ensures { IfOk result
         (λ o. IfSome o (λ h. h ≡ end_from nothing_held (trace_of (take j segments.now)))) }
-    ensures kept { IfOk result (λ o. IfSome o (λ h. BeginsMarked (drop j segments.now))) }
 {
     if j == segments.len() {
         return Ok(Some(end.share()?));
     }
-    match segments.at(j).mark() {
+    let segment = segments.at(j);
+    if let Some(mark) = segment.mark() {
+        return Ok(Some(mark.heap(alloc)?));
+    }
+    match segment.anchor() {
         None => Ok(None),
-        Some(mark) => Ok(Some(mark.heap(alloc)?)),
+        Some(anchor) => Ok(Some(anchor.heap(alloc)?)),
     }
 }

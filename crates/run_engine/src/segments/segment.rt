@@ -1,6 +1,7 @@
 //! A segment of a run.
-ghost use Rattle.std.specs.Prelude.{◌≡◌, IfOk, None, Some};
-ghost use Rattle.std.specs.Option.{option_copied};
+ghost use Rattle.std.specs.Prelude.{◌≡◌, IfOk, None, Some, if◌then◌else◌};
+ghost use Rattle.std.specs.Arc.{arc_value};
+ghost use Rattle.std.specs.Option.{option_copied, option_map};
 ghost use Rattle.trace_types.specs.Trace.{place_of};
 ghost use Rattle.ownership_model.specs.Step.{outcomes_from};
 ghost use Rattle.run_engine.specs.inner.Parts.{AreBetween};
@@ -16,11 +17,12 @@ use trace_types::ops::Op;
 use trace_types::outcomes::Outcome;
 use trace_types::sequence::Sequence;
 
-/// Operations with their outcomes, and the heap where they begin, if that is kept. The versions of a run share both: one
-/// more of a segment takes two counts.
+/// Operations with their outcomes, and the heap where they begin, if that is kept: as a checkpoint, as an anchor, or as both. The versions
+/// of a run share all of it: one more of a segment takes a count for each.
 #[derive(Drop)]
 pub struct Segment {
     mark: Option<Arc<Heap>>,
+    anchor: Option<Arc<Heap>>,
     body: Arc<Replayed>,
     bounds: Bounds,
     last: Option<u32>,
@@ -41,6 +43,7 @@ impl Model for Segment {
 
     ghost view = { λ s. record {
       mark = option_map arc_value s.mark;
+      anchor = option_map arc_value s.anchor;
       ops = (arc_value s.body).ops.items;
       outcomes = (arc_value s.body).outcomes;
     } };
@@ -51,64 +54,77 @@ impl Model for Segment {
 }
 
 impl Segment {
-    /// The segment of a chunk that was replayed, with a checkpoint where it begins. It shares the operations and outcomes.
-    pub fn of(alloc: Global, chunk: &ChunkRun) -> Result<Self, AllocError>
+    /// The segment of a chunk that was replayed, with a checkpoint where it begins, which is an anchor as well if that is wanted. It shares
+    /// the operations and outcomes.
+    pub fn of(alloc: Global, chunk: &ChunkRun, is_anchored: bool) -> Result<Self, AllocError>
         ensures { IfOk result
             (λ s. s ≡ record {
               mark = Some chunk.now.start;
+              anchor = if is_anchored then Some chunk.now.start else None;
               ops = chunk.now.ops;
               outcomes = outcomes_from chunk.now.start chunk.now.ops;
             }) }
     {
+        let mark = Arc::new(alloc, chunk.start().share()?)?;
+        let anchor = if is_anchored {
+            Some(Arc::try_clone(&mark)?)
+        } else {
+            None
+        };
         Ok(Segment {
-            mark: Some(Arc::new(alloc, chunk.start().share()?)?),
+            mark: Some(mark),
+            anchor,
             body: Arc::try_clone(chunk.replayed())?,
             bounds: bounds_of(chunk.ops()),
             last: last_id(chunk.ops()),
         })
     }
 
-    /// The segment of operations with these outcomes, and with no checkpoint.
+    /// The segment of operations with these outcomes, with no checkpoint, but with an anchor if one is given.
     pub fn bare(
         alloc: Global,
+        anchor: Option<Heap>,
         ops: Vec<Op>,
         outcomes: Sequence<Outcome>,
     ) -> Result<Self, AllocError>
         ensures { IfOk result
-            (λ s. s ≡ record { mark = None; ops = ops.items; outcomes = outcomes }) }
+            (λ s. s ≡ record { mark = None; anchor = anchor; ops = ops.items; outcomes = outcomes }) }
     {
+        let anchor = match anchor {
+            None => None,
+            Some(heap) => Some(Arc::new(alloc, heap)?),
+        };
         let bounds = bounds_of(&ops);
         let last = last_id(&ops);
         Ok(Segment {
             mark: None,
+            anchor,
             body: Arc::new(alloc, Replayed { ops, outcomes })?,
             bounds,
             last,
         })
     }
 
-    /// The same segment again, whose checkpoint, operations and outcomes are shared.
+    /// The same segment again, all of which is shared.
     pub fn share(&self) -> Result<Self, AllocError>
         ensures { IfOk result (λ s. s ≡ self.now) }
     {
-        let mark = match &self.mark {
-            None => None,
-            Some(heap) => Some(Arc::try_clone(heap)?),
-        };
         Ok(Segment {
-            mark,
+            mark: share_of(&self.mark)?,
+            anchor: share_of(&self.anchor)?,
             body: Arc::try_clone(&self.body)?,
             bounds: self.bounds,
             last: self.last,
         })
     }
 
-    /// The same operations and outcomes, which are shared, with no checkpoint.
+    /// The same segment again, all of which is shared, with no checkpoint: an anchor stays.
     pub fn without_mark(&self) -> Result<Self, AllocError>
         ensures { IfOk result (λ s. s ≡ record self.now { mark = None }) }
     {
         Ok(Segment {
             mark: None,
+            anchor: share_of(&self.anchor)?,
             body: Arc::try_clone(&self.body)?,
             bounds: self.bounds,
             last: self.last,
@@ -153,7 +169,17 @@ impl Segment {
         self.body.outcomes.as_slice()
     }
 
-    /// The heap where it begins, if that is kept.
+    /// The anchor where it begins, if there is one.
+    pub fn anchor(&self) -> Option<&Heap>
+        ensures { option_copied result ≡ self.now.anchor }
+    {
+        match &self.anchor {
+            None => None,
+            Some(heap) => Some(heap),
+        }
+    }
+
+    /// The checkpoint where it begins, if that is kept.
     pub fn mark(&self) -> Option<&Heap>
         ensures { option_copied result ≡ self.now.mark }
     {
@@ -161,6 +187,16 @@ impl Segment {
             None => None,
             Some(heap) => Some(heap),
         }
+    }
+}
+
+// A heap once more, if there is one.
+fn share_of(heap: &Option<Arc<Heap>>) -> Result<Option<Arc<Heap>>, AllocError>
+    ensures { IfOk result (λ o. option_map arc_value o ≡ option_map arc_value heap.now) }
+{
+    match heap {
+        None => Ok(None),
+        Some(heap) => Ok(Some(Arc::try_clone(heap)?)),
     }
 }
 

@@ -104,4 +104,22 @@ impl<'a> Standing<'a> {
             Some(exchange) => Some(Checkpoint::under(heap, exchange)),
         }
     }
+
+    /// Whether there is an anchor where it begins.
+    pub fn is_anchored(&self) -> bool
+        ensures { result ≡ is_some self.now.anchor }
+    {
+        self.segment.anchor().is_some()
+    }
+
+    /// The anchor where it begins, if there is one.
+    pub fn anchor(&self) -> Option<Checkpoint<'a>>
+        ensures { result ≡ self.now.anchor }
+    {
+        let heap = self.segment.anchor()?;
+        match self.laid {
+            None => Some(Checkpoint::of(heap)),
+            Some(exchange) => Some(Checkpoint::under(heap, exchange)),
+        }
+    }
 }

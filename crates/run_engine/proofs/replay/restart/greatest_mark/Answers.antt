@@ -21,8 +21,8 @@ pub overflow_add-i : goal.overflow_add-i
 overflow_add-i c =
     omega (arith, c.last_from-last.ensures.few)
 
-pub at-requires : goal.at-requires
-at-requires c =
+pub at-segment-requires : goal.at-segment-requires
+at-segment-requires c =
     let before : c.args.head < length (trace_of c.args.revision.now.segments.now) = omega (arith, c.base_len-len.ensures, ap length c.args.revision.now.holds.base, c.if-len-head.false) in
     let top = (c.last_from-last.ensures.last.inside before).0 in
     omega (arith, top, c.loop-i.invariant.within, c.loop-i-test.true)
@@ -41,10 +41,10 @@ returns-in-Some c =
     let more = c.loop-i-test.true in
     let within = c.loop-i.invariant.within in
     rw c.in_ok-heap.ensures
-    (IsRestart-there c.args.revision.now.segments.now c.args.head c.loop-i.i (c.loop-i.i - 1) c.position.result c.last_from-last.result.0 c.last_from-last.result.1 c.in-Some.mark c.in-Some.mark c.at.result
-    c.args.revision.now.holds.kept.run.replay c.loop-i.invariant.first (omega arith) lt c.at.ensures (sym c.in-Some.ensures)
+    (IsRestart-there c.args.revision.now.segments.now c.args.head c.loop-i.i (c.loop-i.i - 1) c.position.result c.last_from-last.result.0 c.last_from-last.result.1 c.in-Some.mark c.in-Some.mark c.at-segment.result
+    c.args.revision.now.holds.kept.run.replay c.loop-i.invariant.first (omega arith) lt c.at-segment.ensures (sym c.in-Some.ensures)
     c.position.ensures c.last_from-last.ensures.last (omega arith)
-    (mark-is c.args.revision.now.segments.now (c.loop-i.i - 1) c.at.result c.in-Some.mark c.args.revision.now.holds.kept.run.replay lt c.at.ensures c.in-Some.ensures))
+    (mark-is c.args.revision.now.segments.now (c.loop-i.i - 1) c.at-segment.result c.in-Some.mark c.args.revision.now.holds.kept.run.replay lt c.at-segment.ensures c.in-Some.ensures))
 
 pub loop-i-preserved : goal.loop-i-preserved
 loop-i-preserved c =
@@ -54,7 +54,7 @@ loop-i-preserved c =
     let more = c.loop-i-test.true in
     let within = c.loop-i.invariant.within in
     record {
-      first = AreFirst-bare c.args.revision.now.segments.now c.args.head c.loop-i.i (c.loop-i.i - 1) c.at.result c.loop-i.invariant.first (omega arith) lt c.at.ensures (ap is_some (sym c.in_default.ensures));
+      first = AreFirst-bare c.args.revision.now.segments.now c.args.head c.loop-i.i (c.loop-i.i - 1) c.at-segment.result c.loop-i.invariant.first (omega arith) lt c.at-segment.ensures (ap is_some (sym c.in_default.ensures));
       within = omega arith;
     }
 

@@ -1,0 +1,143 @@
+//! Runs with more operations than a desk has checkpoints for: the replay of an edit goes on from an anchor.
+ghost use Rattle.std.specs.Prelude.{◌<◌};
+
+use crate::kept::{nulls, step_over, with_kept};
+use crate::meetings::leaked_pairs;
+use crate::random_edits::{Dice, edited_often, rolled_trace};
+use crate::small_runs::{is_replay, with_shelf};
+use crate::small_traces::{batch, change, insertion, new};
+use edit_desk::{KEPT_CHUNKS, KEPT_MARKS, KEPT_NAMES};
+use mark_shelf::MarkShelf;
+use op_step::Meter;
+use run_engine::Run;
+use std::alloc::Global;
+use std::process::Abort;
+use std::test::Fail;
+use trace_types::edits::Batch;
+use trace_types::kinds::{Field, Kind};
+use trace_types::trace::Trace;
+
+// Lends the run of a trace, loaded over a shelf as a desk loads it.
+fn with_loaded<F: FnOnce(&mut Run, &mut MarkShelf) -> Result<(), Fail>>(
+    alloc: Global,
+    trace: &Trace,
+    judge: F,
+) -> Result<(), Fail>
+    requires { F.IsAlwaysCallable judge }
+{
+    with_shelf(alloc, KEPT_MARKS, KEPT_CHUNKS, KEPT_NAMES, |shelf| {
+        with_kept(alloc, trace, shelf, judge)
+    })
+}
+
+// How many operations stand from a place on up to the next checkpoint.
+fn to_next(alloc: Global, run: &Run, place: usize) -> Result<u64, Fail> {
+    let marks = run.marks(alloc)?;
+    for mark in marks.as_slice() {
+        if *mark > place {
+            return Ok(mark.saturating_sub(place) as u64);
+        }
+    }
+    Ok(0)
+}
+
+// An edit at a place, and whether no more is stepped for it than stands between two anchors, and from there up to the next checkpoint.
+fn is_near(
+    alloc: Global,
+    run: &mut Run,
+    shelf: &mut MarkShelf,
+    edits: &Batch,
+    place: usize,
+) -> Result<bool, Fail> {
+    let behind = to_next(alloc, run, place)?;
+    let steps = step_over(alloc, run, edits, shelf)?;
+    Ok(steps <= behind.saturating_add(6_500))
+}
+
+// One operation more behind each place.
+fn assert_near(
+    rt: &impl Abort,
+    alloc: Global,
+    run: &mut Run,
+    shelf: &mut MarkShelf,
+) -> Result<(), Fail> {
+    for turn in 0..40u32 {
+        let after = 130_000 - 3_100 * turn;
+        let edits = batch(
+            alloc,
+            insertion(after, 300_000 + turn, Kind::Counts { h: 5 })?,
+        )?;
+        assert!(rt; is_near(alloc, run, shelf, &edits, after as usize)?);
+    }
+    assert!(rt; is_replay(alloc, run)?);
+    Ok(())
+}
+
+#[test]
+fn edits_go_on_from_anchors(rt: HostRuntime) -> Result<(), Fail> {
+    let alloc = rt.alloc();
+    let trace = nulls(alloc, 1, 200_000)?;
+    with_loaded(alloc, &trace, |run, shelf| {
+        assert_near(&rt, alloc, run, shelf)
+    })
+}
+
+// The edits of an object's fields there and back, in turn: what leaks differs to the end, but nothing else.
+fn refitted(alloc: Global, turn: u32) -> Result<Batch, Fail>
+    requires { turn < 10 }
+{
+    let id = 98 + 19_200 * (turn / 2);
+    if turn % 2 == 0 {
+        return batch(
+            alloc,
+            change(id, new(alloc, 1, &[Field::Null, Field::Null])?)?,
+        );
+    }
+    batch(alloc, change(id, new(alloc, 1, &[Field::Null])?)?)
+}
+
+// The anchors behind each have what differs exchanged when they serve.
+fn assert_exchanged(
+    rt: &impl Abort,
+    alloc: Global,
+    run: &mut Run,
+    shelf: &mut MarkShelf,
+) -> Result<(), Fail> {
+    for turn in 0..10u32 {
+        let edits = refitted(alloc, turn)?;
+        let place = 97 + 19_200 * (turn / 2);
+        assert!(rt; is_near(alloc, run, shelf, &edits, place as usize)?);
+        assert!(rt; is_replay(alloc, run)?);
+    }
+    Ok(())
+}
+
+#[test]
+fn anchors_under_remains(rt: HostRuntime) -> Result<(), Fail> {
+    let alloc = rt.alloc();
+    let trace = leaked_pairs(alloc, 100_000)?;
+    with_loaded(alloc, &trace, |run, shelf| {
+        assert_exchanged(&rt, alloc, run, shelf)
+    })
+}
+
+// Edits of the run of a long random trace, over a shelf with few names.
+fn edited_over_few(alloc: Global, dice: &mut Dice, trace: &Trace) -> Result<u32, Fail> {
+    let mut shelf = MarkShelf::new(alloc, 40, 32, 32)?;
+    let mut run = Run::load_kept(alloc, trace, &mut shelf, &mut Meter::new())?;
+    let tally = edited_often(alloc, dice, &mut run, &mut shelf, 66_000)?;
+    Ok(tally.made())
+}
+
+#[test]
+fn edited_long_runs_are_replays(rt: HostRuntime) -> Result<(), Fail> {
+    let alloc = rt.alloc();
+    let mut made = 0u32;
+    for seed in 0..6u32 {
+        let mut dice = Dice::of(seed);
+        let trace = rolled_trace(alloc, &mut dice, 66_000)?;
+        made = made.saturating_add(edited_over_few(alloc, &mut dice, &trace)?);
+    }
+    assert!(rt; made >= 60);
+    Ok(())
+}
