@@ -1,6 +1,7 @@
 //! Where a long run has anchors: heaps from which a replay may go on where no checkpoint is kept.
 ghost use Rattle.std.specs.Prelude.{◌≡◌, ◌<◌, IfSome};
 
+use crate::segments::blocks::Segments;
 use object_heap::Heap;
 
 /// A run of at most so many operations has none: a desk has room for a checkpoint at each of its cuts.
@@ -11,6 +12,10 @@ const LOADED: usize = 32;
 
 /// How many it has about where all of it is stepped for an edit. After an anchor all nodes that change are copied once, so these are fewer.
 const STEPPED: usize = 8;
+
+/// An edit of a run that has more of them makes none. One edit makes at most one for each of the 64 places of a batch, and some ten more, so no run
+/// has more than 256.
+const ENOUGH: usize = 176;
 
 /// From which position on an anchor is due, and how far behind one the next is.
 #[derive(Clone, Copy, Debug, PartialEq, Eq)]
@@ -27,8 +32,14 @@ impl Anchoring {
     }
 
     /// Of a run of so many operations that is edited: a replay goes on at a position that the old run has an anchor at, or maybe not.
-    pub fn edited(len: usize, at: usize, is_anchored: bool) -> Self {
+    pub fn edited(old: &Segments, len: usize, at: usize, is_anchored: bool) -> Self {
         let apart = apart_of(len, STEPPED);
+        if apart == usize::MAX || old.anchors() > ENOUGH {
+            return Anchoring {
+                due: usize::MAX,
+                apart: usize::MAX,
+            };
+        }
         let due = at.saturating_add(apart);
         Anchoring { due, apart }.anew(at, is_anchored)
     }

@@ -91,7 +91,12 @@ fn prefix(alloc: Global, revision: &Revision, head: usize) -> Result<Prefix, All
         fresh: Fresh::none(alloc),
         behind: Behind::Nothing,
         answered: BTreeSet::new(alloc),
-        anchoring: Anchoring::edited(revision.ops.len(), restart.at, restart.is_anchored),
+        anchoring: Anchoring::edited(
+            revision.segments,
+            revision.ops.len(),
+            restart.at,
+            restart.is_anchored,
+        ),
     })
 }
 

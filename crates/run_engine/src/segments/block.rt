@@ -103,6 +103,17 @@ impl Block {
         self.ops
     }
 
+    /// How many of them have an anchor.
+    pub fn anchors(&self) -> usize {
+        let mut count = 0usize;
+        for segment in self.stored() {
+            if segment.anchor().is_some() {
+                count = count.saturating_add(1);
+            }
+        }
+        count
+    }
+
     // The segments, as they are shared: what is given up here stands there, and nothing is laid over them.
     fn stored(&self) -> &[Segment]
         ensures { map ops_of result.now ≡ map ops_of self.now }

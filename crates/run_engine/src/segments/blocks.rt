@@ -82,6 +82,15 @@ impl Segments {
         self.ops
     }
 
+    /// How many of them have an anchor. All are gone over.
+    pub fn anchors(&self) -> usize {
+        let mut count = 0usize;
+        for block in &self.blocks {
+            count = count.saturating_add(block.anchors());
+        }
+        count
+    }
+
     /// The segment at an index, as it stands here. Its block is found by halves.
     pub fn at(&self, index: usize) -> Standing<'_>
         requires { index < length self.now }
