@@ -221,9 +221,9 @@ stretch-part a b c s m len mark bare long whole =
             ∙ ap (λ ps. marks_from 0 a ++ (p ∷ ps)) (next.is ∙ ap (λ q. q ∷ next.after) place);
       };
       within = omega arith;
-      whole = λ few. ⊎_elim
-          (λ (begins : BeginsMarked c). let none : next.gap ≡ 0 = next.first begins in omega arith)
-          (λ (many : 64 ≤ len). omega arith)
+      enough = ⊎_elim
+          (λ (begins : BeginsMarked c). inl (let none : next.gap ≡ 0 = next.first begins in let same : len ≡ len + next.gap = omega (arith, none) in same))
+          (λ (many : 64 ≤ len). inr many)
           whole;
     }
 

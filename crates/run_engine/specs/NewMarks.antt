@@ -15,12 +15,12 @@ pub record AreNeighbours (marks : List ℕ) (g : ℕ) : Type 0 where
   pub at : ℕ
   pub marks_are : marks ≡ before ++ at ∷ (at + g) ∷ after
 
--- g operations are an old stretch between neighbouring checkpoints, or the first of one that has more than 64
+-- g operations are an old stretch between neighbouring checkpoints, or its first ones, if these are at least 64
 pub record IsFirstPart (marks : List ℕ) (g : ℕ) : Type 0 where
   pub long : ℕ
   pub neighbours : AreNeighbours marks long
   pub within : g ≤ long
-  pub whole : long ≤ 64 → g ≡ long
+  pub enough : (g ≡ long) ⊎ (64 ≤ g)
 
 -- how far a new checkpoint is behind the one before it: up to 64, or as far as an old stretch serves, or as a guess is long
 pub record IsGap (old : Reusable) (g : ℕ) : Type 0 where

@@ -8,7 +8,7 @@ use Rattle.trace_types.specs.contracts.outcomes.Outcome as outcome
 use Rattle.ownership_model.specs.State.{State}
 use Rattle.object_heap.specs.StateCode.{state_code}
 
--- operations with their outcomes, and the state where they begin, if it is kept: as a checkpoint, or as an anchor, of which no call tells
+-- operations with their outcomes, and the state where they begin, if it is kept: as a checkpoint, as an anchor, of which no call tells, or as both
 pub record SegmentView : Type 0 where
   pub mark : Option State
   pub anchor : Option State

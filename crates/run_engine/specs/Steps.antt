@@ -13,7 +13,7 @@ use Rattle.run_engine.specs.NewMarks.{IsFirstPart}
 use Rattle.run_engine.specs.Memo.{IsAmong, AreSome}
 
 -- an old stretch between neighbouring checkpoints begins with the state and has the first `len` of the operations: all of them are its
--- own, or if it has more than 64 its first ones
+-- own, or its first ones, if these are at least 64
 pub record IsOldStretch (old : List Operation) (marks : List ℕ) (start : State) (ops : List Operation) (len : ℕ) : Type 0 where
   pub place : IsFirstPart marks len
   pub start_is : start ≡ end_from nothing_held (take place.neighbours.at old)

@@ -71,7 +71,7 @@ impl Anchoring {
         self
     }
 
-    /// The heap at a position as an anchor, if one is due there. Out of memory there is none.
+    /// The heap at a position as an anchor, if one is due there and the heap can be shared.
     pub fn anchor(self, heap: &Heap, at: usize) -> Option<Heap>
         ensures { IfSome result (λ h. h ≡ heap.now) }
     {
