@@ -8,6 +8,7 @@ use crate::lines::{Lines, Order, Plan, Spaces};
 use crate::mixed::mixed;
 use crate::random::Random;
 use crate::requests::{BATCHES, Requests};
+use crate::server::server;
 use crate::wide::wide;
 use crate::words::{Job, Sizes};
 use command_serve::{serve_replay, serve_script, serve_whatif};
@@ -37,6 +38,7 @@ pub fn run(alloc: Global, job: Job, sizes: Sizes) -> Result<Digest, AllocError> 
         Job::Session => jobs.session()?,
         Job::SessionShort => jobs.session_short()?,
         Job::SessionChain => jobs.session_chain()?,
+        Job::SessionRecorded => jobs.session_recorded()?,
         Job::ReplayRecorded => jobs.replay_recorded()?,
         Job::All => jobs.all()?,
     }
@@ -67,7 +69,8 @@ impl Jobs {
         self.whatif()?;
         self.session()?;
         self.session_short()?;
-        self.session_chain()
+        self.session_chain()?;
+        self.session_recorded()
     }
 
     fn replay(&mut self) -> Result<(), AllocError> {
@@ -156,6 +159,21 @@ impl Jobs {
         for _ in 0..self.sizes.traces {
             let plan = self.plan();
             self.singles(chain(self.alloc, plan)?, self.sizes.requests, FRONT)?;
+        }
+        Ok(())
+    }
+
+    fn session_recorded(&mut self) -> Result<(), AllocError> {
+        let Sizes {
+            operations,
+            requests,
+            ..
+        } = self.sizes;
+        for _ in 0..self.sizes.traces {
+            let mut plan = self.plan();
+            plan.order = Order::HeadFirst;
+            plan.is_recorded = true;
+            self.singles(server(self.alloc, plan)?, requests, operations)?;
         }
         Ok(())
     }

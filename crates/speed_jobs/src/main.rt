@@ -15,6 +15,7 @@ mod places;
 mod random;
 mod recorder;
 mod requests;
+mod server;
 mod text;
 mod wide;
 mod words;

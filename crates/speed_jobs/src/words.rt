@@ -15,6 +15,8 @@ pub enum Job {
     SessionShort,
     /// `session_chain`: chains that are edited near the front, so that all must be replayed.
     SessionChain,
+    /// `session_recorded`: the trace of a server whose sessions leak, as a recorder writes it, with requests of one edit, anywhere.
+    SessionRecorded,
     /// `all`: each of these.
     All,
     /// `replay_recorded`: mixed traces as recorders write them, with a text in each line that says where it was done.
@@ -59,6 +61,7 @@ fn job_named(name: &str) -> Option<Job> {
         "session" => Some(Job::Session),
         "session_short" => Some(Job::SessionShort),
         "session_chain" => Some(Job::SessionChain),
+        "session_recorded" => Some(Job::SessionRecorded),
         "all" => Some(Job::All),
         "replay_recorded" => Some(Job::ReplayRecorded),
         _ => None,
