@@ -6,6 +6,7 @@ use crate::meetings::leaked_pairs;
 use crate::random_edits::{Dice, edited_often, rolled_trace};
 use crate::small_runs::{is_replay, with_shelf};
 use crate::small_traces::{batch, change, insertion, new};
+use crate::untouched::with_pairs;
 use edit_desk::{KEPT_CHUNKS, KEPT_MARKS, KEPT_NAMES};
 use mark_shelf::MarkShelf;
 use op_step::Meter;
@@ -118,6 +119,37 @@ fn anchors_under_remains(rt: HostRuntime) -> Result<(), Fail> {
     let trace = leaked_pairs(alloc, 100_000)?;
     with_loaded(alloc, &trace, |run, shelf| {
         assert_exchanged(&rt, alloc, run, shelf)
+    })
+}
+
+// A handle more, from the middle of what has checkpoints on: all behind is taken over. Then so many operations are stepped at the front
+// that these checkpoints are given up.
+fn assert_kept(
+    rt: &impl Abort,
+    alloc: Global,
+    run: &mut Run,
+    shelf: &mut MarkShelf,
+) -> Result<(), Fail> {
+    let more = batch(alloc, insertion(66_000, 300_000, Kind::Null { to: 30 })?)?;
+    assert_eq!(rt; step_over(alloc, run, &more, shelf)?, 65);
+    let first = batch(alloc, insertion(10, 300_001, Kind::Counts { h: 5 })?)?;
+    let steps = step_over(alloc, run, &first, shelf)?;
+    assert!(rt; steps > 60_000);
+    let late = batch(alloc, insertion(75_000, 300_002, Kind::Counts { h: 5 })?)?;
+    assert!(rt; is_near(alloc, run, shelf, &late, 75_002)?);
+    assert!(rt; is_replay(alloc, run)?);
+    Ok(())
+}
+
+#[test]
+fn anchors_stay_where_stretches_are_taken_over(rt: HostRuntime) -> Result<(), Fail> {
+    let alloc = rt.alloc();
+    let trace = with_pairs(alloc, 80_000)?;
+    // the last 256 checkpoints stay
+    with_shelf(alloc, 256, 32, 32, |shelf| {
+        with_kept(alloc, &trace, shelf, |run, shelf| {
+            assert_kept(&rt, alloc, run, shelf)
+        })
     })
 }
 

@@ -3,7 +3,7 @@ ghost use Rattle.std.specs.Prelude.{IfOk, IfSome};
 ghost use Rattle.ownership_model.specs.Step.{end_from};
 ghost use Rattle.mark_shelf.specs.Joints.{EndsWith};
 
-use crate::kept::{chunk, dangling, first_made, nulls, over, pairs};
+use crate::kept::{chunk, clones, dangling, first_made, nulls, over};
 use crate::small_runs::{edited_alone, with_run};
 use crate::small_traces::two;
 use mark_shelf::{Found, MarkShelf};
@@ -91,7 +91,7 @@ fn assert_known(
 fn stepped_chunks_are_joined(rt: HostRuntime) -> Result<(), Fail> {
     let alloc = rt.alloc();
     let edits = first_made(alloc, 0)?;
-    with_run(alloc, pairs(alloc)?, |run| {
+    with_run(alloc, clones(alloc, 192)?, |run| {
         let mut shelf = MarkShelf::new(alloc, 8, 8, 8)?;
         assert_joined(&rt, alloc, run, &edits, &mut shelf, 192)
     })
@@ -143,7 +143,7 @@ fn assert_found_in_turn(
 #[test]
 fn chunks_found_in_turn_are_joined(rt: HostRuntime) -> Result<(), Fail> {
     let alloc = rt.alloc();
-    with_run(alloc, pairs(alloc)?, |run| {
+    with_run(alloc, clones(alloc, 192)?, |run| {
         let mut shelf = MarkShelf::new(alloc, 8, 8, 8)?;
         assert_found_in_turn(&rt, alloc, run, &mut shelf)
     })

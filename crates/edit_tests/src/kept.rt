@@ -229,11 +229,18 @@ fn chunk_behind_a_checkpoint_given_up(rt: HostRuntime) -> Result<(), Fail> {
     })
 }
 
-// An object, and behind it two stretches and a half of others that come and go.
-fn fewer_pairs(alloc: Global) -> Result<Trace, Fail> {
+// An object, and behind it clones of its handle that come and go: each stretch touches what the first operation made.
+pub fn clones(alloc: Global, last: u32) -> Result<Trace, Fail> {
     let mut trace = Trace::new(alloc);
     add(&mut trace, 1, new(alloc, 0, &[])?)?;
-    add_pairs(alloc, &mut trace, 2, 160)?;
+    for id in 2..=last {
+        let kind = if id % 2 == 0 {
+            Kind::Clone { from: 0, to: 9 }
+        } else {
+            Kind::Drop { h: 9 }
+        };
+        add(&mut trace, id, kind)?;
+    }
     Ok(trace)
 }
 
@@ -251,11 +258,12 @@ fn assert_last_serve(
     Ok(())
 }
 
-// Of the three chunks that an edit steps a shelf with room for two keeps the last ones: only the first is stepped again.
+// Two stretches and a half touch the object. Of the three chunks that an edit steps a shelf with room for two keeps the last ones: only the
+// first is stepped again.
 #[test]
 fn last_chunks_of_an_edit_stay(rt: HostRuntime) -> Result<(), Fail> {
     let alloc = rt.alloc();
-    with_run(alloc, fewer_pairs(alloc)?, |run| {
+    with_run(alloc, clones(alloc, 160)?, |run| {
         with_shelf(alloc, 8, 2, 8, |shelf| {
             assert_last_serve(&rt, alloc, run, shelf)
         })

@@ -31,3 +31,5 @@ mod runs;
 mod small_runs;
 #[cfg(test)]
 mod small_traces;
+#[cfg(test)]
+mod untouched;

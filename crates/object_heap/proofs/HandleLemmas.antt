@@ -7,15 +7,18 @@ use Rattle.std.specs.Cmp.{nat_cmp_total}
 use Rattle.std.specs.FinMap.{FinMap, get, insert, remove, empty, keys, same_map, nat_cmp-IsAntisymmetric}
 use Rattle.share_tree.specs.Updates.{set_at}
 use Rattle.trace_types.specs.declared.slots.Holding.{Holding}
-use Rattle.ownership_model.specs.Scopes.{times_in, entered, left, kept_or_entered}
+use Rattle.ownership_model.specs.Scopes.{scope_of, times_in, entered, left, kept_or_entered}
 use Rattle.ownership_model.proofs.Counting.{get_inserted, get_removed, same_number}
 use Rattle.object_heap.specs.declared.place.Place.{Place}
 use Rattle.object_heap.specs.declared.held.Held.{Held}
-use Rattle.object_heap.specs.Links.{AreLinked, scopes_at, earlier_at, earlier_in, set_later_at, set_earlier_at, with_later, with_earlier, relinked_later, last_without}
+use Rattle.object_heap.specs.Links.{AreLinked, scopes_at, earlier_at, earlier_in, label_at, label_in, set_later_at, set_earlier_at, with_later, with_earlier, relinked_later, relinked_earlier, last_without, entered_above, IsAbove, above_of, last_with}
 use Rattle.object_heap.specs.HandlesView.{HandlesView, holdings_of, places_of, handles_of}
 use Rattle.object_heap.proofs.LinkLemmas.{empty_linked}
 use Rattle.object_heap.proofs.EarlierLemmas.{earlier_linked}
+use Rattle.object_heap.proofs.LabelLemmas.{label_linked}
 use Rattle.object_heap.proofs.EnterLemmas.{entered_linked}
+use Rattle.object_heap.proofs.AboveLemmas.{later_at, later_linked, above_linked}
+use Rattle.object_heap.proofs.UnderLemmas.{AreOnce}
 use Rattle.object_heap.proofs.LeaveLemmas.{absent, places_without, left_linked, left_same}
 use Rattle.object_heap.proofs.ViewLemmas.{viewed, linked_as, linked_to, same_trees}
 use Rattle.object_heap.proofs.TableLemmas.{same_some, get-part, part-empty, keys-part, part_insert, part_remove, part_stays}
@@ -143,6 +146,9 @@ module _ (m : FinMap nat_cmp Held) (last : FinMap nat_cmp ℕ) (v : HandlesView)
   pub earlier_found : (q : ℕ) (x : Option Held) → get m q ≡ x → earlier_at (place_at x) ≡ earlier_in q v.scopes
   earlier_found q x is = ap (λ (o : Option Held). earlier_at (place_at o)) (sym is) ∙ ap earlier_at (sym (place_seen m q)) ∙ earlier_linked (places_of m) last v.scopes linked_seen q
 
+  pub label_found : (q : ℕ) (x : Option Held) → get m q ≡ x → label_at (place_at x) ≡ label_in q v.scopes
+  label_found q x is = ap (λ (o : Option Held). label_at (place_at o)) (sym is) ∙ ap label_at (sym (place_seen m q)) ∙ label_linked (places_of m) last v.scopes linked_seen q
+
   -- what is not held stands in no scope
   pub stands_nowhere : (q : ℕ) → get m q ≡ None → times_in q v.scopes ≡ 0
   stands_nowhere q none = absent (places_of m) last v.scopes q (times_in q v.scopes) linked_seen (place_seen m q ∙ ap place_at none) refl
@@ -160,6 +166,20 @@ module _ (m : FinMap nat_cmp Held) (last : FinMap nat_cmp ℕ) (v : HandlesView)
   entered_kept new new_last t h o is none places lasts =
       linked_as (places_of new) (insert (relinked_later (places_of m) o (Some h)) h (record { label = t; earlier = o; later = None })) new_last (insert last t h) (entered t h v.scopes) places lasts
       (entered_linked (places_of m) last v.scopes t h linked_seen (stands_nowhere h (kept_none h none)) o is)
+
+  -- or just above another handle of it
+  pub above_kept : (new : FinMap nat_cmp Held) (new_last : FinMap nat_cmp ℕ) (t h : ℕ) (o a : Option ℕ) → IsAbove o t v.scopes → a ≡ above_of o None (scope_of t v.scopes) → get v.holdings h ≡ None
+      → places_of new ≡ insert (relinked_earlier (relinked_later (places_of m) o (Some h)) a (Some h)) h (record { label = t; earlier = o; later = a }) → new_last ≡ last_with last t h a
+      → AreLinked (places_of new) new_last (entered_above t h o v.scopes)
+  above_kept new new_last t h o a stands is none places lasts =
+      linked_as (places_of new) (insert (relinked_earlier (relinked_later (places_of m) o (Some h)) a (Some h)) h (record { label = t; earlier = o; later = a })) new_last (last_with last t h a) (entered_above t h o v.scopes) places lasts
+      (above_linked (places_of m) last v.scopes t h o linked_seen (stands_nowhere h (kept_none h none)) stands a is)
+
+  pub later_found : (t d : ℕ) (x : Option Held) → get m d ≡ x → IsAbove (Some d) t v.scopes → later_at (place_at x) ≡ above_of (Some d) None (scope_of t v.scopes)
+  later_found t d x is stands = ap (λ (o : Option Held). later_at (place_at o)) (sym is) ∙ ap later_at (sym (place_seen m d)) ∙ later_linked (places_of m) last v.scopes linked_seen t d stands
+
+  pub once_seen : AreOnce v.scopes
+  once_seen = linked_seen.once
 
   -- a handle of this place left its scope
   pub left_kept : (new : FinMap nat_cmp Held) (new_last : FinMap nat_cmp ℕ) (h : ℕ) (x : Held) → get m h ≡ Some x → places_of new ≡ places_without (places_of m) h x.place.earlier x.place.later

@@ -27,11 +27,11 @@ abbrev place_past : ℕ → Place → Option Place → Option Place
 place_past h x None = None
 place_past h x (Some p) = Some (record { label = p.label; earlier = past h x.earlier p.earlier; later = past h x.later p.later })
 
-abbrev later_set : Option ℕ → Option Place → Option Place
+abbrev pub later_set : Option ℕ → Option Place → Option Place
 later_set link None = None
 later_set link (Some p) = Some (record { label = p.label; earlier = p.earlier; later = link })
 
-abbrev earlier_set : Option ℕ → Option Place → Option Place
+abbrev pub earlier_set : Option ℕ → Option Place → Option Place
 earlier_set link None = None
 earlier_set link (Some p) = Some (record { label = p.label; earlier = link; later = p.later })
 
@@ -57,11 +57,11 @@ earlier_set_at places e q link (Some p) false is other =
     get_inserted places e (record { label = p.label; earlier = link; later = p.later }) q
     ∙ ap (λ b. if b then Some (record { label = p.label; earlier = link; later = p.later }) else get places q) other
 
-get_later : (places : FinMap nat_cmp Place) (x link : Option ℕ) (q : ℕ) → get (relinked_later places x link) q ≡ (if is_at x q then later_set link (get places q) else get places q)
+pub get_later : (places : FinMap nat_cmp Place) (x link : Option ℕ) (q : ℕ) → get (relinked_later places x link) q ≡ (if is_at x q then later_set link (get places q) else get places q)
 get_later places None link q = refl
 get_later places (Some e) link q = later_set_at places e q link (get places e) (e == q) refl refl
 
-get_earlier : (places : FinMap nat_cmp Place) (x link : Option ℕ) (q : ℕ) → get (relinked_earlier places x link) q ≡ (if is_at x q then earlier_set link (get places q) else get places q)
+pub get_earlier : (places : FinMap nat_cmp Place) (x link : Option ℕ) (q : ℕ) → get (relinked_earlier places x link) q ≡ (if is_at x q then earlier_set link (get places q) else get places q)
 get_earlier places None link q = refl
 get_earlier places (Some n) link q = earlier_set_at places n q link (get places n) (n == q) refl refl
 

@@ -5,6 +5,7 @@ pub mod GainLemmas
 pub mod PendingLemmas
 pub mod DropLemmas
 pub mod ReleaseLemmas
+pub mod CoverLemmas
 pub mod ToldLemmas
 pub mod LinkLemmas
 pub mod ViewLemmas
@@ -14,9 +15,13 @@ pub mod LessLemmas
 pub mod FieldLemmas
 pub mod HuskLemmas
 pub mod EarlierLemmas
+pub mod LabelLemmas
 pub mod EnterLemmas
 pub mod NeighbourLemmas
 pub mod LeaveLemmas
+pub mod AboveLemmas
+pub mod UnderLemmas
 pub mod HandleLemmas
 pub mod ExchangeLemmas
 pub mod IslandLemmas
+pub mod LayLemmas

@@ -9,3 +9,4 @@ pub mod HandlesView
 pub mod Exchange
 pub mod Descent
 pub mod NamesCounted
+pub mod Laid

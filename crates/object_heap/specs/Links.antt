@@ -1,6 +1,6 @@
 -- How a heap holds the scopes of threads: each handle that is held has its label and its neighbours, and each label the handle
 -- that was made last.
-use Rattle.std.specs.Prelude.{ℕ, zero, suc, ◌≡◌, ◌==◌, ◌≤◌, List, [], ◌∷◌, ◌++◌, map, Option, Some, None, if◌then◌else◌}
+use Rattle.std.specs.Prelude.{ℕ, zero, suc, ◌≡◌, ◌==◌, ◌≤◌, nat_le, List, [], ◌∷◌, ◌++◌, map, Option, Some, None, if◌then◌else◌}
 use Rattle.std.specs.Ordering.{nat_cmp}
 use Rattle.std.specs.FinMap.{FinMap, get, insert, remove, entries, len}
 use Rattle.trace_types.specs.declared.slots.Scoped.{Scoped}
@@ -16,6 +16,39 @@ first_of (h ∷ hs) = Some h
 abbrev pub earlier_in : ℕ → List Scoped → Option ℕ
 earlier_in h [] = None
 earlier_in h (s ∷ ss) = if s.handle == h then first_of (scope_of s.label ss) else earlier_in h ss
+
+-- the label in whose scope the handle stands
+abbrev pub label_in : ℕ → List Scoped → Option ℕ
+label_in h [] = None
+label_in h (s ∷ ss) = if s.handle == h then Some s.label else label_in h ss
+
+-- the handles under this one in its scope, those made before it, the last made first
+abbrev pub under : ℕ → List Scoped → List ℕ
+under h [] = []
+under h (s ∷ ss) = if s.handle == h then scope_of s.label ss else under h ss
+
+-- a handle put into a list just before another one, or at its end
+abbrev pub put_above : Option ℕ → ℕ → List ℕ → List ℕ
+put_above None h xs = xs ++ h ∷ []
+put_above (Some b) h [] = h ∷ []
+put_above (Some b) h (x ∷ xs) = if x == b then h ∷ x ∷ xs else x ∷ put_above (Some b) h xs
+
+-- a handle enters the scope of the label just above another one that stands there, or at its end
+abbrev pub entered_above : ℕ → ℕ → Option ℕ → List Scoped → List Scoped
+entered_above t h None [] = record { label = t; handle = h } ∷ []
+entered_above t h None (s ∷ ss) = if nat_le s.label t then s ∷ entered_above t h None ss else record { label = t; handle = h } ∷ s ∷ ss
+entered_above t h (Some b) [] = record { label = t; handle = h } ∷ []
+entered_above t h (Some b) (s ∷ ss) = if s.handle == b then record { label = t; handle = h } ∷ s ∷ ss else s ∷ entered_above t h (Some b) ss
+
+-- the handle that it is to stand above, if there is one, stands in the scope of the label
+abbrev pub IsAbove : Option ℕ → ℕ → List Scoped → Type 0
+IsAbove None t ss = Unit {0}
+IsAbove (Some b) t ss = label_in b ss ≡ Some t
+
+-- the label of a place
+abbrev pub label_at : Option Place → Option ℕ
+label_at None = None
+label_at (Some p) = Some p.label
 
 -- the handle made just before the one that has this place, of those still in the scope
 abbrev pub earlier_at : Option Place → Option ℕ
@@ -88,3 +121,14 @@ abbrev pub last_without : FinMap nat_cmp ℕ → ℕ → Option ℕ → Option �
 last_without last t earlier (Some h) = last
 last_without last t (Some h) None = insert last t h
 last_without last t None None = remove last t
+
+-- the handle that stands just above one of a list, or at its end; this one, where that is the first
+abbrev pub above_of : Option ℕ → Option ℕ → List ℕ → Option ℕ
+above_of o later [] = later
+above_of None later (x ∷ xs) = above_of None (Some x) xs
+above_of (Some b) later (x ∷ xs) = if x == b then later else above_of (Some b) (Some x) xs
+
+-- the handle made last of each label, once h has entered the scope of t under this handle: where there is none, h is the last
+abbrev pub last_with : FinMap nat_cmp ℕ → ℕ → ℕ → Option ℕ → FinMap nat_cmp ℕ
+last_with last t h None = insert last t h
+last_with last t h (Some a) = last

@@ -7,11 +7,12 @@ ghost use Rattle.trace_types.specs.declared.slots.Slot.TheVariants as slot;
 ghost use Rattle.ownership_model.specs.State.{State, is_alive, IsSound};
 ghost use Rattle.ownership_model.specs.Release.{release, after, drops, fall, is_husk, left_by, Becomes, Goes};
 ghost use Rattle.ownership_model.specs.Bounds.{IsBounded};
+ghost use Rattle.ownership_model.specs.Alike.{Covers};
 ghost use Rattle.ownership_model.specs.Footprint.{item_keys, taken};
 ghost use Rattle.object_heap.specs.Counted.{drafted, IsCounted};
 ghost use Rattle.object_heap.specs.TableView.{counters_at};
 ghost use Rattle.object_heap.specs.Drops.{DropsFirst};
-ghost use Rattle.object_heap.specs.Told.{at_once};
+ghost use Rattle.object_heap.specs.Told.{at_once, event_keys, IsItemTold};
 ghost use Rattle.object_heap.specs.Gains.{IsSetAt};
 
 use crate::counters::Counters;
@@ -29,6 +30,7 @@ use trace_types::slots::{Entry, Item, Slot};
 impl Draft {
     /// All items are pending, in order, on a list that was empty. Where the first is a strong slot, it is dropped at once: its count isn't
     /// raised only to be lowered next. Where memory runs out the draft is unspecified: let it go.
+    #[inline(always)]
     pub fn begin(
         &mut self,
         alloc: Global,
@@ -120,7 +122,8 @@ impl Draft {
         Ok(())
     }
 
-    /// As `release`, and tells the object of each item that is dropped. Where memory runs out the keys are unspecified, too.
+    /// As `release`, and tells the object of each item that is dropped, unless an event tells of it. Where memory runs out the keys are
+    /// unspecified, too.
     pub fn release_told(
         &mut self,
         alloc: Global,
@@ -138,17 +141,19 @@ impl Draft {
             ≡ events.old.items ++ (release (drafted self.old) pending.old.items).events) }
         ensures sound { OnOk result (IsSound (drafted self.new) []) }
         ensures counted { OnOk result (IsCounted self.new.objects.counts (drafted self.new) []) }
-        ensures told { OnOk result (keys.new.items
-            ≡ keys.old.items ++ flat_map item_keys (taken (drafted self.old) pending.old.items)) }
+        ensures told { OnOk result (Covers (keys.new.items ++ event_keys events.new.items)
+            (keys.old.items ++ flat_map item_keys (taken (drafted self.old) pending.old.items))) }
     {
         while let Some(item) = pending.pop_front() {
-            tell_item(item, keys)?;
+            let before = events.len();
             self.drop_item(alloc, item, pending, events)?;
+            tell_silent(item, events.len() > before, keys)?;
         }
         Ok(())
     }
 
     // Drops the first item of those that are pending.
+    #[inline(always)]
     fn drop_item(
         &mut self,
         alloc: Global,
@@ -294,6 +299,17 @@ impl Draft {
         events.push(Event::Freed(object))?;
         self.objects.free(alloc, object, part, counters)
     }
+}
+
+// Tells the object of an item that was dropped, if no event tells of it.
+#[inline(always)]
+fn tell_silent(item: Item, has_event: bool, keys: &mut Vec<Key>) -> Result<(), AllocError>
+    ensures { OnOk result (IsItemTold item has_event keys.old.items keys.new.items) }
+{
+    if has_event {
+        return Ok(());
+    }
+    tell_item(item, keys)
 }
 
 // Whether nothing names a husk any more.

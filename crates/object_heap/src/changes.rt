@@ -1,20 +1,22 @@
 //! The changes of a state, with the counts of its slots.
-ghost use Rattle.std.specs.Prelude.{◌≡◌, ◌++◌, OnOk, []};
+ghost use Rattle.std.specs.Prelude.{◌≡◌, ◌++◌, IfOk, OnOk, []};
 ghost use Rattle.std.specs.Option.{option_copied, option_map_or};
 ghost use Rattle.std.specs.FinMap as map;
 ghost use Rattle.trace_types.specs.declared.slots.Change.TheVariants as change;
 ghost use Rattle.ownership_model.specs.State.{holding_weight, entry_weight};
 ghost use Rattle.ownership_model.specs.Changes.{HasField, CanBeDone, CanChange, changed};
 ghost use Rattle.ownership_model.specs.Bounds.{IsBounded, HoldingFits, AreFew, ChangeFits, ChangesFit};
+ghost use Rattle.ownership_model.specs.Alike.{Covers};
+ghost use Rattle.ownership_model.specs.Footprint.{moved_by, moved_by_changes};
 ghost use Rattle.object_heap.specs.Counted.{drafted, IsCounted};
 ghost use Rattle.object_heap.specs.NamesCounted.{AreNamesCounted};
-ghost use Rattle.object_heap.specs.Told.{changes_keys};
 ghost use Rattle.object_heap.specs.Gains.{Changes, CountsMore, HasRoom, HasSlots};
 
 use crate::counting::{hold, hold_all, hold_holding, let_go, let_go_holding, let_go_object};
 use crate::draft::Draft;
 use crate::object::{counters_of, entry_of};
 use crate::objects::Objects;
+use crate::told::{tell_held, tell_holding};
 use crate::updates::SetField;
 use crate::weight::added;
 use ownership_model::Key;
@@ -41,7 +43,8 @@ impl Draft {
         Ok(())
     }
 
-    /// As `apply`, and tells what each change sets and moves. Where memory runs out the keys are unspecified, too.
+    /// As `apply`, and tells what each change moves or copies, but not the places that are set. Where memory runs out the keys are
+    /// unspecified, too.
     pub fn apply_told(
         &mut self,
         alloc: Global,
@@ -57,12 +60,11 @@ impl Draft {
         ensures state { OnOk result (drafted self.new ≡ changed (drafted self.old) changes.now) }
         ensures counted { OnOk result (IsCounted self.new.objects.counts (drafted self.new) []) }
         ensures bounded { OnOk result (IsBounded (drafted self.new)) }
-        ensures told { OnOk result (keys.new.items
-            ≡ keys.old.items ++ changes_keys (drafted self.old) changes.now) }
+        ensures told { OnOk result (Covers keys.new.items
+            (keys.old.items ++ moved_by_changes (drafted self.old) changes.now)) }
     {
         for change in changes {
-            self.tell_change(change, keys)?;
-            self.change(alloc, change)?;
+            self.change_told(alloc, change, keys)?;
         }
         Ok(())
     }
@@ -89,7 +91,43 @@ impl Draft {
         }
     }
 
-    // What comes is counted before what goes, so that no count is ever too small.
+    // As `change`, and tells what the change moves or copies. What stood at a handle is told as it goes, so that it isn't looked up before.
+    fn change_told(
+        &mut self,
+        alloc: Global,
+        change: &Change,
+        keys: &mut Vec<Key>,
+    ) -> Result<(), AllocError>
+        requires counted { IsCounted self.old.objects.counts (drafted self.old) [] }
+        requires bounded { IsBounded (drafted self.old) }
+        requires can { CanBeDone (drafted self.old) change.now }
+        requires fits { ChangeFits change.now }
+        ensures made { OnOk result (Changes self.old self.new change.now) }
+        ensures told { OnOk result (Covers keys.new.items
+            (keys.old.items ++ moved_by (drafted self.old) change.now)) }
+    {
+        match change {
+            Change::SetHandle(label, handle, holding) => {
+                tell_holding(holding, keys)?;
+                let held = self.replace_handle(alloc, *label, *handle, holding)?;
+                tell_held(held.as_ref(), keys)
+            }
+            Change::EndHandle(handle) => {
+                let held = self.take_handle(alloc, *handle)?;
+                tell_held(held.as_ref(), keys)
+            }
+            Change::SetCell(_, _)
+            | Change::EndCell(_)
+            | Change::SetField(_, _, _)
+            | Change::Make(_, _)
+            | Change::TurnHusk(_) => {
+                self.tell_change(change, keys)?;
+                self.change(alloc, change)
+            }
+        }
+    }
+
+    #[inline(always)]
     fn set_handle(
         &mut self,
         alloc: Global,
@@ -103,22 +141,60 @@ impl Draft {
         ensures { OnOk result (Changes self.old self.new
             (change.SetHandle label handle holding.now)) }
     {
+        let _held = self.replace_handle(alloc, label, handle, holding)?;
+        Ok(())
+    }
+
+    // A handle holds this from now on, and what it held is told. What comes is counted before what goes, so that no count is ever too small.
+    fn replace_handle(
+        &mut self,
+        alloc: Global,
+        label: u32,
+        handle: u32,
+        holding: &Holding,
+    ) -> Result<Option<Holding>, AllocError>
+        requires counted { IsCounted self.old.objects.counts (drafted self.old) [] }
+        requires bounded { IsBounded (drafted self.old) }
+        requires fits { HoldingFits holding.now }
+        ensures made { OnOk result (Changes self.old self.new
+            (change.SetHandle label handle holding.now)) }
+        ensures was { IfOk result (λ was. was ≡ map.get self.old.handles.holdings handle) }
+    {
         hold_holding(alloc, &mut self.objects, holding)?;
         let copy = holding.clone()?;
         let held = self.handles.set(alloc, label, handle, copy)?;
-        let_go_held(alloc, &mut self.objects, held.as_ref())
+        let_go_held(alloc, &mut self.objects, held.as_ref())?;
+        Ok(held)
     }
 
-    fn end_handle(&mut self, alloc: Global, handle: u32) -> Result<(), AllocError>
+    /// A handle is held no more. Where memory runs out the draft is unspecified: let it go.
+    #[inline(always)]
+    pub fn end_handle(&mut self, alloc: Global, handle: u32) -> Result<(), AllocError>
         requires counted { IsCounted self.old.objects.counts (drafted self.old) [] }
         requires can { CanBeDone (drafted self.old) (change.EndHandle handle) }
         ensures { OnOk result (Changes self.old self.new (change.EndHandle handle)) }
     {
-        let held = self.handles.end(alloc, handle)?;
-        let_go_held(alloc, &mut self.objects, held.as_ref())
+        let _held = self.take_handle(alloc, handle)?;
+        Ok(())
     }
 
-    fn set_cell(&mut self, alloc: Global, cell: u32, slot: Slot) -> Result<(), AllocError>
+    // As `end_handle`, and what it held is told.
+    #[inline(always)]
+    fn take_handle(&mut self, alloc: Global, handle: u32) -> Result<Option<Holding>, AllocError>
+        requires counted { IsCounted self.old.objects.counts (drafted self.old) [] }
+        requires can { CanBeDone (drafted self.old) (change.EndHandle handle) }
+        ensures made { OnOk result (Changes self.old self.new (change.EndHandle handle)) }
+        ensures was { IfOk result (λ was. was ≡ map.get self.old.handles.holdings handle) }
+    {
+        let held = self.handles.end(alloc, handle)?;
+        let_go_held(alloc, &mut self.objects, held.as_ref())?;
+        Ok(held)
+    }
+
+    /// A cell holds this from now on. What comes is counted before what goes, so that no count is ever too small. Where memory runs out the
+    /// draft is unspecified: let it go.
+    #[inline(always)]
+    pub fn set_cell(&mut self, alloc: Global, cell: u32, slot: Slot) -> Result<(), AllocError>
         requires counted { IsCounted self.old.objects.counts (drafted self.old) [] }
         requires bounded { IsBounded (drafted self.old) }
         requires can { CanBeDone (drafted self.old) (change.SetCell cell slot) }
@@ -131,7 +207,8 @@ impl Draft {
         self.cells.replace(alloc, cell, part, slot)
     }
 
-    fn end_cell(&mut self, alloc: Global, cell: u32) -> Result<(), AllocError>
+    /// A cell is there no more. Where memory runs out the draft is unspecified: let it go.
+    pub fn end_cell(&mut self, alloc: Global, cell: u32) -> Result<(), AllocError>
         requires counted { IsCounted self.old.objects.counts (drafted self.old) [] }
         requires can { CanBeDone (drafted self.old) (change.EndCell cell) }
         ensures { OnOk result (Changes self.old self.new (change.EndCell cell)) }

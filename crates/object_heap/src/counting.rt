@@ -98,6 +98,7 @@ pub fn let_go_all(alloc: Global, objects: &mut Objects, slots: &[Slot]) -> Resul
 }
 
 /// Counts what a handle holds.
+#[inline(always)]
 pub fn hold_holding(
     alloc: Global,
     objects: &mut Objects,

@@ -3,10 +3,11 @@ ghost use Rattle.std.specs.Prelude.{◌≡◌, ◌↔◌, ◌++◌, OnOk, IfOk, 
 ghost use Rattle.std.specs.FinMap as map;
 ghost use Rattle.ownership_model.specs.State.{nothing_held, IsSound};
 ghost use Rattle.ownership_model.specs.Bounds.{ChangesFit};
+ghost use Rattle.ownership_model.specs.Alike.{Covers};
 ghost use Rattle.ownership_model.specs.Changes.{changed, CanChange};
 ghost use Rattle.ownership_model.specs.Release.{release};
 ghost use Rattle.object_heap.specs.Counted.{drafted, IsKept};
-ghost use Rattle.object_heap.specs.Told.{release_keys};
+ghost use Rattle.object_heap.specs.Told.{release_keys, event_keys};
 
 use crate::handles::Handles;
 use crate::objects::Objects;
@@ -77,7 +78,8 @@ impl Draft {
         Ok(events)
     }
 
-    /// As `carry_out`, and tells what changes set and move, and what is then dropped. Where memory runs out the keys are unspecified, too.
+    /// As `carry_out`, and tells what changes move or copy, and what is then dropped and no event tells of. Where memory runs out the keys
+    /// are unspecified, too.
     pub fn carry_out_told(
         &mut self,
         alloc: Global,
@@ -97,8 +99,8 @@ impl Draft {
             ≡ (release (changed (drafted self.old) changes.now) pending.now).state) }
         ensures events { IfOk result (λ v. v.items ≡ (release
             (changed (drafted self.old) changes.now) pending.now).events) }
-        ensures told { OnOk result (keys.new.items
-            ≡ keys.old.items ++ release_keys (drafted self.old) changes.now pending.now) }
+        ensures told { IfOk result (λ v. Covers (keys.new.items ++ event_keys v.items)
+            (keys.old.items ++ release_keys (drafted self.old) changes.now pending.now)) }
     {
         self.apply_told(alloc, changes, keys)?;
         work.clear();

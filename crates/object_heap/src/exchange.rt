@@ -85,7 +85,8 @@ impl Draft {
         Ok(())
     }
 
-    fn take_out(&mut self, alloc: Global, object: u32) -> Result<(), AllocError>
+    /// An object goes. Where memory runs out the draft is unspecified: let it go.
+    pub fn take_out(&mut self, alloc: Global, object: u32) -> Result<(), AllocError>
         requires counted { IsCounted self.old.objects.counts (drafted self.old) [] }
         requires bounded { IsBounded (drafted self.old) }
         ensures { OnOk result (TakesOut self.old self.new object) }
@@ -94,8 +95,9 @@ impl Draft {
         self.objects.remove(alloc, object)
     }
 
-    // What comes is counted before what goes, so that no count is ever too small.
-    fn put_in(&mut self, alloc: Global, object: u32, entry: &Entry) -> Result<(), AllocError>
+    /// An object comes, whatever stood there. What comes is counted before what goes, so that no count is ever too small. Where memory runs
+    /// out the draft is unspecified: let it go.
+    pub fn put_in(&mut self, alloc: Global, object: u32, entry: &Entry) -> Result<(), AllocError>
         requires counted { IsCounted self.old.objects.counts (drafted self.old) [] }
         requires bounded { IsBounded (drafted self.old) }
         requires few { EntryFits entry.now }

@@ -3,7 +3,7 @@ ghost use Rattle.std.specs.Prelude.{◌≡◌, ◌↔◌, [], None, Some, IfOk, 
 ghost use Rattle.std.specs.Option.{option_copied};
 ghost use Rattle.std.specs.FinMap as map;
 ghost use Rattle.ownership_model.specs.Scopes.{scope_of, entered, kept_or_entered, left};
-ghost use Rattle.object_heap.specs.Links.{first_of, earlier_in, relinked_later, relinked_earlier, last_without};
+ghost use Rattle.object_heap.specs.Links.{first_of, earlier_in, label_in, above_of, IsAbove, entered_above, relinked_later, relinked_earlier, last_without, last_with};
 ghost use Rattle.object_heap.specs.HandlesView.{holdings_of, places_of};
 
 use crate::held::{Earlier, Held, Later};
@@ -90,6 +90,16 @@ impl Handles {
         }
     }
 
+    /// The label in whose scope the handle stands: that of the operation that made it.
+    pub fn label(&self, handle: u32) -> Option<u32>
+        ensures { result ≡ label_in handle self.now.scopes }
+    {
+        match self.kept.get(handle) {
+            Some(held) => Some(held.place.label),
+            None => None,
+        }
+    }
+
     /// The handles that are held, rising.
     pub fn keys(&self, alloc: Global) -> Result<Vec<u32>, AllocError>
         ensures { IfOk result (λ v. v.items ≡ map.keys self.now.holdings) }
@@ -159,6 +169,68 @@ impl Handles {
         Ok(Some(was))
     }
 
+    /// A handle that held nothing holds this, and enters the scope of the label just above another handle that stands there, or at its end.
+    /// Where memory runs out no handle is held.
+    ///
+    /// Where it enters at the end, the handles of the scope are walked.
+    pub fn enter_above(
+        &mut self,
+        alloc: Global,
+        label: u32,
+        handle: u32,
+        under: Option<u32>,
+        holding: Holding,
+    ) -> Result<(), AllocError>
+        requires free { map.get self.old.holdings handle ≡ None }
+        requires stands { IsAbove under label self.old.scopes }
+        ensures held { OnOk result (self.new.holdings
+            ≡ map.insert self.old.holdings handle holding) }
+        ensures scopes { OnOk result (self.new.scopes
+            ≡ entered_above label handle under self.old.scopes) }
+    {
+        let above = self.above(label, under);
+        let sum = self.sum.wrapping_add(added(handle, Some(&holding)));
+        let place = Place {
+            label,
+            earlier: under,
+            later: above,
+        };
+        self.sum = sum_with(sum, handle, place);
+        let held = Held { holding, place };
+        if let Err(error) = link_above(alloc, &mut self.kept, &mut self.last, handle, held) {
+            clear(&mut self.kept, &mut self.last);
+            self.sum = 0;
+            return Err(error);
+        }
+        Ok(())
+    }
+
+    // The handle that stands just above another one of the label's scope, or at its end.
+    fn above(&self, label: u32, under: Option<u32>) -> Option<u32>
+        requires { IsAbove under label self.now.scopes }
+        ensures { result ≡ above_of under None (scope_of label self.now.scopes) }
+    {
+        let Some(under) = under else {
+            return self.lowest(label);
+        };
+        match self.kept.get(under) {
+            Some(held) => held.place.later,
+            None => None,
+        }
+    }
+
+    // The handle at the end of the label's scope: the one made first, of those still there.
+    fn lowest(&self, label: u32) -> Option<u32>
+        ensures { result ≡ above_of None None (scope_of label self.now.scopes) }
+    {
+        let _ = &self.kept;
+        let mut lowest = self.last(label)?;
+        while let Some(earlier) = self.earlier(lowest) {
+            lowest = earlier;
+        }
+        Some(lowest)
+    }
+
     // A handle that held nothing holds this, and enters the scope of the label. Where memory runs out no handle is held.
     fn enter(
         &mut self,
@@ -211,6 +283,17 @@ fn sum_without(sum: u64, handle: u32, place: Place) -> u64 {
     }
 }
 
+// The sum where a handle enters this place: the one made after it has this one before it.
+fn sum_with(sum: u64, handle: u32, place: Place) -> u64 {
+    let more = sum.wrapping_add(placed(handle, place.label, place.earlier));
+    match place.later {
+        Some(later) => more
+            .wrapping_sub(placed(later, place.label, place.earlier))
+            .wrapping_add(placed(later, place.label, Some(handle))),
+        None => more,
+    }
+}
+
 // The handle is held so, and is the last of its label's scope, behind the one that was.
 fn link(
     alloc: Global,
@@ -230,6 +313,49 @@ fn link(
     set_later(alloc, kept, earlier, Some(handle))?;
     kept.insert(alloc, handle, held)?;
     last.insert(alloc, label, handle)
+}
+
+// The handle is held so, between its two neighbours. Where none is above it, it is the last of its label's scope.
+fn link_above(
+    alloc: Global,
+    kept: &mut ShareTree<Held>,
+    last: &mut ShareTree<u32>,
+    handle: u32,
+    held: Held,
+) -> Result<(), AllocError>
+    ensures holdings { OnOk result (holdings_of kept.new
+        ≡ map.insert (holdings_of kept.old) handle held.holding) }
+    ensures places { OnOk result (places_of kept.new
+        ≡ map.insert (relinked_earlier (relinked_later (places_of kept.old) held.place.earlier
+        (Some handle)) held.place.later (Some handle)) handle held.place) }
+    ensures last { OnOk result (last.new
+        ≡ last_with last.old held.place.label handle held.place.later) }
+{
+    let Place {
+        label,
+        earlier,
+        later,
+    } = held.place;
+    set_later(alloc, kept, earlier, Some(handle))?;
+    set_earlier(alloc, kept, later, Some(handle))?;
+    kept.insert(alloc, handle, held)?;
+    raise_last(alloc, last, label, handle, later)
+}
+
+// Where none stands above it, the handle is the last of the label's scope.
+fn raise_last(
+    alloc: Global,
+    last: &mut ShareTree<u32>,
+    label: u32,
+    handle: u32,
+    above: Option<u32>,
+) -> Result<(), AllocError>
+    ensures { OnOk result (last.new ≡ last_with last.old label handle above) }
+{
+    match above {
+        Some(_) => Ok(()),
+        None => last.insert(alloc, label, handle),
+    }
 }
 
 // The handle of this place is held no more, and its neighbours are each other's.
@@ -274,6 +400,7 @@ fn set_later(
 }
 
 // The handle, if there is one, has another neighbour before it.
+#[inline(always)]
 fn set_earlier(
     alloc: Global,
     kept: &mut ShareTree<Held>,

@@ -14,11 +14,13 @@ ghost use Rattle.ownership_model.specs.Reach.{has, is_reached, IsClosed};
 ghost use Rattle.ownership_model.specs.Patch.{patched};
 ghost use Rattle.ownership_model.specs.Alike.{Covers};
 ghost use Rattle.object_heap.specs.Exchange.{AreWithinLimits};
-ghost use Rattle.object_heap.specs.Told.{release_keys};
-ghost use Rattle.object_heap.specs.Links.{first_of, earlier_in};
+ghost use Rattle.object_heap.specs.Told.{release_keys, event_keys};
+ghost use Rattle.object_heap.specs.Laid.{without_handles, CanPut, PutsFit, laid_over};
+ghost use Rattle.object_heap.specs.Links.{first_of, earlier_in, label_in};
 
 use crate::counters::Counters;
 use crate::draft::Draft;
+use crate::put::Put;
 use ownership_model::Key;
 use ownership_model::remaining::Remaining;
 use share_tree::ShareTree;
@@ -105,6 +107,13 @@ impl Heap {
         ensures { result ≡ earlier_in handle self.now.scopes }
     {
         self.draft.handles.earlier(handle)
+    }
+
+    /// The label in whose scope the handle stands: that of the operation that made it. Takes no memory.
+    pub fn label(&self, handle: u32) -> Option<u32>
+        ensures { result ≡ label_in handle self.now.scopes }
+    {
+        self.draft.handles.label(handle)
     }
 
     /// What a cell holds.
@@ -316,10 +325,11 @@ impl Heap {
         }
     }
 
-    /// As `release_on`, and tells what is touched and moved: the places that the changes set, the objects named by slots that they move, and
-    /// those of all items that are dropped. Keys that are told already stay.
+    /// As `release_on`, and tells what is moved and dropped: the objects named by slots that the changes move or copy, and those of all items
+    /// that are dropped. Keys that are told already stay, but for objects that its events tell of.
     ///
-    /// It may tell more than that, and the same key more than once.
+    /// It leaves out the places that the changes set, and may leave out those objects. It may tell more than that, and the
+    /// same key more than once.
     pub fn release_told(
         &mut self,
         alloc: Global,
@@ -339,7 +349,7 @@ impl Heap {
             ≡ (release (changed self.old changes.now) pending.now).events) }
         ensures cascade { IfOk result (λ events. CascadesTo (changed self.old changes.now) self.new
             events) }
-        ensures told { OnOk result (Covers keys.new.items
+        ensures told { IfOk result (λ events. Covers (keys.new.items ++ event_keys events)
             (keys.old.items ++ release_keys self.old changes.now pending.now)) }
         ensures err { OnErr result (self.new ≡ nothing_held) }
     {
@@ -377,6 +387,32 @@ impl Heap {
     {
         let Heap { mut draft } = self;
         draft.exchange(alloc, removed, added)?;
+        Ok(Heap { draft })
+    }
+
+    /// The heap without some handles, with others put into their scopes, and with the cells and objects of another heap at these numbers.
+    /// None of what is put is held then, and the result is to be sound.
+    ///
+    /// The work is that of these handles, cells and objects, and of their fields: the rest isn't looked at, but for a scope at whose end a
+    /// handle is put. What this heap alone holds is changed in place.
+    pub fn laid(
+        self,
+        alloc: Global,
+        from: &Heap,
+        handles: &[u32],
+        cells: &[u32],
+        objects: &[u32],
+        puts: &[Put],
+    ) -> Result<Heap, AllocError>
+        requires can { CanPut (without_handles handles.now self) puts.now }
+        requires fits { PutsFit puts.now }
+        requires sound { IsSound (laid_over from.now handles.now cells.now objects.now puts.now
+            self) [] }
+        ensures { IfOk result (λ h. h
+            ≡ laid_over from.now handles.now cells.now objects.now puts.now self) }
+    {
+        let Heap { mut draft } = self;
+        draft.lay(alloc, &from.draft, handles, cells, objects, puts)?;
         Ok(Heap { draft })
     }
 }

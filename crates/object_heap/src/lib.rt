@@ -11,9 +11,11 @@ mod handles;
 pub mod heap;
 mod held;
 mod island;
+mod laying;
 mod object;
 mod objects;
 pub mod place;
+pub mod put;
 mod ranks;
 pub mod reach;
 mod summed;
@@ -23,3 +25,5 @@ mod updates;
 mod weight;
 
 pub use heap::Heap;
+pub use put::Put;
+pub use told::{take_back, tell_once};

@@ -1,5 +1,6 @@
 mod MeterLemmas
 mod NameLemmas
+mod NamedLemmas
 mod ScopeLemmas
 mod StepLemmas
 mod ToldLemmas

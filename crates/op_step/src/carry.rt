@@ -7,13 +7,14 @@ ghost use Rattle.ownership_model.specs.Carry.{IsCarriable};
 ghost use Rattle.ownership_model.specs.Alike.{Covers};
 ghost use Rattle.ownership_model.specs.Step.{step, carried_out};
 ghost use Rattle.ownership_model.specs.Step as Step;
+ghost use Rattle.heap_difference.specs.Naming.{op_keys, outcome_keys};
 ghost use Rattle.op_step.specs.Meter.{raised};
 ghost use Rattle.op_step.specs.Told.{step_keys, carried_keys};
 
 use crate::meter::Meter;
 use crate::room::Room;
 use crate::rows::plan_in;
-use crate::told::{tell_object, tell_read};
+use crate::told::{tell_object, tell_unnamed, untell_object};
 use object_heap::Heap;
 use ownership_model::{Key, Plan};
 use std::alloc::{AllocError, Global};
@@ -85,9 +86,11 @@ pub fn step_in(
     }
 }
 
-/// As `step_in_place`, and tells what the operation touches, and what it moves or copies beside. Keys that are told already stay.
+/// As `step_in_place`, and tells what the operation touches, and what it moves or copies beside. Keys that are told already stay, but for
+/// what the operation or its outcome names.
 ///
-/// It may tell more than that, and the same key more than once. Where memory runs out the keys are unspecified.
+/// That it may leave out: by `op_keys` and `outcome_keys` a caller has it anyway. It may tell more than that, and the same key more than
+/// once. Where memory runs out the keys are unspecified.
 pub fn step_told(
     alloc: Global,
     heap: &mut Heap,
@@ -98,7 +101,7 @@ pub fn step_told(
     requires { get heap.old.objects op.now.id ≡ None }
     ensures state { OnOk result (heap.new ≡ (step heap.old op.now).state) }
     ensures outcome { IfOk result (λ r. r ≡ (step heap.old op.now).outcome) }
-    ensures told { OnOk result (Covers keys.new.items
+    ensures told { IfOk result (λ r. Covers (keys.new.items ++ (op_keys op.now ++ outcome_keys r))
         (keys.old.items ++ step_keys heap.old op.now)) }
     ensures err { OnErr result (heap.new ≡ nothing_held) }
 
@@ -121,7 +124,7 @@ pub fn step_told_in(
     requires { get heap.old.objects op.now.id ≡ None }
     ensures state { OnOk result (heap.new ≡ (step heap.old op.now).state) }
     ensures outcome { IfOk result (λ r. r ≡ (step heap.old op.now).outcome) }
-    ensures told { OnOk result (Covers keys.new.items
+    ensures told { IfOk result (λ r. Covers (keys.new.items ++ (op_keys op.now ++ outcome_keys r))
         (keys.old.items ++ step_keys heap.old op.now)) }
     ensures err { OnErr result (heap.new ≡ nothing_held) }
 
@@ -151,17 +154,17 @@ fn carried_told(
     requires { get heap.old.objects op.now.id ≡ None }
     ensures state { OnOk result (heap.new ≡ (step heap.old op.now).state) }
     ensures outcome { IfOk result (λ r. r ≡ (step heap.old op.now).outcome) }
-    ensures told { OnOk result (Covers keys.new.items
+    ensures told { IfOk result (λ r. Covers (keys.new.items ++ (op_keys op.now ++ outcome_keys r))
         (keys.old.items ++ step_keys heap.old op.now)) }
 {
-    tell_read(heap, op, keys)?;
     let planned = plan_in(room, heap, op)?;
+    tell_unnamed(heap, op.kind(), &planned, keys)?;
     heap.show_sound();
     let outcome = carry_out_told(room, heap, op.id(), planned, keys)?;
     Ok(outcome)
 }
 
-// As `carry_out`, and tells what the plan sets, moves and drops, and the object whose counts are told.
+// As `carry_out`, and tells what the plan moves and drops. What the outcome names may be left out.
 fn carry_out_told(
     room: &mut Room,
     heap: &mut Heap,
@@ -173,7 +176,7 @@ fn carry_out_told(
     requires fits { PlanFits plan }
     ensures state { OnOk result (heap.new ≡ (carried_out heap.old id plan).state) }
     ensures outcome { IfOk result (λ r. r ≡ (carried_out heap.old id plan).outcome) }
-    ensures told { OnOk result (Covers keys.new.items
+    ensures told { IfOk result (λ r. Covers (keys.new.items ++ outcome_keys r)
         (keys.old.items ++ carried_keys heap.old plan)) }
 {
     match plan {
@@ -187,6 +190,7 @@ fn carry_out_told(
         } => {
             let alloc = room.alloc();
             let work = room.work();
+            tell_object(object, keys)?;
             let released = heap.release_told(
                 alloc,
                 work,
@@ -194,7 +198,7 @@ fn carry_out_told(
                 pending.as_slice(),
                 keys,
             )?;
-            tell_object(object, keys)?;
+            untell_object(object, keys);
             room.give_back(changes.into_vec(), pending.into_vec());
             Ok(Outcome {
                 id,
@@ -272,6 +276,7 @@ fn skipped(alloc: Global, id: u32, reason: Reason) -> Outcome
 }
 
 // The event that an operation names itself comes before those of what it drops.
+#[inline(always)]
 fn with_named(
     alloc: Global,
     event: Option<Event>,

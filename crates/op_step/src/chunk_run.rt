@@ -3,11 +3,15 @@ ghost use Rattle.std.specs.Prelude.{◌≡◌, ◌≤◌, ◌+◌, IfOk, OnOk, I
 ghost use Rattle.std.specs.Arc.{arc_value};
 ghost use Rattle.trace_types.specs.Trace.{has_distinct_numbers};
 ghost use Rattle.ownership_model.specs.Step.{outcomes_from, end_from, AreUnused};
+ghost use Rattle.heap_difference.specs.KeySets.{set_of};
+ghost use Rattle.heap_difference.specs.Laws.{HasTouched};
+ghost use Rattle.heap_difference.specs.Naming.{with_names};
 ghost use Rattle.op_step.specs.Meter.{raised};
 
 use crate::meter::Meter;
-use crate::replay::replay_from;
+use crate::replay::replay_told;
 use object_heap::Heap;
+use ownership_model::Key;
 use std::alloc::{AllocError, Global};
 use std::marker::Model;
 use std::sync::Arc;
@@ -29,10 +33,15 @@ pub struct ChunkRun {
     start: Heap,
     replayed: Arc<Replayed>,
     end: Heap,
+    // what the operations touch, move or copy, and neither they nor their outcomes name, as their replay told it
+    keys: Arc<Vec<Key>>,
 }
 
 impl Model for ChunkRun {
     ghost use Rattle.std.specs.Arc.{arc_value};
+    ghost use Rattle.heap_difference.specs.KeySets.{set_of};
+    ghost use Rattle.heap_difference.specs.Laws.{HasTouched};
+    ghost use Rattle.heap_difference.specs.Naming.{with_names};
     ghost use Rattle.op_step.specs.Chunk.{Chunk, chunk_code, IsReplayOf};
 
     ghost Value = { Chunk };
@@ -44,7 +53,9 @@ impl Model for ChunkRun {
     ghost invariant = { λ c. IsReplayOf (record {
       start = c.start;
       ops = (arc_value c.replayed).ops.items;
-    }) (arc_value c.replayed).outcomes c.end };
+    }) (arc_value c.replayed).outcomes c.end
+        × HasTouched (set_of (with_names (arc_value c.keys).items (arc_value c.replayed).ops.items
+        (arc_value c.replayed).outcomes)) c.start (arc_value c.replayed).ops.items };
 }
 
 /// Replays operations from a heap. Their numbers are distinct, and no object of the heap has one of them.
@@ -82,12 +93,15 @@ pub fn run_of(
     ensures never_more { meter.new ≤ meter.old + length ops.items }
 {
     start.show_sound();
-    let (outcomes, end) = replay_from(alloc, start.share()?, &ops, meter)?;
+    // Room for two keys of each operation: the list grows where they are more.
+    let mut told = Vec::with_capacity(alloc, ops.len().saturating_mul(2))?;
+    let (outcomes, end) = replay_told(alloc, start.share()?, &ops, meter, &mut told)?;
     let replayed = Replayed { ops, outcomes };
     Ok(ChunkRun {
         start: start.share()?,
         replayed: Arc::new(alloc, replayed)?,
         end,
+        keys: Arc::new(alloc, told)?,
     })
 }
 
@@ -143,6 +157,15 @@ impl ChunkRun {
         &self.end
     }
 
+    /// With what the operations and their outcomes name these are all keys that the operations touch, move or copy, and perhaps more: as their
+    /// replay told them, some more than once. A share has them without a copy.
+    pub fn keys(&self) -> &Arc<Vec<Key>>
+        ensures { HasTouched (set_of (with_names (arc_value result.now).items self.now.ops
+            (outcomes_from self.now.start self.now.ops))) self.now.start self.now.ops }
+    {
+        &self.keys
+    }
+
     /// The same chunk again. Copies no operation and no outcome.
     pub fn share(&self) -> Result<ChunkRun, AllocError>
         ensures { IfOk result (λ c. c ≡ self.now) }
@@ -151,6 +174,7 @@ impl ChunkRun {
             start: self.start.share()?,
             replayed: Arc::try_clone(&self.replayed)?,
             end: self.end.share()?,
+            keys: Arc::try_clone(&self.keys)?,
         })
     }
 }

@@ -3,6 +3,7 @@ ghost use Rattle.std.specs.Prelude.{◌≡◌, ◌≤◌, ◌+◌, ◌++◌, IfO
 ghost use Rattle.ownership_model.specs.State.{nothing_held};
 ghost use Rattle.ownership_model.specs.Step.{AreNew, outcomes_from, end_from};
 ghost use Rattle.ownership_model.specs.Alike.{Covers};
+ghost use Rattle.heap_difference.specs.Naming.{with_names};
 ghost use Rattle.op_step.specs.Meter.{raised};
 ghost use Rattle.op_step.specs.Told.{replay_keys};
 
@@ -58,9 +59,11 @@ pub fn replay_from(
     Ok((Sequence::from_vec(outcomes), heap))
 }
 
-/// As `replay_from`, and tells what the operations touch, and what they move or copy beside. Keys that are told already stay.
+/// As `replay_from`, and tells what the operations touch, and what they move or copy beside. Keys that are told already stay, but for what
+/// the operations or their outcomes name.
 ///
-/// It may tell more than that, and the same key more than once. Where memory runs out the keys are unspecified.
+/// That it may leave out: `with_names` adds it. It may tell more than that, and the same key more than
+/// once. Where memory runs out the keys are unspecified.
 pub fn replay_told(
     alloc: Global,
     start: Heap,
@@ -71,7 +74,7 @@ pub fn replay_told(
     requires { AreNew start ops.now }
     ensures outcomes { IfOk result (λ r. r.0 ≡ outcomes_from start ops.now) }
     ensures end { IfOk result (λ r. r.1 ≡ end_from start ops.now) }
-    ensures told { OnOk result (Covers keys.new.items
+    ensures told { IfOk result (λ r. Covers (with_names keys.new.items ops.now r.0)
         (keys.old.items ++ replay_keys start ops.now)) }
 
     // The meter counts what was carried out.

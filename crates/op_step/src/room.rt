@@ -84,6 +84,7 @@ impl Room {
     }
 
     /// Takes the lists of a plan back, where their own places are empty.
+    #[inline(always)]
     pub fn give_back(&mut self, changes: Vec<Change>, pending: Vec<Item>) {
         if self.changes.capacity() == 0 {
             self.changes = changes;

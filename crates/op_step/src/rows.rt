@@ -23,6 +23,7 @@ pub fn plan(alloc: Global, heap: &Heap, op: &Op) -> Result<Plan, AllocError>
 }
 
 /// As `plan`, with its lists in a room.
+#[inline(always)]
 pub fn plan_in(room: &mut Room, heap: &Heap, op: &Op) -> Result<Plan, AllocError>
     ensures { IfOk result (λ p. p ≡ row op.now (view_of heap.now op.now.thread op.now.kind)) }
 {

@@ -1,148 +1,116 @@
-//! Keys that an operation reads, told beside what it does.
-ghost use Rattle.std.specs.Prelude.{◌≡◌, ◌++◌, ◌∷◌, [], OnOk, map, option_to_list};
+//! Keys that an operation touches, and that neither it nor its outcome names, told beside what it does.
+ghost use Rattle.std.specs.Prelude.{◌≡◌, ◌++◌, [], OnOk, map, flat_map, option_to_list};
 ghost use Rattle.std.specs.Option.{option_copied};
 ghost use Rattle.ownership_model.specs.declared.key.Key.TheVariants as key;
-ghost use Rattle.ownership_model.specs.View.{members, held_by, held_fields, named_in};
-ghost use Rattle.ownership_model.specs.Footprint.{scope_keys, named_keys};
-ghost use Rattle.op_step.specs.Told.{read_keys};
+ghost use Rattle.ownership_model.specs.Alike.{Covers};
+ghost use Rattle.ownership_model.specs.View.{members, named_in};
+ghost use Rattle.op_step.specs.Told.{first_keys, ended_key, ended_keys, unnamed_keys};
 
-use object_heap::Heap;
-use ownership_model::Key;
+use object_heap::{Heap, take_back, tell_once};
+use ownership_model::{Key, Plan};
 use std::alloc::AllocError;
-use trace_types::kinds::{Field, Kind};
-use trace_types::ops::Op;
-use trace_types::slots::{Holding, Slot};
+use trace_types::kinds::Kind;
+use trace_types::slots::{Change, Holding, Slot};
 
-/// Tells what an operation reads of a heap, before it is carried out: the scope that it ends, the handles and the cell that it names,
-/// and the object that its first handle names. The handles of a scope that ends are told as they end.
-pub fn tell_read(heap: &Heap, op: &Op, keys: &mut Vec<Key>) -> Result<(), AllocError>
-    ensures { OnOk result (keys.new.items ≡ keys.old.items ++ read_keys heap.now op.now) }
+/// Tells what an operation that has this plan reads or sets, where neither it nor its outcome names it, nor the plan moves it: the object that the
+/// first handle of one that is skipped names, and the handles of a scope that ends.
+#[inline(always)]
+pub fn tell_unnamed(
+    heap: &Heap,
+    kind: &Kind,
+    plan: &Plan,
+    keys: &mut Vec<Key>,
+) -> Result<(), AllocError>
+    ensures { OnOk result (Covers keys.new.items
+        (keys.old.items ++ unnamed_keys heap.now kind.now plan.now)) }
 {
-    tell_scope(op.thread(), op.kind(), keys)?;
-    tell_names(op.kind(), keys)?;
-    tell_first(heap, op.kind(), keys)
+    match plan {
+        Plan::Skip(_) => tell_first(heap, kind, keys),
+        Plan::Act {
+            answer: _,
+            changes,
+            event: _,
+            pending: _,
+            object: _,
+        } => tell_scope(kind, changes.as_slice(), keys),
+    }
 }
 
-/// Tells the object whose counts are told.
+/// Tells the object whose counts are told, so that it isn't told once more behind itself.
+#[inline(always)]
 pub fn tell_object(object: Option<u32>, keys: &mut Vec<Key>) -> Result<(), AllocError>
-    ensures { OnOk result (keys.new.items ≡ keys.old.items
-        ++ map key.Object (option_to_list object)) }
+    ensures { OnOk result (Covers keys.new.items keys.old.items) }
 {
     match object {
-        Some(object) => Ok(keys.push(Key::Object(object))?),
+        Some(object) => tell_once(object, keys),
         None => Ok(()),
     }
 }
 
-fn tell_scope(label: u32, kind: &Kind, keys: &mut Vec<Key>) -> Result<(), AllocError>
-    ensures { OnOk result (keys.new.items ≡ keys.old.items ++ scope_keys label kind.now) }
+/// Takes back the object whose counts are told, where it still stands last: the outcome has it.
+#[inline(always)]
+pub fn untell_object(object: Option<u32>, keys: &mut Vec<Key>)
+    ensures { Covers (keys.new.items ++ map key.Object (option_to_list object)) keys.old.items }
 {
-    if let Kind::ScopeEnd = kind {
-        keys.push(Key::Scope(label))?;
-    }
-    Ok(())
-}
-
-// Tells the handles and the cell among the members of an operation.
-fn tell_names(kind: &Kind, keys: &mut Vec<Key>) -> Result<(), AllocError>
-    ensures { OnOk result (keys.new.items ≡ keys.old.items ++ named_keys (members [] kind.now)) }
-{
-    match kind {
-        Kind::New { to, fields } | Kind::NewCyclic { to, fields } => {
-            tell_new(*to, fields.as_slice(), keys)
-        }
-        Kind::WeakNew { to: h }
-        | Kind::Null { to: h }
-        | Kind::Drop { h }
-        | Kind::TryUnwrap { h }
-        | Kind::IntoInner { h }
-        | Kind::GetMut { h }
-        | Kind::MakeMut { h }
-        | Kind::Counts { h } => Ok(keys.push(Key::Handle(*h))?),
-        Kind::NewFrom { from: a, to: b }
-        | Kind::Clone { from: a, to: b }
-        | Kind::Downgrade { from: a, to: b }
-        | Kind::Upgrade { from: a, to: b }
-        | Kind::PtrEq { a, b }
-        | Kind::Set {
-            h: a,
-            i: _,
-            from: b,
-        }
-        | Kind::Take { h: a, i: _, to: b }
-        | Kind::Get { h: a, i: _, to: b } => tell_pair(*a, *b, keys),
-        Kind::CellNew { c, from: h } | Kind::CellLoad { c, to: h } => {
-            keys.push(Key::Handle(*h))?;
-            Ok(keys.push(Key::Cell(*c))?)
-        }
-        Kind::CellSwap { c, from, to } => {
-            keys.push(Key::Handle(*from))?;
-            if let Some(to) = to {
-                keys.push(Key::Handle(*to))?;
-            }
-            Ok(keys.push(Key::Cell(*c))?)
-        }
-        Kind::CellCas {
-            c,
-            expected,
-            desired,
-        } => {
-            tell_pair(*expected, *desired, keys)?;
-            Ok(keys.push(Key::Cell(*c))?)
-        }
-        Kind::CellDrop { c } => Ok(keys.push(Key::Cell(*c))?),
-        Kind::ScopeEnd => Ok(()),
-    }
-}
-
-fn tell_pair(first: u32, second: u32, keys: &mut Vec<Key>) -> Result<(), AllocError>
-    ensures { OnOk result (keys.new.items ≡ keys.old.items
-        ++ key.Handle first ∷ key.Handle second ∷ []) }
-{
-    keys.push(Key::Handle(first))?;
-    Ok(keys.push(Key::Handle(second))?)
-}
-
-// Tells the handle of a new object, and the handles among its fields.
-fn tell_new(to: u32, fields: &[Field], keys: &mut Vec<Key>) -> Result<(), AllocError>
-    ensures { OnOk result (keys.new.items ≡ keys.old.items
-        ++ (key.Handle to ∷ (map key.Handle (held_fields fields.now) ++ []))) }
-{
-    keys.push(Key::Handle(to))?;
-    tell_fields(fields, keys)
-}
-
-// Tells the handles among the fields of a new object.
-fn tell_fields(fields: &[Field], keys: &mut Vec<Key>) -> Result<(), AllocError>
-    ensures { OnOk result (keys.new.items ≡ keys.old.items
-        ++ map key.Handle (held_fields fields.now)) }
-{
-    for field in fields {
-        tell_field(*field, keys)?;
-    }
-    Ok(())
-}
-
-// Tells the handle of a field of a new object, if it is one.
-fn tell_field(field: Field, keys: &mut Vec<Key>) -> Result<(), AllocError>
-    ensures { OnOk result (keys.new.items ≡ keys.old.items
-        ++ map key.Handle (held_fields (field ∷ []))) }
-{
-    match field {
-        Field::Held(h) => Ok(keys.push(Key::Handle(h))?),
-        Field::Null | Field::Me => Ok(()),
+    if let Some(object) = object {
+        take_back(object, keys);
     }
 }
 
 // Tells the object that the first handle names, if it names one.
 fn tell_first(heap: &Heap, kind: &Kind, keys: &mut Vec<Key>) -> Result<(), AllocError>
-    ensures { OnOk result (keys.new.items ≡ keys.old.items
-        ++ map key.Object (option_to_list
-        (named_in (held_by heap.now (members [] kind.now).first)))) }
+    ensures { OnOk result (Covers keys.new.items (keys.old.items ++ first_keys heap.now kind.now)) }
 {
     match first_handle(kind) {
-        Some(h) => tell_object(named_object(heap.holding(h)), keys),
+        Some(h) => tell_named(named_object(heap.holding(h)), keys),
         None => Ok(()),
+    }
+}
+
+fn tell_named(object: Option<u32>, keys: &mut Vec<Key>) -> Result<(), AllocError>
+    ensures { OnOk result (Covers keys.new.items
+        (keys.old.items ++ map key.Object (option_to_list object))) }
+{
+    match object {
+        Some(object) => tell_once(object, keys),
+        None => Ok(()),
+    }
+}
+
+// Tells the handles of a scope that ends.
+#[inline(always)]
+fn tell_scope(kind: &Kind, changes: &[Change], keys: &mut Vec<Key>) -> Result<(), AllocError>
+    ensures { OnOk result (Covers keys.new.items
+        (keys.old.items ++ ended_keys kind.now changes.now)) }
+{
+    if let Kind::ScopeEnd = kind {
+        return tell_ended(changes, keys);
+    }
+    Ok(())
+}
+
+// Tells the handles that changes end.
+fn tell_ended(changes: &[Change], keys: &mut Vec<Key>) -> Result<(), AllocError>
+    ensures { OnOk result (Covers keys.new.items
+        (keys.old.items ++ flat_map ended_key changes.now)) }
+{
+    for change in changes {
+        tell_end(change, keys)?;
+    }
+    Ok(())
+}
+
+fn tell_end(change: &Change, keys: &mut Vec<Key>) -> Result<(), AllocError>
+    ensures { OnOk result (keys.new.items ≡ keys.old.items ++ ended_key change.now) }
+{
+    match change {
+        Change::EndHandle(handle) => Ok(keys.push(Key::Handle(*handle))?),
+        Change::SetHandle(_, _, _)
+        | Change::SetCell(_, _)
+        | Change::EndCell(_)
+        | Change::SetField(_, _, _)
+        | Change::Make(_, _)
+        | Change::TurnHusk(_) => Ok(()),
     }
 }
 

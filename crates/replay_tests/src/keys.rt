@@ -1,4 +1,5 @@
-//! What operations touch, as it is told beside what they do.
+//! What operations touch, as it is told beside what they do, or named by them and their outcomes.
+use heap_difference::add_all;
 use object_heap::Heap;
 use op_step::{Meter, step_told};
 use ownership_model::Key;
@@ -16,7 +17,7 @@ fn has_each(keys: &[Key], wanted: &[Key]) -> bool {
     wanted.iter().all(|key| keys.contains(key))
 }
 
-// Each operation tells these keys and no others; in what order, and how often, is left open.
+// Each operation tells or names these keys, its own number, and no others; in what order, and how often, is left open.
 fn assert_touched(
     rt: &impl Abort,
     alloc: Global,
@@ -32,9 +33,15 @@ fn assert_touched(
         if heap.object(op.id()).is_some() {
             return Err(Fail::from("a number that is taken"));
         }
-        let _ = step_told(alloc, &mut heap, op, &mut Meter::new(), &mut keys)?;
-        assert!(rt; has_each(keys.as_slice(), wanted));
-        assert!(rt; has_each(wanted, keys.as_slice()));
+        let outcome = step_told(alloc, &mut heap, op, &mut Meter::new(), &mut keys)?;
+        let ops = vec![in alloc; op.clone()?]?;
+        let outcomes = vec![in alloc; outcome]?;
+        let mut all = Vec::new(alloc);
+        add_all(keys.as_slice(), ops.as_slice(), outcomes.as_slice(), &mut all)?;
+        assert!(rt; has_each(all.as_slice(), wanted));
+        let mut known = Vec::from_slice(alloc, wanted)?;
+        known.push(Key::Object(op.id()))?;
+        assert!(rt; has_each(known.as_slice(), all.as_slice()));
     }
     Ok(())
 }

@@ -1,23 +1,28 @@
 -- A replay that goes on beside an old one.
-use Rattle.std.proofs.Common.{◌≡◌, ℕ, ◌+◌, ◌-◌, ◌<◌, ◌≤◌, List, [], ◌∷◌, ◌++◌, length, take, drop, get_or, true, ap, sym, subst, ◌∙◌, arith, append_assoc, length-drop, take-append-drop}
+use Rattle.std.proofs.Common.{◌≡◌, ℕ, ◌+◌, ◌-◌, ◌<◌, ◌≤◌, List, [], ◌∷◌, ◌++◌, length, take, drop, get_or, true, ap, sym, subst, ◌∙◌, arith, append_assoc, length-append, length-drop, take-append-drop}
 use Rattle.std.specs.Prelude.{Some, is_some, IsTrue, Contains}
 use mathlib.Core.Logic.{⊎_elim}
 use Rattle.std.proofs.lemmas.List.{drop-drop}
 use Rattle.std.proofs.lemmas.List.Elements.{Contains-append_cases}
-use Rattle.std.proofs.Math.Seq.{take-length}
+use Rattle.std.proofs.Math.Seq.{take-add, take-length}
 use Rattle.ownership_model.specs.State.{State, nothing_held}
 use Rattle.trace_types.specs.Operation.{Operation}
 use Rattle.run_engine.specs.SegmentView.{SegmentView}
 use Rattle.trace_types.specs.Trace.{has_distinct_numbers}
 use Rattle.ownership_model.specs.Step.{end_from, AreUnused}
-use Rattle.run_engine.specs.Segments.{trace_of, mark_here, marks_from, AreReplayFrom, AreFull, BeginsMarked, IsRunFrom, IsRun, IsReached, all_marks}
+use Rattle.run_engine.specs.Segments.{trace_of, mark_here, marks_from, AreReplayFrom, AreFull, BeginsMarked, IsRunFrom, IsRun, IsReached, IsPiece, all_marks}
 use Rattle.run_engine.specs.HeadAndTail.{ShareEnd}
 use Rattle.run_engine.specs.Bounds.{AgreesAt, StepsAtMost}
 use Rattle.ownership_model.proofs.LawsHold.{appends}
 use Rattle.agreement.specs.Agreement.{Agree}
+use Rattle.heap_difference.specs.declared.key_set.KeySet.{KeySet}
+use Rattle.heap_difference.specs.Differences.{IsDifference}
+use Rattle.run_engine.specs.declared.replay.revision.Revision.{Revision}
+use Rattle.run_engine.specs.inner.OldRun.{old_trace, new_trace}
+use Rattle.run_engine.specs.inner.Difference.{DifferAt}
 use Rattle.run_engine.proofs.SegmentLemmas.{trace_of-append, marks_from-append, AreReplayFrom-append, AreReplayFrom-back, length-trace_of-next}
 use Rattle.run_engine.proofs.ListingLemmas.{around}
-use Rattle.run_engine.proofs.PieceLemmas.{AreFull-append, AreFull-prefix, AreFull-back, BeginsMarked-append, mark-is, unused-behind}
+use Rattle.run_engine.proofs.PieceLemmas.{AreFull-append, AreFull-prefix, AreFull-back, BeginsMarked-append, IsReached-next, mark-is, take-rest, unused-behind}
 use Rattle.run_engine.proofs.PlaceLemmas.{Contains-one, mark_here-place, mark_here-some, marks_from-least, trace_of-parted, trace_of-back, place-within, marks_from-below}
 
 pub ShareEnd-length : (old ops : List Operation) (a b : ℕ) → ShareEnd old ops a b → length old - a ≡ length ops - b
@@ -33,7 +38,7 @@ pub record IsBeside (old : List SegmentView) (ops : List Operation) (a b r befor
 
 pub IsBeside-next : (old : List SegmentView) (ops : List Operation) (a b r before i at x : ℕ) (segments : List SegmentView) (heap : State) (count y : ℕ) (next : List SegmentView) (then : State) (counted : ℕ) (s : SegmentView)
     → IsBeside old ops a b r before i at x segments heap count → i < length old → s ≡ get_or old i s
-    → IsReached ops y next then → y ≤ at - a + b → counted + r ≤ before + y
+    → IsReached ops y next then → y ≤ at + length s.ops - a + b → counted + r ≤ before + y
     → (is_some s.mark ≡ true → a ≤ at → AgreesAt (trace_of old) ops a b at → ⊥)
     → IsBeside old ops a b r before (i + 1) (at + length s.ops) y next then counted
 IsBeside-next old ops a b r before i at x segments heap count y next then counted s h lt is prefix order rise differs =
@@ -44,7 +49,7 @@ IsBeside-next old ops a b r before i at x segments heap count y next then counte
     record {
       place = length-trace_of-next old i s lt is ∙ ap (λ m. m + length s.ops) h.place;
       prefix = prefix;
-      order = omega arith;
+      order = order;
       rise = rise;
       later = λ p mark behind agrees. ⊎_elim
           (λ here.
@@ -168,3 +173,31 @@ IsBeside-first old ops a b r before i at segments heap full within place early h
           (λ later. later)
           (Contains-append_cases (marks_from 0 (take i old)) (marks_from at (drop i old) ++ n ∷ []) p (subst (λ ps. Contains ps p) list mark));
     }
+
+-- a replay goes on by a piece of all the operations that are left
+pub IsReached-rest : (ops : List Operation) (at len : ℕ) (segments more : List SegmentView) (heap end : State) → IsReached ops at segments heap → IsPiece heap (drop at ops) more end len → IsReached ops (at + len) (segments ++ more) end
+IsReached-rest ops at len segments more heap end h piece =
+    IsReached-next ops at (length ops) len segments more heap end h h.within (omega arith) (subst (λ os. IsPiece heap os more end len) (sym (take-rest at ops)) piece)
+
+-- behind one segment more there are no fewer operations
+pub trace_of-more : (segments : List SegmentView) (i : ℕ) → length (trace_of (take i segments)) ≤ length (trace_of (take (i + 1) segments))
+trace_of-more segments i =
+    let more : trace_of (take (i + 1) segments) ≡ trace_of (take i segments) ++ trace_of (take 1 (drop i segments)) =
+    ap trace_of (take-add i 1 segments) ∙ trace_of-append (take i segments) (take 1 (drop i segments)) in
+    omega (arith, ap length more, length-append (trace_of (take i segments)) (trace_of (take 1 (drop i segments))))
+
+-- behind an old stretch that touches none of them the same keys differ
+pub DifferAt-passed : (r : Revision) (keys : KeySet) (x at edited base len : ℕ) (segments more : List SegmentView) (heap end : State) → IsReached (new_trace r) x segments heap → IsPiece heap (drop x (new_trace r)) more end len
+    → edited ≡ x → base ≡ at → IsDifference keys (end_from nothing_held (take (at + len) (old_trace r))) end → DifferAt r keys (edited + len) (base + len)
+DifferAt-passed r keys x at edited base len segments more heap end h piece new old differ =
+    let there : end ≡ end_from nothing_held (take (edited + len) (new_trace r)) =
+    (IsReached-rest (new_trace r) x len segments more heap end h piece).state ∙ ap (λ n. end_from nothing_held (take (n + len) (new_trace r))) (sym new) in
+    let here : end_from nothing_held (take (at + len) (old_trace r)) ≡ end_from nothing_held (take (base + len) (old_trace r)) = ap (λ n. end_from nothing_held (take (n + len) (old_trace r))) (sym old) in
+    subst (λ m. IsDifference keys m (end_from nothing_held (take (edited + len) (new_trace r)))) here (subst (IsDifference keys (end_from nothing_held (take (at + len) (old_trace r)))) there differ)
+
+-- a replay that went on by the segment at i stands at its end at most
+pub past-within : (old : List SegmentView) (a b i at x y : ℕ) (s : SegmentView) → i < length old → s ≡ get_or old i s → length (trace_of (take i old)) ≡ at → a ≤ at → x ≡ at - a + b
+    → y + at ≤ x + length (trace_of (take (i + 1) old)) → y ≤ at + length s.ops - a + b
+past-within old a b i at x y s lt is place behind there le =
+    let next : length (trace_of (take (i + 1) old)) ≡ length (trace_of (take i old)) + length s.ops = length-trace_of-next old i s lt is in
+    omega arith

@@ -35,3 +35,6 @@ mod JobLemmas
 mod ShiftLemmas
 mod LeftLemmas
 mod DivergenceLemmas
+mod DifferenceLemmas
+mod UntouchedLemmas
+mod TouchingLemmas

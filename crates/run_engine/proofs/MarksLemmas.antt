@@ -1,5 +1,5 @@
 -- The checkpoints of an edited trace.
-use Rattle.std.proofs.Common.{IsTrue, is_some, add-zero, zero, suc, Bool, true, false, cond, nat_lt, le-ltb, lt-ltb}
+use Rattle.std.proofs.Common.{IsTrue, IfSome, is_some, add-zero, zero, suc, Bool, true, false, cond, nat_lt, le-ltb, lt-ltb}
 use Rattle.run_engine.proofs.SegmentLemmas.{trace_of-append}
 use Rattle.std.proofs.Common.{◌≡◌, ℕ, ◌+◌, ◌-◌, ◌<◌, ◌≤◌, List, [], ◌∷◌, ◌++◌, length, take, drop, get_or, refl, ap, sym, subst, ◌∙◌, arith, append_assoc, length-append, take-append-drop}
 use Rattle.std.specs.Prelude.{Some, None, Option, map, filter, Contains, ◌⊎◌}
@@ -198,10 +198,17 @@ has-next at n (s ∷ segments) e =
     let later : n ≡ at + length (ops_of s) + length (trace_of segments) = omega (arith, e, length-append (ops_of s) (trace_of segments)) in
     next-behind at n s segments s.mark refl (has-next (at + length (ops_of s)) n segments later)
 
--- a stretch from a checkpoint to the next, or the first of one with more operations, of which there are at least 64
-pub stretch-part : (a b c : List SegmentView) (s : SegmentView) (m : State) (len : ℕ) → s.mark ≡ Some m → ((at : ℕ) → marks_from at b ≡ []) → length (trace_of (s ∷ b)) ≡ len → (BeginsMarked c ⊎ (64 ≤ len))
-    → IsFirstPart (all_marks (a ++ ((s ∷ b) ++ c))) len
-stretch-part a b c s m len mark bare long whole =
+-- a checkpoint stands at `at`, where a stretch begins, and the next a gap behind its end: where segments begin with one, there is no gap
+pub record IsFollowed (marks : List ℕ) (at len : ℕ) (rest : List SegmentView) : Type 0 where
+  pub before : List ℕ
+  pub after : List ℕ
+  pub gap : ℕ
+  pub marks_are : marks ≡ before ++ at ∷ (at + (len + gap)) ∷ after
+  pub first : BeginsMarked rest → gap ≡ 0
+
+pub stretch-followed : (a b c : List SegmentView) (s : SegmentView) (m : State) (len : ℕ) → s.mark ≡ Some m → ((at : ℕ) → marks_from at b ≡ []) → length (trace_of (s ∷ b)) ≡ len
+    → IsFollowed (all_marks (a ++ ((s ∷ b) ++ c))) (0 + length (trace_of a)) len c
+stretch-followed a b c s m len mark bare long =
     let p : ℕ = 0 + length (trace_of a) in
     let n : ℕ = length (trace_of (a ++ ((s ∷ b) ++ c))) in
     let all : length (trace_of (a ++ ((s ∷ b) ++ c))) ≡ 0 + length (trace_of a) + len + length (trace_of c) =
@@ -211,18 +218,37 @@ stretch-part a b c s m len mark bare long whole =
     let next : HasNext (p + len) c n = has-next (p + len) n c all in
     let place : p + len + next.gap ≡ p + (len + next.gap) = omega arith in
     record {
-      long = len + next.gap;
-      neighbours = record {
-        before = marks_from 0 a;
-        after = next.after;
-        at = p;
-        marks_are = ap (λ ps. ps ++ n ∷ []) (marks_from-append 0 a ((s ∷ b) ++ c) ∙ ap (λ ps. marks_from 0 a ++ ps) (marks_from-append p (s ∷ b) c ∙ ap (λ ps. ps ++ marks_from (p + length (trace_of (s ∷ b))) c) own ∙ ap (λ l. p ∷ marks_from (p + l) c) long))
-            ∙ append_assoc (marks_from 0 a) (p ∷ marks_from (p + len) c) (n ∷ [])
-            ∙ ap (λ ps. marks_from 0 a ++ (p ∷ ps)) (next.is ∙ ap (λ q. q ∷ next.after) place);
-      };
+      before = marks_from 0 a;
+      after = next.after;
+      gap = next.gap;
+      marks_are = ap (λ ps. ps ++ n ∷ []) (marks_from-append 0 a ((s ∷ b) ++ c) ∙ ap (λ ps. marks_from 0 a ++ ps) (marks_from-append p (s ∷ b) c ∙ ap (λ ps. ps ++ marks_from (p + length (trace_of (s ∷ b))) c) own ∙ ap (λ l. p ∷ marks_from (p + l) c) long))
+          ∙ append_assoc (marks_from 0 a) (p ∷ marks_from (p + len) c) (n ∷ [])
+          ∙ ap (λ ps. marks_from 0 a ++ (p ∷ ps)) (next.is ∙ ap (λ q. q ∷ next.after) place);
+      first = next.first;
+    }
+
+-- so it is with one segment
+pub segment-followed : (old : List SegmentView) (i at : ℕ) (s : SegmentView) (m : State) → i < length old → s ≡ get_or old i s → s.mark ≡ Some m → length (trace_of (take i old)) ≡ at
+    → IsFollowed (all_marks old) at (length (ops_of s)) (drop (i + 1) old)
+segment-followed old i at s m lt is mark place =
+    let c : List SegmentView = drop (i + 1) old in
+    let parts : take i old ++ (s ∷ c) ≡ old = ap (λ xs. take i old ++ xs) (sym (around old i s lt is)) ∙ take-append-drop i old in
+    let here : 0 + length (trace_of (take i old)) ≡ at = omega (arith, place) in
+    let long : length (trace_of (s ∷ [])) ≡ length (ops_of s) = ap length (append-nil (ops_of s)) in
+    subst (λ ss. IsFollowed (all_marks ss) at (length (ops_of s)) c) parts
+    (subst (λ p. IsFollowed (all_marks (take i old ++ (s ∷ c))) p (length (ops_of s)) c) here (stretch-followed (take i old) [] c s m (length (ops_of s)) mark (λ p. refl) long))
+
+-- a stretch from a checkpoint to the next, or the first of one with more operations, of which there are at least 64
+pub stretch-part : (a b c : List SegmentView) (s : SegmentView) (m : State) (len : ℕ) → s.mark ≡ Some m → ((at : ℕ) → marks_from at b ≡ []) → length (trace_of (s ∷ b)) ≡ len → (BeginsMarked c ⊎ (64 ≤ len))
+    → IsFirstPart (all_marks (a ++ ((s ∷ b) ++ c))) len
+stretch-part a b c s m len mark bare long whole =
+    let h : IsFollowed (all_marks (a ++ ((s ∷ b) ++ c))) (0 + length (trace_of a)) len c = stretch-followed a b c s m len mark bare long in
+    record {
+      long = len + h.gap;
+      neighbours = record { before = h.before; after = h.after; at = 0 + length (trace_of a); marks_are = h.marks_are };
       within = omega arith;
       enough = ⊎_elim
-          (λ (begins : BeginsMarked c). inl (let none : next.gap ≡ 0 = next.first begins in let same : len ≡ len + next.gap = omega (arith, none) in same))
+          (λ (begins : BeginsMarked c). inl (let none : h.gap ≡ 0 = h.first begins in let same : len ≡ len + h.gap = omega (arith, none) in same))
           (λ (many : 64 ≤ len). inr many)
           whole;
     }
@@ -240,6 +266,14 @@ old-part old i k s heap ops len lt is mark bare fits same whole =
     let j : i + 1 + k ≡ i + suc k = omega arith in
     let rest : drop k (drop (i + 1) old) ≡ drop (i + suc k) old = drop-drop k (i + 1) old ∙ ap (λ n. drop n old) j in
     subst (λ ss. IsFirstPart (all_marks ss) len) parts (stretch-part (take i old) b c s heap len mark bare long (subst (λ ss. BeginsMarked ss ⊎ (64 ≤ len)) (sym rest) whole))
+
+-- where a segment has its checkpoint, the rest begins with it
+pub IfSome-begins : (segments : List SegmentView) (j : ℕ) (s : SegmentView) → j < length segments → s ≡ get_or segments j s → IfSome s.mark (λ h. BeginsMarked (drop j segments))
+IfSome-begins segments j s lt is = go s.mark refl
+  where
+    go : (o : Option State) → s.mark ≡ o → IfSome o (λ h. BeginsMarked (drop j segments))
+    go None e = tt
+    go (Some m) e = subst BeginsMarked (sym (around segments j s lt is)) (ap is_some e)
 
 pub marks_from-next : (segments : List SegmentView) (j : ℕ) (s : SegmentView) (at : ℕ) → j < length segments → s ≡ get_or segments j s → at ≡ length (trace_of (take j segments))
     → marks_from 0 (take (j + 1) segments) ≡ marks_from 0 (take j segments) ++ mark_here at s.mark

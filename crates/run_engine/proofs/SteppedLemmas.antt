@@ -11,7 +11,9 @@ use Rattle.op_step.specs.Chunk.{Chunk}
 use Rattle.run_engine.specs.Memo.{IsAmong, AreSome}
 use Rattle.run_engine.specs.Bounds.{AgreesAt}
 use Rattle.std.specs.List.{AllByRecursion}
-use Rattle.run_engine.specs.Steps.{IsOldStretch, IsKnown, AreTaken, IsCovered, AreRising, HaveStepped, EditedReplay, MustStep, AreStepped}
+use Rattle.ownership_model.specs.Alike.{AreAlike, AreWithin}
+use Rattle.ownership_model.specs.Footprint.{footprints_from, moved_from}
+use Rattle.run_engine.specs.Steps.{IsOldStretch, IsUntouchedStretch, IsKnown, AreTaken, IsCovered, AreRising, HaveStepped, EditedReplay, MustStep, AreStepped}
 use Rattle.run_engine.proofs.ListingLemmas.{take-shorter}
 
 AllByRecursion-prefix : (P : ℕ → Type 0) (a b : List ℕ) → AllByRecursion P (a ++ b) → AllByRecursion P a
@@ -65,11 +67,27 @@ none-covered old ops marks chunks at len (p ∷ ps) stretch h bare = absurd (bar
 pub HaveStepped-none : (old ops : List Operation) (marks : List ℕ) (chunks : List (ℕ × Chunk)) (r before : ℕ) → HaveStepped old ops marks chunks r r before before
 HaveStepped-none old ops marks chunks r before ps h bare = let few : r + length ps ≤ r = rising-few ps r r (omega arith) h in omega arith
 
+-- a stretch that is untouched beside a part of the operations is so beside all from there on
+wider-untouched : (old : List Operation) (marks : List ℕ) (start heap : State) (ops : List Operation) (at to len : ℕ) → heap ≡ start → len ≤ to - at
+    → IsUntouchedStretch old marks heap (slice_range ops at to) len → IsUntouchedStretch old marks start (drop at ops) len
+wider-untouched old marks start heap ops at to len is le h =
+    let same : take len (slice_range ops at to) ≡ take len (drop at ops) = take-shorter len (to - at) (drop at ops) le in
+    let m : State = end_from nothing_held (take h.place.at old) in
+    record {
+      place = h.place;
+      ops_are = h.ops_are ∙ same;
+      keys = h.keys;
+      alike = subst (AreAlike h.keys m) is h.alike;
+      within = subst (λ os. AreWithin h.keys (footprints_from m os ++ moved_from m os)) same h.within;
+    }
+
 -- what is known of a part of the operations is known of all from there on, and to whoever has more chunks
 wider : (old : List Operation) (marks : List ℕ) (some chunks : List (ℕ × Chunk)) (start heap : State) (ops : List Operation) (at to len : ℕ) → heap ≡ start → len ≤ to - at
     → AreSome some chunks → IsKnown old marks some heap (slice_range ops at to) len → IsKnown old marks chunks start (drop at ops) len
 wider old marks some chunks start heap ops at to len is le all known = ⊎_elim
-    (λ (h : IsOldStretch old marks heap (slice_range ops at to) len). inl (record { place = h.place; start_is = sym is ∙ h.start_is; ops_are = h.ops_are ∙ take-shorter len (to - at) (drop at ops) le }))
+    (⊎_elim
+    (λ (h : IsOldStretch old marks heap (slice_range ops at to) len). inl (inl (record { place = h.place; start_is = sym is ∙ h.start_is; ops_are = h.ops_are ∙ take-shorter len (to - at) (drop at ops) le })))
+    (λ (h : IsUntouchedStretch old marks heap (slice_range ops at to) len). inl (inr (wider-untouched old marks start heap ops at to len is le h))))
     (λ (h : IsAmong some heap (take len (slice_range ops at to))).
     let same : record { start = heap; ops = take len (slice_range ops at to) } ≡ record { start = start; ops = take len (drop at ops) } = λ i. record { start = is i; ops = take-shorter len (to - at) (drop at ops) le i } in
     inr (h.0, all (h.0, record { start = start; ops = take len (drop at ops) }) (subst (λ (d : Chunk). Contains some (h.0, d)) same h.1)))

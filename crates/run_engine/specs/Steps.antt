@@ -1,15 +1,18 @@
 -- Which operations of an edited trace are stepped.
-use Rattle.std.specs.Prelude.{◌≡◌, ℕ, ◌+◌, ◌-◌, ◌<◌, ◌≤◌, List, [], ◌∷◌, length, take, drop, Contains, ◌⊎◌}
+use Rattle.std.specs.Prelude.{◌≡◌, ℕ, ◌+◌, ◌-◌, ◌<◌, ◌≤◌, List, [], ◌∷◌, ◌++◌, Bool, length, take, drop, Contains, ◌⊎◌}
 use Rattle.std.specs.List.{AllByRecursion}
 use Rattle.trace_types.specs.Operation.{Operation}
 use Rattle.ownership_model.specs.State.{State, nothing_held}
 use Rattle.ownership_model.specs.Step.{end_from}
+use Rattle.ownership_model.specs.declared.key.Key.{Key}
+use Rattle.ownership_model.specs.Alike.{AreAlike, AreWithin}
+use Rattle.ownership_model.specs.Footprint.{footprints_from, moved_from}
 use Rattle.op_step.specs.Meter.{raised}
 use Rattle.run_engine.specs.HeadAndTail.{AreShared}
 use Rattle.run_engine.specs.Marks.{IsGreatest}
 use Rattle.run_engine.specs.Bounds.{AgreesAt}
 use Rattle.op_step.specs.Chunk.{Chunk}
-use Rattle.run_engine.specs.NewMarks.{IsFirstPart}
+use Rattle.run_engine.specs.NewMarks.{AreNeighbours, IsFirstPart}
 use Rattle.run_engine.specs.Memo.{IsAmong, AreSome}
 
 -- an old stretch between neighbouring checkpoints begins with the state and has the first `len` of the operations: all of them are its
@@ -19,9 +22,19 @@ pub record IsOldStretch (old : List Operation) (marks : List ℕ) (start : State
   pub start_is : start ≡ end_from nothing_held (take place.neighbours.at old)
   pub ops_are : take len (drop place.neighbours.at old) ≡ take len ops
 
--- an old stretch begins with the state and has the first `len` of the operations, or one of the chunks does
+-- an old stretch between neighbouring checkpoints has the first `len` of the operations, and begins with a state that differs from this one
+-- only in what they don't touch, move or copy
+pub record IsUntouchedStretch (old : List Operation) (marks : List ℕ) (start : State) (ops : List Operation) (len : ℕ) : Type 0 where
+  pub place : AreNeighbours marks len
+  pub ops_are : take len (drop place.at old) ≡ take len ops
+  pub keys : Key → Bool
+  pub alike : AreAlike keys (end_from nothing_held (take place.at old)) start
+  pub within : AreWithin keys (footprints_from (end_from nothing_held (take place.at old)) (take len ops) ++ moved_from (end_from nothing_held (take place.at old)) (take len ops))
+
+-- an old stretch begins with the state and has the first `len` of the operations, or it differs where it begins only in what they don't
+-- touch, or one of the chunks begins so and has them
 abbrev pub IsKnown : List Operation → List ℕ → List (ℕ × Chunk) → State → List Operation → ℕ → Type 0
-IsKnown old marks chunks start ops len = IsOldStretch old marks start ops len ⊎ IsAmong chunks start (take len ops)
+IsKnown old marks chunks start ops len = (IsOldStretch old marks start ops len ⊎ IsUntouchedStretch old marks start ops len) ⊎ IsAmong chunks start (take len ops)
 
 -- of the first `len` operations none is stepped, since they are known, or each one
 abbrev pub AreTaken : List Operation → List ℕ → List (ℕ × Chunk) → State → List Operation → ℕ → ℕ → ℕ → Type 0

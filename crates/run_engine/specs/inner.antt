@@ -17,4 +17,6 @@ pub mod Revision
 pub mod RevisionProps
 pub mod OldRun
 pub mod Divergence
+pub mod Touching
+pub mod Difference
 pub mod Shifts

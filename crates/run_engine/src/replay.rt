@@ -2,6 +2,7 @@
 pub mod ahead;
 pub mod anchors;
 pub mod converge;
+pub mod difference;
 pub mod divergence;
 pub mod fresh;
 pub mod guess;
@@ -14,3 +15,4 @@ pub mod restart;
 pub mod revision;
 pub mod stretch;
 pub mod touching;
+pub mod untouched;

@@ -119,10 +119,11 @@ impl Run {
     ///
     /// The size of the batch is tried first, which takes no memory. Then the edits are tried in order, each on the result
     /// of those before it. The replay begins again at the greatest checkpoint at or before the first operation that
-    /// differs, takes guesses, chunks of the shelf and old stretches where they begin with the same heap and have the same operations, and stops at the
-    /// first old checkpoint behind the last operation that differs where the heaps agree on all that can be reached. From
-    /// there on the old outcomes stay, and what can't be reached is exchanged in the checkpoints and the end. The meter rises
-    /// by the operations stepped, and where memory runs out by at most those up to the stop.
+    /// differs. It takes guesses, chunks of the shelf and old stretches that begin with the same heap and have the same
+    /// operations. Behind the last operation that differs it also takes old stretches that touch nothing at which the heaps
+    /// differ. It stops at the first old checkpoint there at which the heaps agree on all that can be reached. From there on
+    /// the old outcomes stay, and what can't be reached is exchanged in the checkpoints and the end. The meter rises by the
+    /// operations stepped, and where memory runs out by at most those up to the stop.
     ///
     /// The shelf is touched with the names of the inner checkpoints from the restart to the stop, ahead of the steps where they
     /// are known, and each checkpoint is given up whose name it answers. In the end it remembers the last of the chunks that were stepped

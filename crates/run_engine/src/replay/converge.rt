@@ -1,22 +1,27 @@
 //! A replay beside an old one, as far as the two come together.
-ghost use Rattle.std.specs.Prelude.{◌≡◌, ◌++◌, ◌+◌, ◌<◌, ◌≤◌, IfOk, length, take, slice_range};
+ghost use Rattle.std.specs.Prelude.{◌≡◌, ◌++◌, ◌+◌, ◌<◌, ◌≤◌, ℕ, List, IfOk, IfSome, OnOk, length, take, drop, slice_range, true};
 ghost use Rattle.std.specs.Ordering.{nat_cmp};
 ghost use Rattle.std.specs.BTreeSet.{contains};
-ghost use Rattle.run_engine.specs.Segments.{trace_of, marks_from, all_marks, IsRun, IsPiece};
+ghost use Rattle.ownership_model.specs.State.{nothing_held};
+ghost use Rattle.ownership_model.specs.Step.{end_from};
+ghost use Rattle.op_step.specs.Chunk.{Chunk};
+ghost use Rattle.run_engine.specs.Segments.{trace_of, marks_from, all_marks, has_mark, IsRun, IsReached, IsPiece};
 ghost use Rattle.run_engine.specs.Guesses.{with_guesses};
 ghost use Rattle.run_engine.specs.inner.OldRun.{old_trace, old_marks, new_trace, reusable};
 ghost use Rattle.run_engine.specs.HeadAndTail.{ShareEnd};
 ghost use Rattle.run_engine.specs.Bounds.{StepsAtMost};
-ghost use Rattle.run_engine.specs.NewMarks.{IsGap};
+ghost use Rattle.run_engine.specs.NewMarks.{AreNeighbours, IsGap};
 ghost use Rattle.run_engine.specs.inner.Onward.{AreMarksLeft};
 ghost use Rattle.run_engine.specs.Memo.{IsSearched};
-ghost use Rattle.run_engine.specs.Steps.{AreTaken, AreStepped};
+ghost use Rattle.run_engine.specs.Steps.{IsUntouchedStretch, AreTaken, AreStepped};
 ghost use Rattle.run_engine.specs.inner.GoesOn.{MayGoOn, GoesOnBeside};
 ghost use Rattle.run_engine.specs.inner.Placed.{IsPlaced, IsNext};
 ghost use Rattle.run_engine.specs.inner.Divergence.{IsFork};
+ghost use Rattle.run_engine.specs.inner.Difference.{AreDiffering};
 ghost use Rattle.run_engine.specs.inner.Metered.{IsMetered};
 
 use crate::replay::ahead::go_ahead;
+use crate::replay::difference::Difference;
 use crate::replay::divergence::Divergence;
 use crate::replay::guess::{guessed, may_guess};
 use crate::replay::origin::Behind;
@@ -26,6 +31,7 @@ use crate::replay::rejoin::{OldMark, rejoined_at};
 use crate::replay::revision::Revision;
 use crate::replay::stretch::{may_begin, old_stretch};
 use crate::replay::touching::touch_at;
+use crate::replay::untouched::untouched_stretch;
 use crate::segments::blocks::Segments;
 use mark_shelf::MarkShelf;
 use object_heap::Heap;
@@ -39,7 +45,7 @@ pub struct Seam {
     pub edited: usize,
 }
 
-// How far a replay is to go on, and from where on no old stretch can serve: a guess may anywhere.
+// How far a replay is to go on, and from where on no old stretch with the same heap can serve: a guess may anywhere.
 #[derive(Clone, Copy)]
 struct Limits {
     to: usize,
@@ -214,6 +220,129 @@ fn advance(
     Ok(Progress { prefix, fork })
 }
 
+// The old stretch that begins at an old checkpoint, where the replay stands beside it, if it is known to touch nothing at which the heaps
+// differ.
+fn next_untouched(
+    alloc: Global,
+    revision: &Revision,
+    progress: &Progress,
+    old: &OldMark,
+    difference: &mut Difference,
+) -> Result<Option<NextStretch>, AllocError>
+    requires prefix { IsReached (new_trace revision.now)
+        progress.now.prefix.len progress.now.prefix.segments progress.now.prefix.end }
+    requires fork { IsFork revision.now progress.now.fork }
+    requires within { old.now.index < length revision.now.segments.now }
+    requires place { length (trace_of (take old.now.index revision.now.segments.now)) ≡ old.now.at }
+    requires kept { has_mark revision.now.segments.now old.now.index ≡ true }
+    requires mark { old.now.mark
+        ≡ end_from nothing_held (take old.now.at (old_trace revision.now)) }
+    requires shared { trace_of (drop old.now.index revision.now.segments.now)
+        ≡ drop progress.now.prefix.len (new_trace revision.now) }
+    requires known { AreDiffering revision.now difference.old }
+    ensures gap { IfOk result
+        (λ o. IfSome o (λ p. AreNeighbours (old_marks revision.now) p.len)) }
+    ensures stretch { IfOk result (λ o. IfSome o (λ p.
+        IsUntouchedStretch (old_trace revision.now) (old_marks revision.now)
+        progress.now.prefix.end (drop progress.now.prefix.len (new_trace revision.now)) p.len)) }
+    ensures piece { IfOk result (λ o. IfSome o (λ p.
+        IsPiece progress.now.prefix.end (drop progress.now.prefix.len (new_trace revision.now))
+        p.segments p.end p.len)) }
+    ensures len { IfOk result (λ o. IfSome o (λ p.
+        length (trace_of (take (old.now.index + 1) revision.now.segments.now))
+        ≡ old.now.at + p.len)) }
+    ensures next { (chunks : List (ℕ × Chunk)) →
+        IfOk result (λ o. IfSome o (IsNext chunks progress.now.prefix.end)) }
+    ensures known { OnOk result (AreDiffering revision.now difference.new) }
+{
+    let did_look = difference.look(alloc, revision, progress, old)?;
+    if !did_look {
+        return Ok(None);
+    }
+    let Some(keys) = difference.keys() else {
+        return Ok(None);
+    };
+    let prefix = &progress.prefix;
+    let is_due = prefix.anchoring.is_due(prefix.len);
+    let next = untouched_stretch(alloc, revision, &prefix.end, old, keys, is_due)?;
+    match &next {
+        None => difference.miss(),
+        Some(piece) => difference.pass(piece.len),
+    }
+    Ok(next)
+}
+
+// Goes on with the replay by a stretch: the name of the checkpoint where it begins is touched.
+fn taken(
+    alloc: Global,
+    revision: &Revision,
+    progress: Progress,
+    next: NextStretch,
+    shelf: &mut MarkShelf,
+) -> Result<Progress, AllocError>
+    requires prefix { IsReached (new_trace revision.now)
+        progress.prefix.len progress.prefix.segments progress.prefix.end }
+    requires fork { IsFork revision.now progress.fork }
+    requires placed { IsPlaced shelf.old.chunks progress.prefix }
+    requires gap { AreNeighbours (old_marks revision.now) next.len }
+    requires stretch { IsUntouchedStretch (old_trace revision.now) (old_marks revision.now)
+        progress.prefix.end (drop progress.prefix.len (new_trace revision.now)) next.len }
+    requires piece { IsPiece progress.prefix.end
+        (drop progress.prefix.len (new_trace revision.now)) next.segments next.end next.len }
+    requires next { (chunks : List (ℕ × Chunk)) → IsNext chunks progress.prefix.end next }
+    ensures beside { (count : ℕ) → IfOk result (λ p.
+        GoesOnBeside revision.now progress.prefix p.prefix shelf.old shelf.new count count) }
+    ensures fork { IfOk result (λ p. IsFork revision.now p.fork) }
+    ensures placed { IfOk result (λ p. IsPlaced shelf.new.chunks p.prefix) }
+    ensures len { IfOk result (λ p. p.prefix.len ≡ progress.prefix.len + next.len) }
+{
+    let mut prefix = progress.prefix;
+    touch_at(revision.ops, prefix.len, shelf, &mut prefix.answered)?;
+    let prefix = joined(alloc, prefix, next)?;
+    Ok(Progress {
+        prefix,
+        fork: progress.fork,
+    })
+}
+
+// Goes on with the replay over the old stretch that begins at an old checkpoint, if that is known to touch nothing at which the heaps
+// differ. Else the replay stays where it stands.
+fn go_past(
+    alloc: Global,
+    revision: &Revision,
+    progress: Progress,
+    old: &OldMark,
+    difference: &mut Difference,
+    shelf: &mut MarkShelf,
+) -> Result<Progress, AllocError>
+    requires prefix { IsReached (new_trace revision.now)
+        progress.prefix.len progress.prefix.segments progress.prefix.end }
+    requires fork { IsFork revision.now progress.fork }
+    requires placed { IsPlaced shelf.old.chunks progress.prefix }
+    requires within { old.now.index < length revision.now.segments.now }
+    requires place { length (trace_of (take old.now.index revision.now.segments.now)) ≡ old.now.at }
+    requires kept { has_mark revision.now.segments.now old.now.index ≡ true }
+    requires mark { old.now.mark
+        ≡ end_from nothing_held (take old.now.at (old_trace revision.now)) }
+    requires shared { trace_of (drop old.now.index revision.now.segments.now)
+        ≡ drop progress.prefix.len (new_trace revision.now) }
+    requires known { AreDiffering revision.now difference.old }
+    ensures beside { (count : ℕ) → IfOk result (λ p.
+        GoesOnBeside revision.now progress.prefix p.prefix shelf.old shelf.new count count) }
+    ensures fork { IfOk result (λ p. IsFork revision.now p.fork) }
+    ensures placed { IfOk result (λ p. IsPlaced shelf.new.chunks p.prefix) }
+    ensures no_less { IfOk result (λ p. progress.prefix.len ≤ p.prefix.len) }
+    ensures order { IfOk result (λ p. p.prefix.len + old.now.at ≤ progress.prefix.len
+        + length (trace_of (take (old.now.index + 1) revision.now.segments.now))) }
+    ensures known { OnOk result (AreDiffering revision.now difference.new) }
+{
+    let next = next_untouched(alloc, revision, &progress, old, difference)?;
+    match next {
+        None => Ok(progress),
+        Some(piece) => taken(alloc, revision, progress, piece, shelf),
+    }
+}
+
 // The segments of the replayed prefix, and then others.
 fn spliced(
     alloc: Global,
@@ -240,7 +369,8 @@ fn spliced(
 
 /// Goes on with the replay to its end, or to the first old checkpoint at or behind the seam where the heaps agree.
 ///
-/// From the seam on an old stretch could begin at an old checkpoint alone, and at each that is passed the heap is another: none serves.
+/// From the seam on an old stretch could begin at an old checkpoint alone, and at each that is passed the heap is another: one serves only
+/// if it touches nothing at which the heaps differ.
 pub fn converge(
     alloc: Global,
     revision: &Revision,
@@ -289,6 +419,7 @@ pub fn converge(
     let mut progress = Progress { prefix, fork };
     let (first, mut at) = old.last_from(seam.base);
     let mut divergence = Divergence::none(alloc, fork);
+    let mut difference = Difference::none(alloc, fork);
     for i in first..old.len() {
         let segment = old.at(i);
         if at >= seam.base {
@@ -306,6 +437,7 @@ pub fn converge(
                     let len = revision.ops.len();
                     return Ok(spliced(alloc, prefix, rest, end, len)?);
                 }
+                progress = go_past(alloc, revision, progress, &old_mark, &mut difference, shelf)?;
             }
         }
         at += segment.ops().len();

@@ -2,7 +2,7 @@
 ghost use Rattle.std.specs.Prelude.{◌≡◌, ◌⊎◌, ℕ, List, [], ◌+◌, ◌-◌, ◌<◌, ◌≤◌, IfOk, IfSome, IsTrue, length, take, drop, slice_range};
 ghost use Rattle.ownership_model.specs.State.{nothing_held};
 ghost use Rattle.ownership_model.specs.Step.{end_from};
-ghost use Rattle.run_engine.specs.Segments.{trace_of, marks_from, BeginsMarked, IsRun, IsPiece};
+ghost use Rattle.run_engine.specs.Segments.{trace_of, marks_from, AreReplayFrom, BeginsMarked, IsRun, IsPiece};
 ghost use Rattle.run_engine.specs.inner.OldRun.{old_trace, old_marks, new_trace};
 ghost use Rattle.run_engine.specs.inner.Divergence.{IsFork};
 ghost use Rattle.run_engine.specs.NewMarks.{IsFirstPart};
@@ -81,7 +81,7 @@ pub fn old_stretch(
         end: after,
         len,
         origin: Origin::Old,
-        to_anchor: j < old.len() && old.at(j).is_anchored(),
+        to_anchor: begins_anchored(old, j),
     };
     Ok(Some((piece, from + len)))
 }
@@ -148,6 +148,33 @@ fn reach(segments: &Segments, from: usize, most: usize) -> usize
     last
 }
 
+/// Whether the segment at an index begins with an anchor. Behind all there is none.
+pub fn begins_anchored(segments: &Segments, index: usize) -> bool {
+    index < segments.len() && segments.at(index).is_anchored()
+}
+
+/// The heap of the checkpoint with which the segment at j begins, if that is kept, or the end.
+pub fn mark_at(
+    alloc: Global,
+    segments: &Segments,
+    end: &Heap,
+    j: usize,
+) -> Result<Option<Heap>, AllocError>
+    requires within { j ≤ length segments.now }
+    requires run { IsRun segments.now end.now }
+    ensures heap { IfOk result
+        (λ o. IfSome o (λ h. h ≡ end_from nothing_held (trace_of (take j segments.now)))) }
+    ensures kept { IfOk result (λ o. IfSome o (λ h. BeginsMarked (drop j segments.now))) }
+{
+    if j == segments.len() {
+        return Ok(Some(end.share()?));
+    }
+    match segments.at(j).mark() {
+        None => Ok(None),
+        Some(mark) => Ok(Some(mark.heap(alloc)?)),
+    }
+}
+
 // The heap where the segment at j begins, or the end, if it is kept, as a checkpoint or as an anchor.
 fn heap_at(
     alloc: Global,
@@ -160,14 +187,22 @@ fn heap_at(
     ensures { IfOk result
         (λ o. IfSome o (λ h. h ≡ end_from nothing_held (trace_of (take j segments.now)))) }
 {
-    if j == segments.len() {
-        return Ok(Some(end.share()?));
+    match mark_at(alloc, segments, end, j)? {
+        None => anchor_at(alloc, segments, j),
+        Some(heap) => Ok(Some(heap)),
     }
-    let segment = segments.at(j);
-    if let Some(mark) = segment.mark() {
-        return Ok(Some(mark.heap(alloc)?));
+}
+
+// The heap of the anchor with which the segment at j begins, if there is one.
+fn anchor_at(alloc: Global, segments: &Segments, j: usize) -> Result<Option<Heap>, AllocError>
+    requires { AreReplayFrom nothing_held segments.now }
+    ensures { IfOk result
+        (λ o. IfSome o (λ h. h ≡ end_from nothing_held (trace_of (take j segments.now)))) }
+{
+    if j >= segments.len() {
+        return Ok(None);
     }
-    match segment.anchor() {
+    match segments.at(j).anchor() {
         None => Ok(None),
         Some(anchor) => Ok(Some(anchor.heap(alloc)?)),
     }

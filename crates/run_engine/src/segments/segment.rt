@@ -1,15 +1,18 @@
 //! A segment of a run.
-ghost use Rattle.std.specs.Prelude.{◌≡◌, IfOk, None, Some, if◌then◌else◌};
+ghost use Rattle.std.specs.Prelude.{◌≡◌, IfOk, IfSome, None, Some, if◌then◌else◌};
 ghost use Rattle.std.specs.Arc.{arc_value};
 ghost use Rattle.std.specs.Option.{option_copied, option_map};
 ghost use Rattle.trace_types.specs.Trace.{place_of};
 ghost use Rattle.ownership_model.specs.Step.{outcomes_from};
+ghost use Rattle.heap_difference.specs.Naming.{with_names};
 ghost use Rattle.run_engine.specs.inner.Parts.{AreBetween};
 ghost use Rattle.run_engine.specs.inner.Cleared.{last_name};
+ghost use Rattle.run_engine.specs.inner.Touching.{TouchTheSame, HasTouchedFrom};
 
 use crate::segments::bounds::{Bounds, bounds_of};
 use object_heap::Heap;
 use op_step::{ChunkRun, Replayed};
+use ownership_model::Key;
 use std::alloc::{AllocError, Global};
 use std::marker::Model;
 use std::sync::Arc;
@@ -23,9 +26,14 @@ use trace_types::sequence::Sequence;
 pub struct Segment {
     mark: Option<Arc<Heap>>,
     anchor: Option<Arc<Heap>>,
+    // what the operations touch, move or copy from the checkpoint on, and neither they nor their outcomes name, if that is known: in any
+    // order, and perhaps more than once
+    keys: Option<Arc<Vec<Key>>>,
     body: Arc<Replayed>,
     bounds: Bounds,
     last: Option<u32>,
+    // how many keys were laid over the checkpoint since its operations were stepped
+    laid: usize,
 }
 
 impl Model for Segment {
@@ -40,6 +48,7 @@ impl Model for Segment {
 
     ghost use Rattle.run_engine.specs.inner.Parts.{AreBetween};
     ghost use Rattle.run_engine.specs.inner.Cleared.{last_name};
+    ghost use Rattle.run_engine.specs.inner.Touching.{AreKeysOf, shared_keys};
 
     ghost view = { λ s. record {
       mark = option_map arc_value s.mark;
@@ -50,7 +59,9 @@ impl Model for Segment {
 
     ghost invariant = { λ s.
         AreBetween s.bounds.least s.bounds.greatest (arc_value s.body).ops.items
-        × (s.last ≡ last_name (arc_value s.body).ops.items) };
+        × (s.last ≡ last_name (arc_value s.body).ops.items)
+        × AreKeysOf (shared_keys s.keys) (option_map arc_value s.mark)
+        (arc_value s.body).ops.items (arc_value s.body).outcomes };
 }
 
 impl Segment {
@@ -66,17 +77,15 @@ impl Segment {
             }) }
     {
         let mark = Arc::new(alloc, chunk.start().share()?)?;
-        let anchor = if is_anchored {
-            Some(Arc::try_clone(&mark)?)
-        } else {
-            None
-        };
+        let anchor = anchor_of(&mark, is_anchored)?;
         Ok(Segment {
             mark: Some(mark),
             anchor,
+            keys: Some(Arc::try_clone(chunk.keys())?),
             body: Arc::try_clone(chunk.replayed())?,
             bounds: bounds_of(chunk.ops()),
             last: last_id(chunk.ops()),
+            laid: 0,
         })
     }
 
@@ -99,9 +108,11 @@ impl Segment {
         Ok(Segment {
             mark: None,
             anchor,
+            keys: None,
             body: Arc::new(alloc, Replayed { ops, outcomes })?,
             bounds,
             last,
+            laid: 0,
         })
     }
 
@@ -109,12 +120,18 @@ impl Segment {
     pub fn share(&self) -> Result<Self, AllocError>
         ensures { IfOk result (λ s. s ≡ self.now) }
     {
+        let keys = match &self.keys {
+            None => None,
+            Some(keys) => Some(Arc::try_clone(keys)?),
+        };
         Ok(Segment {
             mark: share_of(&self.mark)?,
             anchor: share_of(&self.anchor)?,
+            keys,
             body: Arc::try_clone(&self.body)?,
             bounds: self.bounds,
             last: self.last,
+            laid: self.laid,
         })
     }
 
@@ -125,10 +142,50 @@ impl Segment {
         Ok(Segment {
             mark: None,
             anchor: share_of(&self.anchor)?,
+            keys: None,
             body: Arc::try_clone(&self.body)?,
             bounds: self.bounds,
             last: self.last,
+            laid: self.laid,
         })
+    }
+
+    /// The same operations and outcomes, which are shared, with a checkpoint where they touch the same as behind the one that they had, if
+    /// they had one. It is an anchor as well if that is wanted, and one that they had goes. So many more keys are laid over it.
+    pub fn beginning(
+        &self,
+        alloc: Global,
+        start: &Heap,
+        more: usize,
+        is_anchored: bool,
+    ) -> Result<Self, AllocError>
+        requires { IfSome self.now.mark (λ m. TouchTheSame m start.now self.now.ops) }
+        ensures { IfOk result
+            (λ s. s ≡ record self.now {
+              mark = Some start.now;
+              anchor = if is_anchored then Some start.now else None;
+            }) }
+    {
+        let keys = match &self.keys {
+            None => None,
+            Some(keys) => Some(Arc::try_clone(keys)?),
+        };
+        let mark = Arc::new(alloc, start.share()?)?;
+        let anchor = anchor_of(&mark, is_anchored)?;
+        Ok(Segment {
+            mark: Some(mark),
+            anchor,
+            keys,
+            body: Arc::try_clone(&self.body)?,
+            bounds: self.bounds,
+            last: self.last,
+            laid: self.laid.saturating_add(more),
+        })
+    }
+
+    /// How many keys were laid over the checkpoint since its operations were stepped.
+    pub fn laid(&self) -> usize {
+        self.laid
     }
 
     /// The operations, where they stand.
@@ -169,6 +226,18 @@ impl Segment {
         self.body.outcomes.as_slice()
     }
 
+    /// What the operations touch, move or copy from the checkpoint on, if that is known: all of it with what they and their outcomes name. The
+    /// keys come in any order, and perhaps more than once.
+    pub fn keys(&self) -> Option<&[Key]>
+        ensures { IfSome result (λ k. HasTouchedFrom
+            (with_names k.now self.now.ops self.now.outcomes) self.now.mark self.now.ops) }
+    {
+        match &self.keys {
+            None => None,
+            Some(keys) => Some(keys.as_slice()),
+        }
+    }
+
     /// The anchor where it begins, if there is one.
     pub fn anchor(&self) -> Option<&Heap>
         ensures { option_copied result ≡ self.now.anchor }
@@ -188,6 +257,17 @@ impl Segment {
             Some(heap) => Some(heap),
         }
     }
+}
+
+// A checkpoint once more, as an anchor, if that is wanted.
+fn anchor_of(mark: &Arc<Heap>, is_wanted: bool) -> Result<Option<Arc<Heap>>, AllocError>
+    ensures { IfOk result (λ o. option_map arc_value o
+        ≡ (if is_wanted then Some (arc_value mark.now) else None)) }
+{
+    if is_wanted {
+        return Ok(Some(Arc::try_clone(mark)?));
+    }
+    Ok(None)
 }
 
 // A heap once more, if there is one.

@@ -1,11 +1,16 @@
 //! A segment as it stands in a run.
-ghost use Rattle.std.specs.Prelude.{◌≡◌, length, is_some, [], ◌∷◌};
+ghost use Rattle.std.specs.Prelude.{◌≡◌, length, is_some, [], ◌∷◌, None, Some, IfOk, IfSome, if◌then◌else◌};
 ghost use Rattle.std.specs.Option.{option_copied};
+ghost use Rattle.heap_difference.specs.Naming.{with_names};
 ghost use Rattle.run_engine.specs.inner.Cleared.{cleared_if, last_name};
 ghost use Rattle.run_engine.specs.inner.Blocks.{laid_over, AreSoundBelow};
+ghost use Rattle.run_engine.specs.inner.Touching.{TouchTheSame, HasTouchedFrom};
 
 use crate::segments::segment::Segment;
 use agreement::{Checkpoint, Exchange};
+use object_heap::Heap;
+use ownership_model::Key;
+use std::alloc::{AllocError, Global};
 use std::marker::Model;
 use trace_types::ops::Op;
 use trace_types::outcomes::Outcome;
@@ -84,11 +89,61 @@ impl<'a> Standing<'a> {
         }
     }
 
+    /// What the operations touch, move or copy from the checkpoint on, if that is known: all of it with what they and their outcomes name. Where
+    /// something is laid over it, it isn't known. The keys come in any order, and perhaps more than once.
+    pub fn keys(&self) -> Option<&'a [Key]>
+        ensures { IfSome result (λ k. HasTouchedFrom
+            (with_names k.now self.now.ops self.now.outcomes) self.now.mark self.now.ops) }
+    {
+        if self.is_given_up || self.laid.is_some() {
+            return None;
+        }
+        self.segment.keys()
+    }
+
+    /// The same operations and outcomes, which are shared, with a checkpoint where they touch the same as behind the one that stands here,
+    /// if one does. It is an anchor as well if that is wanted, and one that stands here goes. So many more keys are laid over it.
+    pub fn beginning(
+        &self,
+        alloc: Global,
+        start: &Heap,
+        more: usize,
+        is_anchored: bool,
+    ) -> Result<Segment, AllocError>
+        requires { IfSome self.now.mark (λ m. TouchTheSame m start.now self.now.ops) }
+        ensures { IfOk result
+            (λ s. s ≡ record self.now {
+              mark = Some start.now;
+              anchor = if is_anchored then Some start.now else None;
+            }) }
+    {
+        if self.is_given_up || self.laid.is_some() {
+            let bare = self.segment.without_mark()?;
+            return bare.beginning(alloc, start, more, is_anchored);
+        }
+        self.segment.beginning(alloc, start, more, is_anchored)
+    }
+
+    /// How many keys were laid over its checkpoint since its operations were stepped.
+    pub fn laid(&self) -> usize {
+        self.segment.laid()
+    }
+
     /// Whether there is a checkpoint where it begins.
     pub fn is_marked(&self) -> bool
         ensures { result ≡ is_some self.now.mark }
     {
         !self.is_given_up && self.segment.mark().is_some()
+    }
+
+    /// The heap of the checkpoint where it begins, if there is one and nothing is laid over it.
+    pub fn heap(&self) -> Option<&'a Heap>
+        ensures { IfSome result (λ h. self.now.mark ≡ Some h.now) }
+    {
+        if self.is_given_up || self.laid.is_some() {
+            return None;
+        }
+        self.segment.mark()
     }
 
     /// The checkpoint where it begins, if there is one.

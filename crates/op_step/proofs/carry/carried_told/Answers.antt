@@ -1,9 +1,12 @@
-use Rattle.std.proofs.Common.{◌∙◌, ap, sym, subst}
+use Rattle.std.proofs.Common.{◌++◌, ◌∙◌, ap, sym, subst}
+use Rattle.trace_types.specs.declared.kinds.Kind.{Kind}
+use Rattle.ownership_model.specs.Alike.{Covers}
 use Rattle.ownership_model.specs.Carry.{IsCarriable}
 use Rattle.ownership_model.specs.Bounds.{PlanFits}
 use Rattle.ownership_model.specs.Step.{Stepped}
 use Rattle.ownership_model.specs.declared.plan.Plan.{Plan}
 use Rattle.ownership_model.proofs.LawsHold.{soundness, bounds}
+use Rattle.op_step.specs.Told.{unnamed_keys}
 use Rattle.op_step.proofs.StepLemmas.{carried_out-step}
 use Rattle.op_step.proofs.ToldLemmas.{covers_step}
 use Rattle.op_step.proofs.carry.carried_told.Goals as goal
@@ -28,5 +31,11 @@ returns-clause-outcome c =
 
 pub returns-clause-told : goal.returns-clause-told
 returns-clause-told c =
-    covers_step c.args.heap.now c.args.op.now c.in_ok-planned.planned c.args.keys.now.items c.tell_read.new.keys.items c.carry_out_told.new.keys.items
-    c.in_ok-tell_read.ensures c.in_ok-planned.ensures c.in_ok-outcome.ensures.told
+    let m = c.args.heap.now in
+    let op = c.args.op.now in
+    let told : Covers c.tell_unnamed.new.keys.items (c.args.keys.now.items ++ unnamed_keys m op.kind c.in_ok-planned.planned) =
+    subst (λ (kd : Kind). Covers c.tell_unnamed.new.keys.items (c.args.keys.now.items ++ unnamed_keys m kd c.in_ok-planned.planned)) c.kind.ensures c.in_ok-tell_unnamed.ensures in
+    covers_step m op c.in_ok-planned.planned c.in_ok-outcome.outcome c.args.keys.now.items c.tell_unnamed.new.keys.items c.carry_out_told.new.keys.items
+    told c.in_ok-planned.ensures
+    (c.in_ok-outcome.ensures.outcome ∙ ap (λ (s : Stepped). s.outcome) (carried_out-step m op c.id.result c.in_ok-planned.planned c.id.ensures.value c.in_ok-planned.ensures))
+    c.in_ok-outcome.ensures.told

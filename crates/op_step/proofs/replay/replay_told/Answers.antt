@@ -1,5 +1,5 @@
-use Rattle.std.proofs.Common.{◌++◌, ◌∷◌, [], drop, ap, ◌∙◌, arith}
-use Rattle.std.proofs.lemmas.List.{drop_all}
+use Rattle.std.proofs.Common.{◌++◌, ◌∷◌, [], take, drop, ap, ◌∙◌, arith}
+use Rattle.std.proofs.lemmas.List.{drop_all, take_all}
 use Rattle.trace_types.specs.declared.outcomes.Outcome.{Outcome}
 use Rattle.op_step.specs.Meter.{raised}
 use Rattle.op_step.specs.Told.{replay_keys}
@@ -26,10 +26,12 @@ loop-op-preserved c =
       counted = c.in_ok-step_told_in.ensures.counted ∙ ap (λ n. raised n 1) so_far.counted ∙ raised-next c.args.meter.now i;
       keys =
           covers_next m n ops i op (omega arith) c.op-item.is made c.loop-op.keys.items c.step_told_in.new.keys.items (c.args.keys.now.items ++ replay_keys c.args.start ops)
-          c.in_ok-step_told_in.ensures.told so_far.keys;
+          c.loop-op.outcomes.items c.push.new.self.items c.in_ok-step_told_in.field-0 c.in_ok-step_told_in.ensures.told c.in_ok-push.ensures.items so_far.keys;
     }
 
 pub returns-clause-told : goal.returns-clause-told
 returns-clause-told c =
-    covers_end c.loop-op.heap (drop c.loop-op.op-index c.args.ops.now) c.loop-op.keys.items (c.args.keys.now.items ++ replay_keys c.args.start c.args.ops.now)
-    (drop_all c.loop-op.op-index c.args.ops.now (omega arith)) c.loop-op.invariant.keys
+    let ops = c.args.ops.now in
+    rw c.from_vec.ensures
+    (covers_end c.loop-op.heap (take c.loop-op.op-index ops) ops (drop c.loop-op.op-index ops) c.loop-op.outcomes.items c.loop-op.keys.items (c.args.keys.now.items ++ replay_keys c.args.start ops)
+    (drop_all c.loop-op.op-index ops (omega arith)) (take_all c.loop-op.op-index ops c.loop-op-test.false) c.loop-op.invariant.keys)

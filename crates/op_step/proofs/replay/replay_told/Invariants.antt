@@ -1,6 +1,7 @@
-use Rattle.std.proofs.Common.{◌≡◌, ◌++◌, drop}
+use Rattle.std.proofs.Common.{◌≡◌, ◌++◌, take, drop}
 use Rattle.ownership_model.specs.Step.{outcomes_from, end_from, AreNew}
 use Rattle.ownership_model.specs.Alike.{Covers}
+use Rattle.heap_difference.specs.Naming.{with_names}
 use Rattle.op_step.specs.Told.{replay_keys}
 use Rattle.op_step.specs.Meter.{raised}
 use Rattle.op_step.proofs.replay.replay_told.Given as goal
@@ -12,5 +13,5 @@ invariant-loop-op l = record {
   told : l.outcomes.items ++ outcomes_from l.heap (drop l.op-index l.ops) ≡ outcomes_from l.fn.start l.ops;
   rest : end_from l.heap (drop l.op-index l.ops) ≡ end_from l.fn.start l.ops;
   counted : l.meter ≡ raised l.fn.meter l.op-index;
-  keys : Covers (l.keys.items ++ replay_keys l.heap (drop l.op-index l.ops)) (l.fn.keys.items ++ replay_keys l.fn.start l.ops);
+  keys : Covers (with_names l.keys.items (take l.op-index l.ops) l.outcomes.items ++ replay_keys l.heap (drop l.op-index l.ops)) (l.fn.keys.items ++ replay_keys l.fn.start l.ops);
 }

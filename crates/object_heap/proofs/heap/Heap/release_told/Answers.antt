@@ -1,11 +1,13 @@
-use Rattle.std.proofs.Common.{ap, ◌∙◌, ◌++◌, refl}
+use Rattle.std.proofs.Common.{List, ap, ◌∙◌, ◌++◌, refl, sym, subst}
+use Rattle.trace_types.specs.declared.outcomes.Event.{Event}
+use Rattle.ownership_model.specs.declared.key.Key.{Key}
+use Rattle.ownership_model.specs.Alike.{Covers}
 use Rattle.ownership_model.specs.State.{State}
 use Rattle.ownership_model.specs.Changes.{changed}
 use Rattle.object_heap.specs.Counted.{drafted}
 use Rattle.object_heap.proofs.ReleaseLemmas.{cascades}
 use Rattle.object_heap.proofs.NothingLemmas.{kept_nothing}
-use Rattle.object_heap.specs.Told.{release_keys}
-use Rattle.object_heap.proofs.ToldLemmas.{covers_same}
+use Rattle.object_heap.specs.Told.{release_keys, event_keys}
 use Rattle.object_heap.proofs.heap.Heap.release_told.Goals as goal
 
 pub invariant_of-self-in-Err : goal.invariant_of-self-in-Err
@@ -21,5 +23,7 @@ returns-in-Ok-clause-cascade c =
 
 pub returns-in-Ok-clause-told : goal.returns-in-Ok-clause-told
 returns-in-Ok-clause-told c =
-    covers_same c.carry_out_told.new.keys.items (c.args.keys.now.items ++ release_keys c.args.self.now c.args.changes.now c.args.pending.now)
-    (c.in-Ok.ensures.told ∙ ap (λ (m : State). c.args.keys.now.items ++ release_keys m c.args.changes.now c.args.pending.now) c.self.view_is)
+    let told : List Key = c.carry_out_told.new.keys.items in
+    let before : List Key = c.args.keys.now.items in
+    subst (λ (es : List Event). Covers (told ++ event_keys es) (before ++ release_keys c.args.self.now c.args.changes.now c.args.pending.now)) (sym c.from_vec.ensures)
+    (subst (λ (m : State). Covers (told ++ event_keys c.in-Ok.events.items) (before ++ release_keys m c.args.changes.now c.args.pending.now)) c.self.view_is c.in-Ok.ensures.told)

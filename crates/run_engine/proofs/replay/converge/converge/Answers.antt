@@ -14,11 +14,12 @@ use Rattle.std.proofs.Math.Seq.{take-length}
 use Rattle.run_engine.proofs.SegmentLemmas.{length-trace_of-next, trace_of-append}
 use Rattle.run_engine.proofs.PieceLemmas.{mark-is}
 use Rattle.run_engine.proofs.PlaceLemmas.{mark-there, place-within, trace_of-prefix}
-use Rattle.run_engine.proofs.ConvergeLemmas.{IsBeside-first, IsBeside-next, least-agreeing, bounded, ShareEnd-length, IsRunFrom-back, rest-shared, distinct-back, old-unused, new-unused, AgreesAt-here, AgreesAt-there, IsSpliced, IsSpliced-rest, IsSpliced-end}
-use Rattle.run_engine.proofs.replay.converge.converge.Goals.{then-at-seam+in-Some+in_ok-progress+in_ok-found+in_default-found, then-at-seam+in_default, else-at-seam}
+use Rattle.run_engine.proofs.ConvergeLemmas.{IsBeside-first, IsBeside-next, least-agreeing, bounded, ShareEnd-length, IsRunFrom-back, rest-shared, distinct-back, old-unused, new-unused, AgreesAt-here, AgreesAt-there, past-within, IsSpliced, IsSpliced-rest, IsSpliced-end}
+use Rattle.run_engine.proofs.replay.converge.converge.Goals.{then-at-seam+in-Some+in_ok-progress+in_ok-found+in_default-found+in_ok-progress-2, then-at-seam+in_default, else-at-seam}
 use Rattle.run_engine.proofs.MarksLemmas.{all_marks-stop, all_marks-rest, IsReached-length}
 use Rattle.run_engine.proofs.LeftLemmas.{left-at-stop, left-at-end}
 use Rattle.run_engine.proofs.DivergenceLemmas.{IsDivergence-fork}
+use Rattle.run_engine.proofs.GiveUpLemmas.{has_mark-at}
 use Rattle.run_engine.proofs.GoesOnLemmas.{GoesOn-none, GoesOn-next, GoesOn-steps}
 use Rattle.run_engine.specs.Bounds.{AgreesAt}
 use Rattle.run_engine.proofs.SteppedLemmas.{AreStepped-stop, AreStepped-end}
@@ -57,6 +58,10 @@ returns-in_err-progress-clause-bound c =
 
 pub returns-in_err-found-clause-bound : goal.returns-in_err-found-clause-bound
 returns-in_err-found-clause-bound c =
+    bounded _ _ _ _ _ _ _ _ _ _ _ _ _ c.loop-i.invariant.place c.requires.shared c.if-at-seam.true (omega (arith, c.loop-i.invariant.place.rise, c.advance.ensures.metered.rise))
+
+pub returns-in_err-progress-2-clause-bound : goal.returns-in_err-progress-2-clause-bound
+returns-in_err-progress-2-clause-bound c =
     bounded _ _ _ _ _ _ _ _ _ _ _ _ _ c.loop-i.invariant.place c.requires.shared c.if-at-seam.true (omega (arith, c.loop-i.invariant.place.rise, c.advance.ensures.metered.rise))
 
 pub returns-in_err-spliced-clause-bound : goal.returns-in_err-spliced-clause-bound
@@ -98,6 +103,22 @@ pub rejoined_at-requires-clause-unused : goal.rejoined_at-requires-clause-unused
 rejoined_at-requires-clause-unused c =
     (new-unused c.args.revision.now.ops.now.ops c.in_ok-progress.progress.prefix.len c.in_ok-progress.progress.prefix.segments (drop c.loop-i.i c.args.revision.now.segments.now) c.in_ok-progress.progress.prefix.end c.in_ok-progress.ensures.beside.reached c.args.revision.now.holds.trace.distinct
     (back c.args.revision.now.segments.now c.args.revision.now.ops.now.ops c.args.seam.base c.args.seam.edited c.loop-i.i c.loop-i.at c.in_ok-progress.progress.prefix.len c.requires.shared c.loop-i.invariant.place.place c.if-at-seam.true c.in_ok-progress.ensures.there))
+
+pub go_past-requires-clause-place : goal.go_past-requires-clause-place
+go_past-requires-clause-place c = c.loop-i.invariant.place.place
+
+pub go_past-requires-clause-kept : goal.go_past-requires-clause-kept
+go_past-requires-clause-kept c =
+    has_mark-at c.args.revision.now.segments.now c.loop-i.i c.at-segment.result (omega (arith, c.loop-i-test.true, c.len-i-end.ensures)) c.at-segment.ensures ∙ ap is_some (sym c.in-Some.ensures)
+
+pub go_past-requires-clause-mark : goal.go_past-requires-clause-mark
+go_past-requires-clause-mark c =
+    mark-is c.args.revision.now.segments.now c.loop-i.i c.at-segment.result c.in-Some.mark c.args.revision.now.holds.kept.run.replay (omega (arith, c.loop-i-test.true, c.len-i-end.ensures)) c.at-segment.ensures c.in-Some.ensures
+    ∙ ap (end_from nothing_held) (trace_of-prefix c.args.revision.now.segments.now c.loop-i.i c.loop-i.at c.loop-i.invariant.place.place)
+
+pub go_past-requires-clause-shared : goal.go_past-requires-clause-shared
+go_past-requires-clause-shared c =
+    back c.args.revision.now.segments.now c.args.revision.now.ops.now.ops c.args.seam.base c.args.seam.edited c.loop-i.i c.loop-i.at c.in_ok-progress.progress.prefix.len c.requires.shared c.loop-i.invariant.place.place c.if-at-seam.true c.in_ok-progress.ensures.there
 
 -- where the old run goes on it has the operations that are left
 rest-is : (c : goal.Joined-divergence-14) → trace_of c.in-Some-found.rest ≡ trace_of (drop c.loop-i.i c.args.revision.now.segments.now)
@@ -153,21 +174,21 @@ place-end old i at ge le e = let n : i ≡ length old = omega arith in sym e ∙
 
 pub returns-clause-marks : goal.returns-clause-marks
 returns-clause-marks c =
-    let there : c.in_ok-progress-2.progress.prefix.len ≡ length c.args.revision.now.ops.now.ops = c.in_ok-progress-2.ensures.there ∙ c.len.ensures in
+    let there : c.in_ok-progress-3.progress.prefix.len ≡ length c.args.revision.now.ops.now.ops = c.in_ok-progress-3.ensures.there ∙ c.len.ensures in
     let e = place-end c.args.revision.now.segments.now c.loop-i.i c.loop-i.at (omega (arith, c.loop-i-test.false, c.len-i-end.ensures)) (omega (arith, c.loop-i.auto.i-end (omega (arith, c.last_from-first.ensures.last.within, c.len-i-end.ensures)), c.len-i-end.ensures)) c.loop-i.invariant.place.place in
-    let trace : trace_of c.in_ok-progress-2.progress.prefix.segments ≡ c.args.revision.now.ops.now.ops = (IsSpliced-end c.args.revision.now.ops.now.ops c.in_ok-progress-2.progress.prefix.len c.in_ok-progress-2.progress.prefix.segments c.in_ok-progress-2.progress.prefix.end c.in_ok-progress-2.ensures.beside.reached there).trace in
-    left-at-end c.args.revision.now.guesses.now c.args.revision.now.segments.now c.args.revision.now.ops.now.ops (marks_from 0 c.args.prefix.segments) (marks_from 0 c.in_ok-progress-2.progress.prefix.segments) _ c.args.seam.base c.args.seam.edited c.args.prefix.len c.in_ok-progress-2.progress.prefix.len c.args.shelf.now c.advance-2.new.shelf _ _
+    let trace : trace_of c.in_ok-progress-3.progress.prefix.segments ≡ c.args.revision.now.ops.now.ops = (IsSpliced-end c.args.revision.now.ops.now.ops c.in_ok-progress-3.progress.prefix.len c.in_ok-progress-3.progress.prefix.segments c.in_ok-progress-3.progress.prefix.end c.in_ok-progress-3.ensures.beside.reached there).trace in
+    left-at-end c.args.revision.now.guesses.now c.args.revision.now.segments.now c.args.revision.now.ops.now.ops (marks_from 0 c.args.prefix.segments) (marks_from 0 c.in_ok-progress-3.progress.prefix.segments) _ c.args.seam.base c.args.seam.edited c.args.prefix.len c.in_ok-progress-3.progress.prefix.len c.args.shelf.now c.advance-2.new.shelf _ _
     c.args.revision.now.holds.trace.distinct c.requires.shared
     (λ p mark behind agrees.
     let least : c.loop-i.at ≤ p = least-agreeing _ _ _ _ _ _ _ _ _ _ _ _ c.loop-i.invariant.place p mark behind agrees in
     omega arith)
-    there (GoesOn-next _ _ _ _ _ _ _ _ _ _ _ _ c.loop-i.invariant.beside c.in_ok-progress-2.ensures.beside).onward
-    (ap (λ ops. marks_from 0 c.in_ok-progress-2.progress.prefix.segments ++ length ops ∷ []) trace)
+    there (GoesOn-next _ _ _ _ _ _ _ _ _ _ _ _ c.loop-i.invariant.beside c.in_ok-progress-3.ensures.beside).onward
+    (ap (λ ops. marks_from 0 c.in_ok-progress-3.progress.prefix.segments ++ length ops ∷ []) trace)
 
 pub returns-clause-stepped : goal.returns-clause-stepped
 returns-clause-stepped c =
-    AreStepped-end (record { old = trace_of c.args.revision.now.segments.now; ops = c.args.revision.now.ops.now.ops; base = c.args.seam.base; edited = c.args.seam.edited; marks = all_marks c.args.revision.now.segments.now; chunks = with_guesses c.args.revision.now.guesses.now c.args.shelf.now.chunks }) c.args.prefix.len c.in_ok-progress-2.progress.prefix.len c.args.meter.now _ (c.in_ok-progress-2.ensures.there ∙ c.len.ensures)
-    (GoesOn-steps _ _ _ _ _ _ _ _ _ (GoesOn-next _ _ _ _ _ _ _ _ _ _ _ _ c.loop-i.invariant.beside c.in_ok-progress-2.ensures.beside))
+    AreStepped-end (record { old = trace_of c.args.revision.now.segments.now; ops = c.args.revision.now.ops.now.ops; base = c.args.seam.base; edited = c.args.seam.edited; marks = all_marks c.args.revision.now.segments.now; chunks = with_guesses c.args.revision.now.guesses.now c.args.shelf.now.chunks }) c.args.prefix.len c.in_ok-progress-3.progress.prefix.len c.args.meter.now _ (c.in_ok-progress-3.ensures.there ∙ c.len.ensures)
+    (GoesOn-steps _ _ _ _ _ _ _ _ _ (GoesOn-next _ _ _ _ _ _ _ _ _ _ _ _ c.loop-i.invariant.beside c.in_ok-progress-3.ensures.beside))
 
 pub loop-i-init : goal.loop-i-init
 loop-i-init c = record {
@@ -177,11 +198,12 @@ loop-i-init c = record {
   fork = ap (end_from nothing_held) c.requires.begins;
   placed = c.requires.placed;
   known = IsDivergence-fork c.args.revision.now c.none-divergence.result (record { edited = c.args.prefix.len; base = c.args.prefix.len }) c.none-divergence.ensures.within c.none-divergence.ensures.edited c.none-divergence.ensures.base (ap (end_from nothing_held) c.requires.begins);
+  different = c.none-difference.ensures c.args.revision.now (ap (end_from nothing_held) c.requires.begins);
   never_less = omega arith;
 }
 
-pub returns-in_err-progress-2-clause-bound : goal.returns-in_err-progress-2-clause-bound
-returns-in_err-progress-2-clause-bound c =
+pub returns-in_err-progress-3-clause-bound : goal.returns-in_err-progress-3-clause-bound
+returns-in_err-progress-3-clause-bound c =
     let e = place-end c.args.revision.now.segments.now c.loop-i.i c.loop-i.at (omega (arith, c.loop-i-test.false, c.len-i-end.ensures)) (omega (arith, c.loop-i.auto.i-end (omega (arith, c.last_from-first.ensures.last.within, c.len-i-end.ensures)), c.len-i-end.ensures)) c.loop-i.invariant.place.place in
     let shared = c.requires.shared in
     let long = ShareEnd-length (trace_of c.args.revision.now.segments.now) c.args.revision.now.ops.now.ops c.args.seam.base c.args.seam.edited shared in
@@ -198,48 +220,55 @@ pub loop-i-preserved : goal.loop-i-preserved
 loop-i-preserved c =
     let old = c.args.revision.now.segments.now in
     elim c.if-at-seam.branch [
-      | then-at-seam+in-Some+in_ok-progress+in_ok-found+in_default-found w ↦
-          let m : w.in-Some.mark ≡ end_from nothing_held (trace_of (take c.loop-i.i c.args.revision.now.segments.now)) = mark-is c.args.revision.now.segments.now c.loop-i.i c.at-segment.result w.in-Some.mark c.args.revision.now.holds.kept.run.replay (omega (arith, c.loop-i-test.true, c.len-i-end.ensures)) c.at-segment.ensures w.in-Some.ensures in
+      | then-at-seam+in-Some+in_ok-progress+in_ok-found+in_default-found+in_ok-progress-2 w ↦
+          let lt : c.loop-i.i < length c.args.revision.now.segments.now = omega (arith, c.loop-i-test.true, c.len-i-end.ensures) in
+          let m : w.in-Some.mark ≡ end_from nothing_held (trace_of (take c.loop-i.i c.args.revision.now.segments.now)) = mark-is c.args.revision.now.segments.now c.loop-i.i c.at-segment.result w.in-Some.mark c.args.revision.now.holds.kept.run.replay lt c.at-segment.ensures w.in-Some.ensures in
           let there : w.in_ok-progress.progress.prefix.len ≡ c.loop-i.at - c.args.seam.base + c.args.seam.edited = w.in_ok-progress.ensures.there in
           let prefix = w.in_ok-progress.ensures.beside.reached in
           let rise = w.advance.ensures.metered.rise in
-          rw (w.progress-is, w.meter-is, w.shelf-is, w.divergence-is, c.ops.ensures)
+          let past = w.in_ok-progress-2.ensures.beside w.advance.new.meter in
+          rw (w.progress-is, w.meter-is, w.shelf-is, w.divergence-is, w.difference-is, c.ops.ensures)
           (record {
             place = IsBeside-next c.args.revision.now.segments.now c.args.revision.now.ops.now.ops c.args.seam.base c.args.seam.edited c.args.prefix.len c.args.meter.now c.loop-i.i c.loop-i.at c.loop-i.progress.prefix.len c.loop-i.progress.prefix.segments c.loop-i.progress.prefix.end c.loop-i.meter
-                w.in_ok-progress.progress.prefix.len w.in_ok-progress.progress.prefix.segments w.in_ok-progress.progress.prefix.end w.advance.new.meter c.at-segment.result c.loop-i.invariant.place (omega (arith, c.loop-i-test.true, c.len-i-end.ensures)) c.at-segment.ensures prefix (omega arith) (omega (arith, c.loop-i.invariant.place.rise, rise))
+                w.in_ok-progress-2.progress.prefix.len w.in_ok-progress-2.progress.prefix.segments w.in_ok-progress-2.progress.prefix.end w.advance.new.meter c.at-segment.result c.loop-i.invariant.place lt c.at-segment.ensures past.reached
+                (past-within c.args.revision.now.segments.now c.args.seam.base c.args.seam.edited c.loop-i.i c.loop-i.at w.in_ok-progress.progress.prefix.len w.in_ok-progress-2.progress.prefix.len c.at-segment.result lt c.at-segment.ensures c.loop-i.invariant.place.place w.if-at-seam.true there w.in_ok-progress-2.ensures.order)
+                (omega (arith, c.loop-i.invariant.place.rise, rise, w.in_ok-progress-2.ensures.no_less))
                 (λ marked behind agrees.
                 let agree : Agree w.in_ok-progress.progress.prefix.end w.in-Some.mark = AgreesAt-there (trace_of c.args.revision.now.segments.now) c.args.revision.now.ops.now.ops c.args.seam.base c.args.seam.edited c.loop-i.at w.in_ok-progress.progress.prefix.end w.in-Some.mark (prefix.state ∙ ap (λ x. end_from nothing_held (take x c.args.revision.now.ops.now.ops)) there) (m ∙ ap (end_from nothing_held) (trace_of-prefix c.args.revision.now.segments.now c.loop-i.i c.loop-i.at c.loop-i.invariant.place.place)) agrees in
                 let t : is_some w.in_ok-found.found ≡ true = w.in_ok-found.ensures.answer.1 agree in
                 let f : is_some w.in_ok-found.found ≡ false = ap is_some w.in_default-found.is in
                 cc);
-            beside = GoesOn-next _ _ _ _ _ _ _ _ _ _ _ _ c.loop-i.invariant.beside w.in_ok-progress.ensures.beside;
-            fork = w.in_ok-progress.ensures.fork;
-            placed = w.in_ok-progress.ensures.placed;
+            beside = GoesOn-next _ _ _ _ _ _ _ _ _ _ _ _ (GoesOn-next _ _ _ _ _ _ _ _ _ _ _ _ c.loop-i.invariant.beside w.in_ok-progress.ensures.beside) past;
+            fork = w.in_ok-progress-2.ensures.fork;
+            placed = w.in_ok-progress-2.ensures.placed;
             known = w.in_ok-found.ensures.known;
+            different = w.in_ok-progress-2.ensures.known;
             never_less = omega (arith, c.loop-i.invariant.never_less, w.advance.ensures.metered.never_less);
           })
       | then-at-seam+in_default w ↦
-          rw (w.progress-is, w.meter-is, w.shelf-is, w.divergence-is, c.ops.ensures)
+          rw (w.progress-is, w.meter-is, w.shelf-is, w.divergence-is, w.difference-is, c.ops.ensures)
           (record {
             place = IsBeside-next c.args.revision.now.segments.now c.args.revision.now.ops.now.ops c.args.seam.base c.args.seam.edited c.args.prefix.len c.args.meter.now c.loop-i.i c.loop-i.at c.loop-i.progress.prefix.len c.loop-i.progress.prefix.segments c.loop-i.progress.prefix.end c.loop-i.meter
-                c.loop-i.progress.prefix.len c.loop-i.progress.prefix.segments c.loop-i.progress.prefix.end c.loop-i.meter c.at-segment.result c.loop-i.invariant.place (omega (arith, c.loop-i-test.true, c.len-i-end.ensures)) c.at-segment.ensures c.loop-i.invariant.place.prefix c.loop-i.invariant.place.order c.loop-i.invariant.place.rise
+                c.loop-i.progress.prefix.len c.loop-i.progress.prefix.segments c.loop-i.progress.prefix.end c.loop-i.meter c.at-segment.result c.loop-i.invariant.place (omega (arith, c.loop-i-test.true, c.len-i-end.ensures)) c.at-segment.ensures c.loop-i.invariant.place.prefix (omega (arith, c.loop-i.invariant.place.order)) c.loop-i.invariant.place.rise
                 (λ marked behind agrees. let f : is_some c.at-segment.result.mark ≡ false = ap is_some (sym w.in_default.ensures) in cc);
             beside = c.loop-i.invariant.beside;
             fork = c.loop-i.invariant.fork;
             placed = c.loop-i.invariant.placed;
             known = c.loop-i.invariant.known;
+            different = c.loop-i.invariant.different;
             never_less = c.loop-i.invariant.never_less;
           })
       | else-at-seam w ↦
-          rw (w.progress-is, w.meter-is, w.shelf-is, w.divergence-is, c.ops.ensures)
+          rw (w.progress-is, w.meter-is, w.shelf-is, w.divergence-is, w.difference-is, c.ops.ensures)
           (record {
             place = IsBeside-next c.args.revision.now.segments.now c.args.revision.now.ops.now.ops c.args.seam.base c.args.seam.edited c.args.prefix.len c.args.meter.now c.loop-i.i c.loop-i.at c.loop-i.progress.prefix.len c.loop-i.progress.prefix.segments c.loop-i.progress.prefix.end c.loop-i.meter
-                c.loop-i.progress.prefix.len c.loop-i.progress.prefix.segments c.loop-i.progress.prefix.end c.loop-i.meter c.at-segment.result c.loop-i.invariant.place (omega (arith, c.loop-i-test.true, c.len-i-end.ensures)) c.at-segment.ensures c.loop-i.invariant.place.prefix c.loop-i.invariant.place.order c.loop-i.invariant.place.rise
+                c.loop-i.progress.prefix.len c.loop-i.progress.prefix.segments c.loop-i.progress.prefix.end c.loop-i.meter c.at-segment.result c.loop-i.invariant.place (omega (arith, c.loop-i-test.true, c.len-i-end.ensures)) c.at-segment.ensures c.loop-i.invariant.place.prefix (omega (arith, c.loop-i.invariant.place.order)) c.loop-i.invariant.place.rise
                 (λ marked behind agrees. let lt : c.loop-i.at < c.args.seam.base = w.if-at-seam.false in omega arith);
             beside = c.loop-i.invariant.beside;
             fork = c.loop-i.invariant.fork;
             placed = c.loop-i.invariant.placed;
             known = c.loop-i.invariant.known;
+            different = c.loop-i.invariant.different;
             never_less = c.loop-i.invariant.never_less;
           })
     ]

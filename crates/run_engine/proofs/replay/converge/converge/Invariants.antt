@@ -1,5 +1,6 @@
 use Rattle.std.proofs.Common.{◌≤◌}
 use Rattle.run_engine.specs.inner.Divergence.{IsFork, IsDivergence}
+use Rattle.run_engine.specs.inner.Difference.{AreDiffering}
 use Rattle.run_engine.specs.inner.GoesOn.{GoesOnBeside}
 use Rattle.run_engine.specs.inner.Placed.{IsPlaced}
 use Rattle.run_engine.proofs.ConvergeLemmas.{IsBeside}
@@ -12,5 +13,6 @@ invariant-loop-i l = record {
   fork : IsFork l.revision l.progress.fork;
   placed : IsPlaced l.shelf.chunks l.progress.prefix;
   known : IsDivergence l.revision l.divergence;
+  different : AreDiffering l.revision l.difference;
   never_less : l.initial.meter ≤ l.meter;
 }

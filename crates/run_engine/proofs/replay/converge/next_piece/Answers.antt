@@ -2,7 +2,6 @@ use Rattle.std.proofs.Common.{◌≡◌, ◌+◌, ◌-◌, length, take, drop, r
 use Rattle.std.specs.Prelude.{slice_range}
 use mathlib.Core.Logic.{inl, inr}
 use Rattle.run_engine.specs.Memo.{IsAmong}
-use Rattle.run_engine.specs.Guesses.{with_guesses}
 use Rattle.run_engine.proofs.MemoLemmas.{IsSearched-none}
 use Rattle.run_engine.proofs.GuessLemmas.{IsAmong-guess, IsAmong-chunk}
 use Rattle.run_engine.proofs.PieceLemmas.{IsReached-next, IsPiece-of-more, take-next, distinct-slice_range, unused-slice_range}
@@ -28,7 +27,7 @@ returns-in-Some-known-clause-piece c =
     IsPiece-of-more c.args.progress.now.prefix.end _ (drop c.args.progress.now.prefix.len c.args.revision.now.ops.now.ops) (c.args.progress.now.prefix.len + c.min-len.result - c.args.progress.now.prefix.len) (c.args.to - c.args.progress.now.prefix.len) _ _ (omega arith) piece
 
 pub returns-in-Some-stretch-clause-taken : goal.returns-in-Some-stretch-clause-taken
-returns-in-Some-stretch-clause-taken c = inl (inl (rw c.in-Some-stretch.is at c.in_ok-stretch.ensures.stretch), refl)
+returns-in-Some-stretch-clause-taken c = inl (inl (inl (rw c.in-Some-stretch.is at c.in_ok-stretch.ensures.stretch)), refl)
 
 pub returns-clause-taken : goal.returns-clause-taken
 returns-clause-taken c = inr c.in_ok-piece.ensures.count

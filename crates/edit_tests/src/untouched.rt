@@ -1,0 +1,160 @@
+//! A difference that lasts to the end: what doesn't touch it is taken over, and what touches it is stepped.
+use crate::small_runs::{counts, did, is_replay, tells, with_both, with_edited};
+use crate::small_traces::{add, add_pairs, batch, change, insertion, new};
+use run_engine::Run;
+use std::alloc::Global;
+use std::process::Abort;
+use std::test::Fail;
+use trace_types::edits::{Batch, Edit};
+use trace_types::kinds::{Field, Kind};
+use trace_types::outcomes::Answer;
+use trace_types::trace::Trace;
+
+// An object by handle 0, one by handle 2 whose field holds it, and a null pointer by handle 20.
+fn add_first(alloc: Global, trace: &mut Trace) -> Result<(), Fail> {
+    add(trace, 1, new(alloc, 0, &[])?)?;
+    add(trace, 2, Kind::Clone { from: 0, to: 1 })?;
+    add(trace, 3, new(alloc, 2, &[Field::Held(1)])?)?;
+    add(trace, 4, Kind::Null { to: 20 })
+}
+
+// These, and pairs of operations up to one with a number, which touch none of them.
+pub fn with_pairs(alloc: Global, last: u32) -> Result<Trace, Fail> {
+    let mut trace = Trace::new(alloc);
+    add_first(alloc, &mut trace)?;
+    add_pairs(alloc, &mut trace, 5, last)?;
+    Ok(trace)
+}
+
+// A trace of these, and then one operation more.
+fn with_last(alloc: Global, last: Kind) -> Result<Trace, Fail> {
+    let mut trace = with_pairs(alloc, 4_100)?;
+    add(&mut trace, 4_101, last)?;
+    Ok(trace)
+}
+
+// So many operations are stepped for an edit of such a trace, and the edited run is its replay.
+fn assert_stepped(
+    rt: &impl Abort,
+    alloc: Global,
+    last: Kind,
+    edits: Batch,
+    due: u64,
+) -> Result<(), Fail> {
+    let trace = with_last(alloc, last)?;
+    with_both(alloc, trace, edits, |_, edited, steps| {
+        assert_eq!(rt; steps, due);
+        assert!(rt; is_replay(alloc, edited)?);
+        Ok(())
+    })
+}
+
+// A stretch of 64 operations becomes longer by one. All others are taken over.
+#[test]
+fn handle_more_stays(rt: HostRuntime) -> Result<(), Fail> {
+    let alloc = rt.alloc();
+    let edits = batch(alloc, insertion(4, 5_000, Kind::Null { to: 30 })?)?;
+    assert_stepped(&rt, alloc, Kind::Counts { h: 0 }, edits, 65)
+}
+
+#[test]
+fn handle_fewer_stays(rt: HostRuntime) -> Result<(), Fail> {
+    let alloc = rt.alloc();
+    let edits = batch(alloc, Edit::Remove { id: 4 })?;
+    assert_stepped(&rt, alloc, Kind::Counts { h: 0 }, edits, 63)
+}
+
+// The object has one holder more. The last stretch, of five operations, asks for that.
+#[test]
+fn counts_shift(rt: HostRuntime) -> Result<(), Fail> {
+    let alloc = rt.alloc();
+    let edits = batch(alloc, insertion(4, 5_000, Kind::Clone { from: 0, to: 30 })?)?;
+    assert_stepped(&rt, alloc, Kind::Counts { h: 0 }, edits, 70)
+}
+
+// The value of the second object is destroyed near the front. The last operation finds no handle to it.
+#[test]
+fn value_is_destroyed_earlier(rt: HostRuntime) -> Result<(), Fail> {
+    let alloc = rt.alloc();
+    let edits = batch(alloc, insertion(4, 5_000, Kind::Drop { h: 2 })?)?;
+    assert_stepped(&rt, alloc, Kind::Counts { h: 2 }, edits, 70)
+}
+
+// The first object has a Weak more. The last operation drops the second one, whose field holds the first: it doesn't name what differs,
+// but its cascade comes to it.
+#[test]
+fn cascade_touches_what_differs(rt: HostRuntime) -> Result<(), Fail> {
+    let alloc = rt.alloc();
+    let edits = batch(alloc, change(4, Kind::Downgrade { from: 0, to: 30 })?)?;
+    assert_stepped(&rt, alloc, Kind::Drop { h: 2 }, edits, 69)
+}
+
+// Two edits in turn: what one stepped, and what it took over, the other takes over.
+fn assert_taken_twice(rt: &impl Abort, alloc: Global, edited: &Run) -> Result<(), Fail> {
+    let edits = batch(alloc, insertion(5_000, 5_001, Kind::Null { to: 31 })?)?;
+    with_edited(alloc, edited, edits, |twice, steps| {
+        assert_eq!(rt; steps, 65);
+        assert!(rt; is_replay(alloc, twice)?);
+        assert!(rt; tells(twice, 4_102, did(4_101, Answer::Done, counts(1, 2, 0), &[])));
+        Ok(())
+    })
+}
+
+#[test]
+fn stretches_are_taken_over_twice(rt: HostRuntime) -> Result<(), Fail> {
+    let alloc = rt.alloc();
+    let edits = batch(alloc, insertion(4, 5_000, Kind::Null { to: 30 })?)?;
+    let trace = with_last(alloc, Kind::Counts { h: 0 })?;
+    with_both(alloc, trace, edits, |_, edited, _| {
+        assert_taken_twice(&rt, alloc, edited)
+    })
+}
+
+// These, and objects that come and go; from one operation on, in each stretch of 64 up to another, one asks for the first object's counts.
+fn asked(alloc: Global, from: u32, to: u32) -> Result<Trace, Fail> {
+    let mut trace = Trace::new(alloc);
+    add_first(alloc, &mut trace)?;
+    for id in 5..=4_096u32 {
+        let kind = if id % 64 == 10 && from <= id && id < to {
+            Kind::Counts { h: 0 }
+        } else if id % 2 == 1 {
+            new(alloc, 9, &[])?
+        } else {
+            Kind::Drop { h: 9 }
+        };
+        add(&mut trace, id, kind)?;
+    }
+    Ok(trace)
+}
+
+// So many operations of such a trace are stepped if the first object gets one holder more.
+fn assert_asked(rt: &impl Abort, alloc: Global, from: u32, to: u32, due: u64) -> Result<(), Fail> {
+    let edits = batch(alloc, insertion(4, 5_000, Kind::Clone { from: 0, to: 30 })?)?;
+    let trace = asked(alloc, from, to)?;
+    with_both(alloc, trace, edits, |_, edited, steps| {
+        assert_eq!(rt; steps, due);
+        assert!(rt; is_replay(alloc, edited)?);
+        Ok(())
+    })
+}
+
+// The first stretch, and the one that asks: those before it and behind it are taken over.
+#[test]
+fn stretch_between_is_stepped(rt: HostRuntime) -> Result<(), Fail> {
+    let alloc = rt.alloc();
+    assert_asked(&rt, alloc, 2_048, 2_112, 129)
+}
+
+// The first stretch, four that ask, and one that is passed while no look is due.
+#[test]
+fn stretches_are_taken_over_after_looks_in_vain(rt: HostRuntime) -> Result<(), Fail> {
+    let alloc = rt.alloc();
+    assert_asked(&rt, alloc, 64, 320, 385)
+}
+
+// After six looks in vain in a row there is none any more: all is stepped.
+#[test]
+fn all_is_stepped_after_many_looks_in_vain(rt: HostRuntime) -> Result<(), Fail> {
+    let alloc = rt.alloc();
+    assert_asked(&rt, alloc, 64, 1_024, 4_097)
+}

@@ -1,0 +1,11 @@
+pub mod Tests
+pub mod ScopeLemmas
+pub mod KeyLemmas
+pub mod NamingLemmas
+pub mod SiftLemmas
+pub mod FoundLemmas
+pub mod LawLemmas
+pub mod PutLemmas
+pub mod LaidLemmas
+pub mod PassLemmas
+pub mod MergeLemmas

@@ -1,0 +1,7 @@
+use Rattle.std.proofs.Common.{◌≡◌, ◌++◌, take}
+use Rattle.std.specs.Prelude.{flat_map}
+use Rattle.heap_difference.specs.Naming.{op_keys}
+use Rattle.heap_difference.proofs.naming.add_ops.Given as goal
+
+abbrev pub invariant-loop-op : goal.invariant-loop-op
+invariant-loop-op l = l.keys.items ≡ l.fn.keys.items ++ flat_map op_keys (take l.op-index l.ops)

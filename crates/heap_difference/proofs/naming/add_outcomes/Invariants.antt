@@ -1,0 +1,7 @@
+use Rattle.std.proofs.Common.{◌≡◌, ◌++◌, take}
+use Rattle.std.specs.Prelude.{flat_map}
+use Rattle.heap_difference.specs.Naming.{outcome_keys}
+use Rattle.heap_difference.proofs.naming.add_outcomes.Given as goal
+
+abbrev pub invariant-loop-outcome : goal.invariant-loop-outcome
+invariant-loop-outcome l = l.keys.items ≡ l.fn.keys.items ++ flat_map outcome_keys (take l.outcome-index l.outcomes)

@@ -1,0 +1,77 @@
+-- Sets of keys (profile of this project).
+use Rattle.std.specs.Prelude.{ℕ, ◌≡◌, ◌==◌, List, [], ◌∷◌, Option, Some, None, Bool, true, ◌||◌, min, if◌then◌else◌, flat_map, option_to_list}
+use Rattle.std.specs.List.{Contains, list_any}
+use Rattle.ownership_model.specs.declared.key.Key.{Key}
+use Rattle.ownership_model.specs.declared.key.Key.TheVariants.{Handle, Cell, Object, Scope}
+use Rattle.ownership_model.specs.Reach.{has}
+use Rattle.ownership_model.specs.Alike.{AreWithin}
+use Rattle.heap_difference.specs.declared.key_set.KeySet.{KeySet}
+use Rattle.heap_difference.specs.declared.key_set.Kind.{Kind}
+use Rattle.heap_difference.specs.declared.key_set.Kind.TheVariants as kind
+
+-- the set that has no key
+abbrev pub nothing : KeySet
+nothing = record { handles = []; cells = []; objects = []; labels = [] }
+
+-- whether a key is in the set
+abbrev pub is_among : KeySet → Key → Bool
+is_among d (Handle h) = has h d.handles
+is_among d (Cell c) = has c d.cells
+is_among d (Object o) = has o d.objects
+is_among d (Scope t) = has t d.labels
+
+-- the set has these keys, and no others
+pub record Has (d : KeySet) (keys : List Key) : Type 0 where
+  pub all : AreWithin (is_among d) keys
+  pub only : (x : Key) → is_among d x ≡ true → Contains keys x
+
+-- the number of a key of this kind
+abbrev pub kind_number : Kind → Key → Option ℕ
+kind_number kind.Handle (Handle h) = Some h
+kind_number kind.Handle (Cell c) = None
+kind_number kind.Handle (Object o) = None
+kind_number kind.Handle (Scope t) = None
+kind_number kind.Cell (Handle h) = None
+kind_number kind.Cell (Cell c) = Some c
+kind_number kind.Cell (Object o) = None
+kind_number kind.Cell (Scope t) = None
+kind_number kind.Object (Handle h) = None
+kind_number kind.Object (Cell c) = None
+kind_number kind.Object (Object o) = Some o
+kind_number kind.Object (Scope t) = None
+kind_number kind.Scope (Handle h) = None
+kind_number kind.Scope (Cell c) = None
+kind_number kind.Scope (Object o) = None
+kind_number kind.Scope (Scope t) = Some t
+
+-- the numbers of the keys of one kind, as they come
+abbrev pub numbers : Kind → List Key → List ℕ
+numbers k keys = flat_map (λ x. option_to_list (kind_number k x)) keys
+
+-- the keys of a list, which may come in any order and more than once, as a set
+abbrev pub set_of : List Key → KeySet
+set_of keys = record { handles = numbers kind.Handle keys; cells = numbers kind.Cell keys; objects = numbers kind.Object keys; labels = numbers kind.Scope keys }
+
+-- whether two lists have a number in common
+abbrev pub share_one : List ℕ → List ℕ → Bool
+share_one xs ys = list_any (λ q. has q ys) xs
+
+-- whether two sets have a key in common
+abbrev pub meet : KeySet → KeySet → Bool
+meet a b = share_one a.handles b.handles || (share_one a.cells b.cells || (share_one a.objects b.objects || share_one a.labels b.labels))
+
+-- For private functions alone: the first number of a list
+abbrev pub first_number : List ℕ → Option ℕ
+first_number [] = None
+first_number (x ∷ xs) = Some x
+
+-- For private functions alone: the lesser of two numbers, or the one that is there
+abbrev pub lesser_of : Option ℕ → Option ℕ → Option ℕ
+lesser_of None y = y
+lesser_of (Some x) None = Some x
+lesser_of (Some x) (Some y) = Some (min x y)
+
+-- For private functions alone: a list without its first number, where that is n
+abbrev pub without_first : ℕ → List ℕ → List ℕ
+without_first n [] = []
+without_first n (x ∷ xs) = if x == n then xs else x ∷ xs

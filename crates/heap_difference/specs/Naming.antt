@@ -1,0 +1,21 @@
+-- The keys that operations and their outcomes name (profile of this project).
+use Rattle.std.specs.Prelude.{List, [], ◌++◌, map, flat_map}
+use Rattle.trace_types.specs.Operation.{Operation}
+use Rattle.trace_types.specs.declared.outcomes.Outcome.{Outcome}
+use Rattle.ownership_model.specs.declared.key.Key.{Key}
+use Rattle.ownership_model.specs.declared.key.Key.TheVariants.{Object}
+use Rattle.ownership_model.specs.View.{members}
+use Rattle.ownership_model.specs.Footprint.{scope_keys, named_keys}
+use Rattle.ownership_model.specs.Touched.{touched_by}
+
+-- what an operation names: the label whose scope it ends, handles, and a cell
+abbrev pub op_keys : Operation → List Key
+op_keys op = scope_keys op.thread op.kind ++ named_keys (members [] op.kind)
+
+-- the objects of an outcome: that of its own number, those of its events, and that whose counts are told
+abbrev pub outcome_keys : Outcome → List Key
+outcome_keys x = map Object (touched_by x)
+
+-- the keys that were told of operations, and all that these and their outcomes name
+abbrev pub with_names : List Key → List Operation → List Outcome → List Key
+with_names told ops outcomes = told ++ (flat_map op_keys ops ++ flat_map outcome_keys outcomes)

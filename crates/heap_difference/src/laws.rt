@@ -1,0 +1,23 @@
+//! The laws of differences, each the contract of a function that does nothing.
+ghost use Rattle.heap_difference.specs.Laws.{StretchesPass, DifferencesHold};
+ghost use Rattle.heap_difference.specs.Puts.{PutsMakeScopes, PutsStay};
+
+/// Operations that touch nothing that differs do the same in both states, and the difference stays as it is.
+pub fn passing_law()
+    ensures { StretchesPass }
+{}
+
+/// What differs behind operations is among what differed and what they touched; where nothing differs, two states are one.
+pub fn differences_law()
+    ensures { DifferencesHold }
+{}
+
+/// The scopes of the new state are the old ones without the handles that differ, and with those of the new state put in.
+pub fn puts_law()
+    ensures { PutsMakeScopes }
+{}
+
+/// Over operations that touch nothing that differs, and no handle just under one that is put in, what is put in stays as it is.
+pub fn puts_stay_law()
+    ensures { PutsStay }
+{}

@@ -1,0 +1,31 @@
+//! The new heap behind operations, made of the old one.
+ghost use Rattle.std.specs.Prelude.{◌≡◌, IfOk};
+ghost use Rattle.ownership_model.specs.State.{State};
+ghost use Rattle.heap_difference.specs.Laid.{IsLaid, CanBeLaid};
+
+use crate::key_set::KeySet;
+use object_heap::{Heap, Put};
+use std::alloc::{AllocError, Global};
+
+/// An old heap with the difference laid over it: the new heap. At the keys of the difference it has what `new` has, an earlier heap of the new
+/// run, and its handles are put into their scopes.
+///
+/// The work is that of the difference. What the old heap alone holds is changed in place.
+pub fn laid(
+    alloc: Global,
+    old: Heap,
+    new: &Heap,
+    difference: &KeySet,
+    puts: &[Put],
+) -> Result<Heap, AllocError>
+    requires { CanBeLaid difference.now old new.now puts.now }
+    ensures { IfOk result (λ h. (m : State)
+        → IsLaid difference.now old new.now puts.now m → h ≡ m) }
+{
+    old.show_sound();
+    new.show_sound();
+    let handles = difference.handles.as_slice();
+    let cells = difference.cells.as_slice();
+    let objects = difference.objects.as_slice();
+    old.laid(alloc, new, handles, cells, objects, puts)
+}

@@ -1,0 +1,22 @@
+//! Where two heaps differ, as a set of keys: whether a stretch of operations touches any of them, and what differs behind it.
+#![tactic(auto)]
+
+mod finding;
+mod handles;
+pub mod key_set;
+mod laws;
+mod laying;
+mod naming;
+pub mod numbers;
+mod passing;
+mod scopes;
+mod sifted;
+mod touching;
+
+pub use finding::found;
+pub use key_set::KeySet;
+pub use laws::{differences_law, passing_law, puts_law, puts_stay_law};
+pub use laying::laid;
+pub use naming::add_all;
+pub use numbers::Numbers;
+pub use passing::passed;

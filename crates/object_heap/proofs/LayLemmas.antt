@@ -1,0 +1,84 @@
+-- Parts of one state laid over another: each step keeps the counts and the limits.
+use Rattle.std.proofs.Common.{◌≡◌, ℕ, ◌+◌, ◌<◌, ◌≤◌, List, [], ◌∷◌, length, drop, get_or, suc, add-one, refl, ap, ◌∙◌, sym, subst, arith, Bool, true, false}
+use Rattle.std.proofs.Math.Seq.{drop-cons}
+use Rattle.std.specs.Prelude.{Option, Some, None, ◌==◌, nat_le, if◌then◌else◌}
+use Rattle.std.specs.FinMap.{get}
+use Rattle.trace_types.specs.declared.limits.TheConstants.{MAX_THREAD}
+use Rattle.trace_types.specs.declared.slots.Slot.{Slot}
+use Rattle.trace_types.specs.declared.slots.Scoped.{Scoped}
+use Rattle.trace_types.specs.declared.slots.Change.{Change}
+use Rattle.trace_types.specs.declared.slots.Change.TheVariants.{SetHandle}
+use Rattle.ownership_model.specs.State.{State, holding_weight, HoldPointers}
+use Rattle.ownership_model.specs.Bounds.{IsBounded, LabelsFit, ChangeFits}
+use Rattle.ownership_model.specs.Changes.{changed_by, CanBeDone}
+use Rattle.ownership_model.proofs.LawsHold.{bounds}
+use Rattle.ownership_model.proofs.Counting.{total-set}
+use Rattle.object_heap.specs.declared.draft.Draft.{Draft}
+use Rattle.object_heap.specs.declared.put.Put.{Put}
+use Rattle.object_heap.specs.Counted.{drafted, IsCounted}
+use Rattle.object_heap.specs.Gains.{CountsMore, Changes}
+use Rattle.object_heap.specs.Links.{entered_above}
+use Rattle.object_heap.specs.Laid.{with_put, CanPut, PutFits, PutsFit, IsDrafted, MayHold}
+use Rattle.object_heap.proofs.GainLemmas.{no_more}
+use Rattle.object_heap.proofs.ExchangeLemmas.{IsBalanced, counted_then}
+
+-- one change was made
+pub made : (old new : Draft) (c : Change) (m : State) → m ≡ changed_by (drafted old) c → IsBounded (drafted old) → ChangeFits c → CanBeDone (drafted old) c → Changes old new c → IsDrafted new m
+made old new c m is bounded fits can r = record {
+  state = r.state ∙ sym is;
+  counted = r.counted;
+  bounded = subst (λ (k : State). IsBounded k) (sym r.state) (bounds.changes (drafted old) (c ∷ []) bounded (fits, tt) (can, tt));
+}
+
+-- nothing was
+pub stayed : (d : Draft) (m : State) → m ≡ drafted d → IsCounted d.objects.counts (drafted d) [] → IsBounded (drafted d) → IsDrafted d m
+stayed d m is counted bounded = record { state = sym is; counted = counted; bounded = bounded }
+
+-- ---- a handle is put into its scope
+labels_above : (t h : ℕ) (o : Option ℕ) (ss : List Scoped) → t ≤ MAX_THREAD → LabelsFit ss → LabelsFit (entered_above t h o ss)
+labels_above t h None [] low fit = (low, tt)
+labels_above t h (Some b) [] low fit = (low, tt)
+labels_above t h None (s ∷ ss) low fit = at (nat_le s.label t) (labels_above t h None ss low fit.1)
+  where
+    at : (c : Bool) → LabelsFit (entered_above t h None ss) → LabelsFit (if c then s ∷ entered_above t h None ss else record { label = t; handle = h } ∷ s ∷ ss)
+    at true rest = (fit.0, rest)
+    at false rest = (low, fit)
+labels_above t h (Some b) (s ∷ ss) low fit = at (s.handle == b) (labels_above t h (Some b) ss low fit.1)
+  where
+    at : (c : Bool) → LabelsFit (entered_above t h (Some b) ss) → LabelsFit (if c then record { label = t; handle = h } ∷ s ∷ ss else s ∷ entered_above t h (Some b) ss)
+    at true rest = (low, fit)
+    at false rest = (fit.0, rest)
+
+put_balance : (m : State) (p : Put) → get m.handles p.handle ≡ None → IsBalanced m (with_put p m) (λ w. holding_weight w p.holding) (λ w. 0)
+put_balance m p free w = omega (arith, total-set (holding_weight w) m.handles p.handle p.holding None free)
+
+put_bounded : (m : State) (p : Put) → IsBounded m → PutFits p → IsBounded (with_put p m)
+put_bounded m p bounded fits =
+    let so : IsBounded (changed_by m (SetHandle p.label p.handle p.holding)) = bounds.changes m (SetHandle p.label p.handle p.holding ∷ []) bounded (fits, tt) (tt, tt) in
+    record { handles = so.handles; cells = so.cells; objects = so.objects; labels = labels_above p.label p.handle p.under m.scopes fits.0 bounded.labels }
+
+pub put_made : (old new : Draft) (p : Put) → drafted new ≡ with_put p (drafted old) → get old.handles.holdings p.handle ≡ None → PutFits p → IsBounded (drafted old) → IsCounted old.objects.counts (drafted old) []
+    → CountsMore old.objects.counts new.objects.counts (λ w. holding_weight w p.holding) → IsDrafted new (with_put p (drafted old))
+put_made old new p is free fits bounded counted more = record {
+  state = is;
+  counted = subst (λ (k : State). IsCounted new.objects.counts k []) (sym is)
+      (counted_then old.objects.counts new.objects.counts (drafted old) (with_put p (drafted old)) (λ w. holding_weight w p.holding) (λ w. 0) (put_balance (drafted old) p free) counted more
+      new.objects.counts (no_more new.objects.counts (λ w. 0) (λ w. refl)));
+  bounded = subst (λ (k : State). IsBounded k) (sym is) (put_bounded (drafted old) p bounded fits);
+}
+
+-- one put of several
+module _ (m : State) (puts : List Put) (i : ℕ) (x : Put) (within : i < length puts) (is : x ≡ get_or puts i x) where
+  pub first_put : drop i puts ≡ x ∷ drop (i + 1) puts
+  first_put = drop-cons puts i x within ∙ ap (λ (y : Put). y ∷ drop (suc i) puts) (sym is) ∙ ap (λ k. x ∷ drop k puts) (sym (add-one i))
+
+  pub put_first : CanPut m (drop i puts) → CanPut m (x ∷ drop (i + 1) puts)
+  put_first can = subst (λ (ps : List Put). CanPut m ps) first_put can
+
+  pub put_fits : PutsFit (drop i puts) → PutsFit (x ∷ drop (i + 1) puts)
+  put_fits fits = subst (λ (ps : List Put). PutsFit ps) first_put fits
+
+-- ---- cells
+pub may_hold : (m : State) (c : ℕ) (o : Option Slot) → HoldPointers m.cells → get m.cells c ≡ o → MayHold o
+may_hold m c None pointers is = tt
+may_hold m c (Some s) pointers is = pointers c s is

@@ -1,0 +1,171 @@
+//! Parts of one state laid over another: some of its handles, cells and objects.
+ghost use Rattle.std.specs.Prelude.{◌≡◌, [], None, OnOk};
+ghost use Rattle.std.specs.Option.{option_copied};
+ghost use Rattle.std.specs.FinMap as map;
+ghost use Rattle.ownership_model.specs.Bounds.{IsBounded, CellFits, ObjectFits};
+ghost use Rattle.object_heap.specs.Counted.{drafted, IsCounted, IsKept};
+ghost use Rattle.object_heap.specs.Links.{IsAbove};
+ghost use Rattle.object_heap.specs.Laid.{ended_at, without_handles, with_put, with_puts, CanPut, PutFits, PutsFit, cell_ended, with_cell, with_cells, with_entry, with_entries, laid_over, IsDrafted, MayHold};
+
+use crate::counting::hold_holding;
+use crate::draft::Draft;
+use crate::put::Put;
+use std::alloc::{AllocError, Global};
+use trace_types::slots::{Entry, Slot};
+
+impl Draft {
+    /// Handles go, others are put in, and cells and objects are as in another draft. Where memory runs out the draft is unspecified: let it
+    /// go.
+    pub fn lay(
+        &mut self,
+        alloc: Global,
+        from: &Draft,
+        handles: &[u32],
+        cells: &[u32],
+        objects: &[u32],
+        puts: &[Put],
+    ) -> Result<(), AllocError>
+        requires counted { IsCounted self.old.objects.counts (drafted self.old) [] }
+        requires bounded { IsBounded (drafted self.old) }
+        requires from { IsKept from.now }
+        requires can { CanPut (without_handles handles.now (drafted self.old)) puts.now }
+        requires fits { PutsFit puts.now }
+        ensures { OnOk result (IsDrafted self.new (laid_over (drafted from.now)
+            handles.now cells.now objects.now puts.now (drafted self.old))) }
+    {
+        self.end_each(alloc, handles)?;
+        self.put_each(alloc, puts)?;
+        self.copy_cells(alloc, from, cells)?;
+        self.copy_objects(alloc, from, objects)
+    }
+
+    fn end_each(&mut self, alloc: Global, handles: &[u32]) -> Result<(), AllocError>
+        requires counted { IsCounted self.old.objects.counts (drafted self.old) [] }
+        requires bounded { IsBounded (drafted self.old) }
+        ensures { OnOk result (IsDrafted self.new
+            (without_handles handles.now (drafted self.old))) }
+    {
+        for handle in handles {
+            self.end_held(alloc, *handle)?;
+        }
+        Ok(())
+    }
+
+    // A handle is held no more, if it was.
+    fn end_held(&mut self, alloc: Global, handle: u32) -> Result<(), AllocError>
+        requires counted { IsCounted self.old.objects.counts (drafted self.old) [] }
+        requires bounded { IsBounded (drafted self.old) }
+        ensures { OnOk result (IsDrafted self.new
+            (ended_at (map.get self.old.handles.holdings handle) handle (drafted self.old))) }
+    {
+        match self.handles.get(handle) {
+            Some(_) => self.end_handle(alloc, handle),
+            None => Ok(()),
+        }
+    }
+
+    fn put_each(&mut self, alloc: Global, puts: &[Put]) -> Result<(), AllocError>
+        requires counted { IsCounted self.old.objects.counts (drafted self.old) [] }
+        requires bounded { IsBounded (drafted self.old) }
+        requires can { CanPut (drafted self.old) puts.now }
+        requires fits { PutsFit puts.now }
+        ensures { OnOk result (IsDrafted self.new (with_puts puts.now (drafted self.old))) }
+    {
+        for put in puts {
+            self.put_one(alloc, put)?;
+        }
+        Ok(())
+    }
+
+    // A handle that held nothing is put into its scope.
+    fn put_one(&mut self, alloc: Global, put: &Put) -> Result<(), AllocError>
+        requires counted { IsCounted self.old.objects.counts (drafted self.old) [] }
+        requires bounded { IsBounded (drafted self.old) }
+        requires free { map.get self.old.handles.holdings put.now.handle ≡ None }
+        requires stands { IsAbove put.now.under put.now.label self.old.handles.scopes }
+        requires fits { PutFits put.now }
+        ensures { OnOk result (IsDrafted self.new (with_put put.now (drafted self.old))) }
+    {
+        hold_holding(alloc, &mut self.objects, &put.holding)?;
+        let copy = put.holding.clone()?;
+        self.handles
+            .enter_above(alloc, put.label, put.handle, put.under, copy)
+    }
+
+    fn copy_cells(&mut self, alloc: Global, from: &Draft, cells: &[u32]) -> Result<(), AllocError>
+        requires counted { IsCounted self.old.objects.counts (drafted self.old) [] }
+        requires bounded { IsBounded (drafted self.old) }
+        requires from { IsKept from.now }
+        ensures { OnOk result (IsDrafted self.new
+            (with_cells (drafted from.now) cells.now (drafted self.old))) }
+    {
+        for cell in cells {
+            self.put_cell(alloc, *cell, from.cells.get(*cell).copied())?;
+        }
+        Ok(())
+    }
+
+    // A cell holds this, or is there no more.
+    fn put_cell(&mut self, alloc: Global, cell: u32, slot: Option<Slot>) -> Result<(), AllocError>
+        requires counted { IsCounted self.old.objects.counts (drafted self.old) [] }
+        requires bounded { IsBounded (drafted self.old) }
+        requires may { MayHold slot }
+        requires fits { CellFits cell slot }
+        ensures { OnOk result (IsDrafted self.new (with_cell slot cell (drafted self.old))) }
+    {
+        match slot {
+            Some(slot) => self.set_cell(alloc, cell, slot),
+            None => self.end_there(alloc, cell),
+        }
+    }
+
+    // A cell is there no more, if it was.
+    fn end_there(&mut self, alloc: Global, cell: u32) -> Result<(), AllocError>
+        requires counted { IsCounted self.old.objects.counts (drafted self.old) [] }
+        requires bounded { IsBounded (drafted self.old) }
+        ensures { OnOk result (IsDrafted self.new
+            (cell_ended (map.get self.old.cells cell) cell (drafted self.old))) }
+    {
+        match self.cells.get(cell) {
+            Some(_) => self.end_cell(alloc, cell),
+            None => Ok(()),
+        }
+    }
+
+    fn copy_objects(
+        &mut self,
+        alloc: Global,
+        from: &Draft,
+        objects: &[u32],
+    ) -> Result<(), AllocError>
+        requires counted { IsCounted self.old.objects.counts (drafted self.old) [] }
+        requires bounded { IsBounded (drafted self.old) }
+        requires from { IsKept from.now }
+        ensures { OnOk result (IsDrafted self.new
+            (with_entries (drafted from.now) objects.now (drafted self.old))) }
+    {
+        for object in objects {
+            self.put_entry(alloc, *object, from.objects.get(*object))?;
+        }
+        Ok(())
+    }
+
+    // This stands for an object, or nothing does.
+    fn put_entry(
+        &mut self,
+        alloc: Global,
+        object: u32,
+        entry: Option<&Entry>,
+    ) -> Result<(), AllocError>
+        requires counted { IsCounted self.old.objects.counts (drafted self.old) [] }
+        requires bounded { IsBounded (drafted self.old) }
+        requires fits { ObjectFits object (option_copied entry) }
+        ensures { OnOk result (IsDrafted self.new
+            (with_entry (option_copied entry.entry) object (drafted self.old))) }
+    {
+        match entry {
+            Some(entry) => self.put_in(alloc, object, entry),
+            None => self.take_out(alloc, object),
+        }
+    }
+}
