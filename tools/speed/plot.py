@@ -1,4 +1,4 @@
-"""A plot of times by the size of a trace, as SVG: both axes logarithmic, a solid line for the program, a dashed one for the baseline."""
+"""Plots as SVG: times by the size of a trace, and what the edits of sessions cost."""
 
 import math
 
@@ -21,17 +21,24 @@ def text(x, y, what, anchor="start", color="#333333"):
     return f'<text x="{x:.1f}" y="{y:.1f}" text-anchor="{anchor}" fill="{color}">{what}</text>'
 
 
-def plotted(series):
-    """The plot of a list of names, each with its rows of size, the program's seconds and the baseline's."""
-    rows = [row for _, rows in series for row in rows]
-    x, _ = scale([size for size, _, _ in rows], LEFT, WIDTH - RIGHT)
-    y, decades = scale([seconds for row in rows for seconds in row[1:]], HEIGHT - BOTTOM, TOP)
+def frame(y, decades, unit):
+    """The parts that a plot begins with: the ground, and a line at each decade."""
     parts = [f'<svg xmlns="http://www.w3.org/2000/svg" width="{WIDTH}" height="{HEIGHT}" font-family="sans-serif" font-size="12">']
     parts.append(f'<rect width="{WIDTH}" height="{HEIGHT}" fill="white"/>')
     for decade in decades:
         at = y(10**decade)
         parts.append(f'<line x1="{LEFT}" y1="{at:.1f}" x2="{WIDTH - RIGHT}" y2="{at:.1f}" stroke="#dddddd"/>')
-        parts.append(text(LEFT - 6, at + 4, f"{10**decade:g} s", "end"))
+        parts.append(text(LEFT - 6, at + 4, f"{10**decade:g}{unit}", "end"))
+    return parts
+
+
+def plotted(series):
+    """The plot of a list of names, each with its rows of size, the program's seconds and the baseline's. Both axes are logarithmic. A line is solid
+    for the program, and dashed for the baseline."""
+    rows = [row for _, rows in series for row in rows]
+    x, _ = scale([size for size, _, _ in rows], LEFT, WIDTH - RIGHT)
+    y, decades = scale([seconds for row in rows for seconds in row[1:]], HEIGHT - BOTTOM, TOP)
+    parts = frame(y, decades, " s")
     for size in sorted({size for size, _, _ in rows}):
         parts.append(text(x(size), HEIGHT - BOTTOM + 18, f"{size:,}", "middle"))
     for place, (name, rows) in enumerate(series):
@@ -40,4 +47,21 @@ def plotted(series):
         parts.append(line([(x(size), y(theirs)) for size, _, theirs in rows], color, ' stroke-dasharray="4 4"'))
         parts.append(text(WIDTH - RIGHT + 12, TOP + 18 * place + 12, name, color=color))
     parts.append(text(LEFT, 18, "seconds by operations of a trace; dashed: the baseline"))
+    return "\n".join(parts + ["</svg>"]) + "\n"
+
+
+def ranked(series):
+    """The plot of a list of names, each with what the edits of a session cost, the cheapest first: in replays of the whole trace, logarithmic, by the
+    share of the session's edits that cost at most as much."""
+    y, decades = scale([cost for _, costs in series for cost in costs], HEIGHT - BOTTOM, TOP)
+    parts = frame(y, decades, "")
+    parts.append(f'<line x1="{LEFT}" y1="{y(1):.1f}" x2="{WIDTH - RIGHT}" y2="{y(1):.1f}" stroke="#333333" stroke-dasharray="2 3"/>')
+    for percent in range(0, 101, 25):
+        parts.append(text(LEFT + (WIDTH - RIGHT - LEFT) * percent / 100, HEIGHT - BOTTOM + 18, f"{percent}%", "middle"))
+    for place, (name, costs) in enumerate(series):
+        color = COLORS[place % len(COLORS)]
+        points = [(LEFT + (WIDTH - RIGHT - LEFT) * (rank + 0.5) / len(costs), y(cost)) for rank, cost in enumerate(costs)]
+        parts.append(line(points, color, ""))
+        parts.append(text(WIDTH - RIGHT + 12, TOP + 18 * place + 12, name, color=color))
+    parts.append(text(LEFT, 18, "instructions of an edit, in plain replays of the whole trace, by the share of edits that cost at most as much"))
     return "\n".join(parts + ["</svg>"]) + "\n"
