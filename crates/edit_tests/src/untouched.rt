@@ -152,9 +152,9 @@ fn stretches_are_taken_over_after_looks_in_vain(rt: HostRuntime) -> Result<(), F
     assert_asked(&rt, alloc, 64, 320, 385)
 }
 
-// After six looks in vain in a row there is none any more: all is stepped.
+// After twelve looks in vain in a row there is none any more: all is stepped.
 #[test]
 fn all_is_stepped_after_many_looks_in_vain(rt: HostRuntime) -> Result<(), Fail> {
     let alloc = rt.alloc();
-    assert_asked(&rt, alloc, 64, 1_024, 4_097)
+    assert_asked(&rt, alloc, 64, 2_048, 4_097)
 }

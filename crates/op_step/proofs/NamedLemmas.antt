@@ -148,9 +148,10 @@ module _ (k : Key → Bool) where
         let fields = fields_of it.entry in
         walk.at_test (Fine held) (λ _. tt) (it.strong == 1) _ _
         (λ _. walk.at_test (Fine held) (λ _. tt) (it.weak == 0) _ _ (λ _ told event moved. (tt, named (told, tt))) (λ _ told event moved. ((event, (new, (at, tt))), named (event, tt))))
-        (λ _ told event moved.
-        ((new, (at, tt)),
-        held_named held (within_back k (slot_keys (Strong id)) (holding_keys held) (within_front k (slot_keys (Strong id) ++ holding_keys held) [] (within_back k (slots_keys fields) _ moved)))))
+        (λ _ told event moved. (
+          (new, (at, tt)),
+          held_named held (within_back k (slot_keys (Strong id)) (holding_keys held) (within_front k (slot_keys (Strong id) ++ holding_keys held) [] (within_back k (slots_keys fields) _ moved))),
+        ))
 
     dropped_names : (h : ℕ) (it : Option Holding) (x : Holding) → it ≡ Some x → k (Handle h) ≡ true → Fine it (dropped h x)
     dropped_names h it (holding.Slot s) is at = λ told event moved. ((at, tt), slot_named it (holding.Slot s) is s refl (told_slot s told))
@@ -162,10 +163,11 @@ module _ (k : Key → Bool) where
         let held = get m.handles expected in
         let other = get m.handles desired in
         walk.at_test (Fine held) (λ _. tt) (same_pointer old e) _ _
-        (λ same told event moved.
-        ((second, (cell, tt)),
-        slot_named held x is e was (of_slot e (same_named old e same (subst (λ (y : Option Slot). AreWithin k (cell_keys y)) had
-        (within_back k (slot_keys d) (cell_keys (get m.cells c)) (within_front k (slot_keys d ++ cell_keys (get m.cells c)) [] (within_back k (holding_keys other) _ moved))))))))
+        (λ same told event moved. (
+          (second, (cell, tt)),
+          slot_named held x is e was (of_slot e (same_named old e same (subst (λ (y : Option Slot). AreWithin k (cell_keys y)) had
+              (within_back k (slot_keys d) (cell_keys (get m.cells c)) (within_front k (slot_keys d ++ cell_keys (get m.cells c)) [] (within_back k (holding_keys other) _ moved)))))),
+        ))
         (λ _ told event moved. ((first, (second, tt)), held_named held (within_back k (slot_keys old) (holding_keys held) (within_front k (slot_keys old ++ holding_keys held) _ moved))))
 
     set_names : (it : Option Holding) (h i from : ℕ) (y : Holding) (owner : Option ℕ) (fields : List Slot) → k (Handle h) ≡ true → k (Handle from) ≡ true → (IfThere Told owner → AreWithin k (named_at it)) → Fine it (set_field label h i from y owner fields)

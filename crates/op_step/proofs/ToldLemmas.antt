@@ -83,9 +83,10 @@ module _ (k : Key → Bool) where
       let moves : AreWithin k (moved_by_changes m changes) = within_front k (moved_by_changes m changes) items c in
       let here : AreWithin k (map Object (map event_object (option_to_list event ++ r.events))) = objects_front (map event_object (option_to_list event ++ r.events)) (counted (counts_of r.state object)) out.1 in
       let told = object_told r.state object (objects_back (map event_object (option_to_list event ++ r.events)) (counted (counts_of r.state object)) out.1) in
-      let both = names told.0 (events_told event r.events here).0 moves in
-      (both.1,
-      (within_both k (map change_key changes) _ both.0 (within_both k items _ (within_back k (moved_by_changes m changes) items c) told.1), moves))
+      let both = names told.0 (events_told event r.events here).0 moves in (
+        both.1,
+        (within_both k (map change_key changes) _ both.0 (within_both k items _ (within_back k (moved_by_changes m changes) items c) told.1), moves),
+      )
 
   -- the handles of a scope that ends are those that its plan ends
   scope_within : (m : State) (hs : List ℕ) → AreWithin k (flat_map ended_key (ending (elements_of m (map field.Held hs)) [])) → AreWithin k (map Handle hs)
@@ -184,10 +185,11 @@ module _ (m n : State) (ops : List Operation) (i : ℕ) (op : Operation) (within
       let of_ops : AreWithin k (flat_map op_keys (take i ops) ++ (op_keys op ++ [])) =
       subst (AreWithin k) (ap (λ (os : List Operation). flat_map op_keys os) last_op ∙ flat_map-append op_keys (take i ops) (op ∷ [])) (within_front k (flat_map op_keys (take (i + 1) ops)) _ names) in
       let of_outs : AreWithin k (flat_map outcome_keys outs ++ (outcome_keys out ++ [])) =
-      subst (AreWithin k) (flat_map-append outcome_keys outs (out ∷ [])) (within_back k (flat_map op_keys (take (i + 1) ops)) _ names) in
-      (within_both k told _ (within_front k told _ c)
-      (within_both k (op_keys op) (outcome_keys out) (within_front k (op_keys op) [] (within_back k (flat_map op_keys (take i ops)) _ of_ops)) (within_front k (outcome_keys out) [] (within_back k (flat_map outcome_keys outs) _ of_outs))),
-      (within_front k (flat_map op_keys (take i ops)) _ of_ops, within_front k (flat_map outcome_keys outs) _ of_outs))
+      subst (AreWithin k) (flat_map-append outcome_keys outs (out ∷ [])) (within_back k (flat_map op_keys (take (i + 1) ops)) _ names) in (
+        within_both k told _ (within_front k told _ c)
+            (within_both k (op_keys op) (outcome_keys out) (within_front k (op_keys op) [] (within_back k (flat_map op_keys (take i ops)) _ of_ops)) (within_front k (outcome_keys out) [] (within_back k (flat_map outcome_keys outs) _ of_outs))),
+        (within_front k (flat_map op_keys (take i ops)) _ of_ops, within_front k (flat_map outcome_keys outs) _ of_outs),
+      )
 
   -- the keys that are told, with what is named so far, and those of what is left
   pub covers_next : (before told all : List Key) (outs more : List Outcome) (out : Outcome) → Covers (told ++ (op_keys op ++ outcome_keys out)) (before ++ step_keys m op) → more ≡ outs ++ out ∷ []

@@ -37,7 +37,12 @@ fn assert_touched(
         let ops = vec![in alloc; op.clone()?]?;
         let outcomes = vec![in alloc; outcome]?;
         let mut all = Vec::new(alloc);
-        add_all(keys.as_slice(), ops.as_slice(), outcomes.as_slice(), &mut all)?;
+        add_all(
+            keys.as_slice(),
+            ops.as_slice(),
+            outcomes.as_slice(),
+            &mut all,
+        )?;
         assert!(rt; has_each(all.as_slice(), wanted));
         let mut known = Vec::from_slice(alloc, wanted)?;
         known.push(Key::Object(op.id()))?;

@@ -23,7 +23,7 @@ use trace_types::ops::Op;
 use trace_types::outcomes::Outcome;
 
 /// How many keys of a kind are followed at most. To lay more of them over a heap takes as long as to step a stretch.
-const MOST_KEYS: usize = 8;
+const MOST_KEYS: usize = 16;
 
 /// How many keys of a kind are looked up at most. A handle may pass all others that are looked up in its scope.
 const MOST_TOUCHED: usize = 512;
@@ -38,7 +38,7 @@ const MOST_SEGMENTS: usize = 64;
 const FIRST_KEYS: usize = 32;
 
 /// How many looks in a row may be in vain.
-const MOST_LOOKS: usize = 6;
+const MOST_LOOKS: usize = 12;
 
 /// How many operations of a stretch are tried before all are looked up.
 const FIRST_OPS: usize = 16;

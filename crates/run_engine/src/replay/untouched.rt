@@ -21,7 +21,7 @@ use object_heap::Heap;
 use std::alloc::{AllocError, Global};
 
 /// How many keys are laid over a checkpoint at most, from edit to edit, before its operations are stepped again.
-const MOST_LAID: usize = 12;
+const MOST_LAID: usize = 24;
 
 /// How many handles are gone over at most to find the place of one in its scope.
 const NEAR: usize = 32;
