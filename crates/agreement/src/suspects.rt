@@ -45,6 +45,15 @@ impl Suspects {
         Ok(Suspects { objects })
     }
 
+    /// These objects.
+    pub fn of(alloc: Global, some: &[u32]) -> Result<Suspects, AllocError>
+        ensures { IfOk result (λ s. s ≡ some.now) }
+    {
+        let mut objects = Vec::new(alloc);
+        objects.extend_from_slice(some)?;
+        Ok(Suspects { objects })
+    }
+
     /// The suspects, in the order in which they joined. One may be listed twice.
     pub fn as_slice(&self) -> &[u32]
         ensures { result.now ≡ self.now }

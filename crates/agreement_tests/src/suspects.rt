@@ -181,3 +181,11 @@ fn outcomes_make_suspects(rt: HostRuntime) -> Result<(), Fail> {
     assert_eq!(rt; suspects.as_slice(), [1, 1, 2, 2, 3, 2, 2, 2].as_slice());
     Ok(())
 }
+
+// Those that are given.
+#[test]
+fn given_objects_are_suspects(rt: HostRuntime) -> Result<(), Fail> {
+    let suspects = Suspects::of(rt.alloc(), [7, 2].as_slice())?;
+    assert_eq!(rt; suspects.as_slice(), [7, 2].as_slice());
+    Ok(())
+}

@@ -430,7 +430,14 @@ pub fn converge(
                 };
                 progress = advance(alloc, revision, progress, limits, shelf, meter)?;
                 let old_mark = OldMark { index: i, at, mark };
-                let found = rejoined_at(alloc, revision, &progress, &old_mark, &mut divergence)?;
+                let found = rejoined_at(
+                    alloc,
+                    revision,
+                    &progress,
+                    &old_mark,
+                    &difference,
+                    &mut divergence,
+                )?;
                 if let Some((rest, end)) = found {
                     let mut prefix = progress.prefix;
                     touch_at(revision.ops, prefix.len, shelf, &mut prefix.answered)?;

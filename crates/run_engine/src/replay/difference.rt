@@ -52,8 +52,8 @@ const FIRST_OPS: usize = 16;
 pub struct Difference {
     keys: Option<KeySet>,
     // how many operations of the edited trace, and of the old one
-    edited: usize,
-    base: usize,
+    pub edited: usize,
+    pub base: usize,
     // how many looks were in vain since the last stretch that was taken over, and how many checkpoints are passed before the next look
     vain: usize,
     wait: usize,

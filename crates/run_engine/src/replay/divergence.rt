@@ -1,5 +1,5 @@
 //! Where a replay and the old run beside it may differ.
-ghost use Rattle.std.specs.Prelude.{◌≡◌, ◌≤◌, false, IfOk, OnOk, IsTrue, length, take};
+ghost use Rattle.std.specs.Prelude.{◌≡◌, ◌≤◌, false, IfOk, IfSome, OnOk, IsTrue, length, take};
 ghost use Rattle.ownership_model.specs.State.{State, nothing_held};
 ghost use Rattle.ownership_model.specs.Agrees.{HaveSameRoots};
 ghost use Rattle.agreement.specs.Agreement.{Agree};
@@ -7,8 +7,10 @@ ghost use Rattle.agreement.specs.Meeting.{Meets};
 ghost use Rattle.run_engine.specs.inner.OldRun.{new_trace};
 ghost use Rattle.run_engine.specs.Segments.{trace_of, AreReplayFrom, IsReached};
 ghost use Rattle.run_engine.specs.inner.Divergence.{IsFork, DifferWithin, IsDivergence, HasFollowed, HasCompared};
+ghost use Rattle.run_engine.specs.inner.Difference.{AreDiffering};
 ghost use Rattle.run_engine.specs.declared.replay.revision.Revision.{Revision};
 
+use crate::replay::difference::Difference;
 use crate::replay::progress::{Fork, Progress};
 use crate::replay::revision::Revision;
 use crate::segments::blocks::Segments;
@@ -91,6 +93,25 @@ impl Divergence {
         }
         self.edited = prefix.len;
         self.base = at;
+        Ok(())
+    }
+
+    /// Goes on to where it is known at which keys the heaps differ, if that is further on: of these the objects are the suspects there.
+    pub fn know(&mut self, alloc: Global, difference: &Difference) -> Result<(), AllocError>
+        ensures known { (r : Revision) → IsDivergence r self.old →
+            AreDiffering r difference.now → IsDivergence r self.new }
+        ensures there { OnOk result (IfSome difference.now.keys (λ _.
+            difference.now.edited ≤ self.new.edited)) }
+    {
+        let Some(keys) = difference.keys() else {
+            return Ok(());
+        };
+        if difference.edited <= self.edited {
+            return Ok(());
+        }
+        self.suspects = Some(Suspects::of(alloc, keys.objects.as_slice())?);
+        self.edited = difference.edited;
+        self.base = difference.base;
         Ok(())
     }
 

@@ -6,9 +6,11 @@ ghost use Rattle.ownership_model.specs.Step.{end_from, AreUnused};
 ghost use Rattle.ownership_model.specs.Agrees.{HaveSameRoots};
 ghost use Rattle.agreement.specs.Agreement.{Agree};
 ghost use Rattle.run_engine.specs.inner.Divergence.{IsFork, DifferWithin, IsDivergence, HasCompared};
+ghost use Rattle.run_engine.specs.inner.Difference.{AreDiffering};
 ghost use Rattle.run_engine.specs.inner.OldRun.{old_trace, new_trace, rest_of};
 ghost use Rattle.run_engine.specs.Segments.{trace_of, marks_from, IsReached, IsRunFrom};
 
+use crate::replay::difference::Difference;
 use crate::replay::divergence::Divergence;
 use crate::replay::progress::Progress;
 use crate::replay::revision::Revision;
@@ -37,12 +39,13 @@ pub struct OldMark<'a> {
 /// the checkpoint.
 ///
 /// While the trail to a difference, or handles, cells or scopes tell them apart, no outcome is gone over: the divergence stays where it
-/// stands. Else it catches up over all that was passed since, and they are compared.
+/// stands. Else it goes on to where the difference is known, catches up over all that was passed since, and they are compared.
 pub fn rejoined_at(
     alloc: Global,
     revision: &Revision,
     progress: &Progress,
     old: &OldMark,
+    difference: &Difference,
     divergence: &mut Divergence,
 ) -> Result<Option<(Segments, Heap)>, AllocError>
     requires prefix { IsReached (new_trace revision.now)
@@ -60,6 +63,7 @@ pub fn rejoined_at(
         (trace_of (drop old.now.index revision.now.segments.now)) }
     requires old_unused { AreUnused old.now.mark
         (trace_of (drop old.now.index revision.now.segments.now)) }
+    requires differing { AreDiffering revision.now difference.now }
     requires known { IsDivergence revision.now divergence.old }
     ensures answer { IfOk result
         (λ o. IsTrue (is_some o) ↔ Agree progress.now.prefix.end old.now.mark) }
@@ -75,6 +79,7 @@ pub fn rejoined_at(
     if told {
         return Ok(None);
     }
+    divergence.know(alloc, difference)?;
     divergence.catch_up(alloc, revision, progress, old.index, old.at)?;
     let rest = Rest {
         segments: revision.segments,
