@@ -3,11 +3,12 @@ ghost use Rattle.std.specs.Prelude.{◌≡◌, IfOk, IfSome};
 ghost use Rattle.std.specs.Arc.{arc_value};
 ghost use Rattle.ownership_model.specs.Patch.{patched};
 
-use crate::agreeing::{BREAK, CYCLE, LET_GO, heap_of};
+use crate::agreeing::{BREAK, CYCLE, LET_GO, heap_of, with_heaps};
 use agreement::agree::agree;
 use agreement::{Checkpoint, Exchange, Remains};
 use object_heap::Heap;
 use std::alloc::{AllocError, Global};
+use std::process::Abort;
 use std::sync::Arc;
 use std::test::Fail;
 
@@ -82,18 +83,30 @@ fn made_last(
     Ok(Some(heap))
 }
 
-#[test]
-fn remains_tell_whether_they_change_anything(rt: HostRuntime) -> Result<(), Fail> {
-    let alloc = rt.alloc();
-    let without = heap_of(alloc, &[CYCLE, BREAK, LET_GO], 12, 64)?;
-    let leaked = heap_of(alloc, &[CYCLE, LET_GO], 12, 64)?;
-    assert!(rt; !remains_of(alloc, &leaked, &without)?.changes_nothing());
-    assert!(rt; !remains_of(alloc, &without, &leaked)?.changes_nothing());
-    let both = remains_of(alloc, &leaked, &leaked)?;
+// Of two heaps that leak otherwise the remains change something.
+fn assert_they_change(rt: &impl Abort, alloc: Global, a: &Heap, b: &Heap) -> Result<(), Fail> {
+    assert!(rt; !remains_of(alloc, a, b)?.changes_nothing());
+    assert!(rt; !remains_of(alloc, b, a)?.changes_nothing());
+    Ok(())
+}
+
+// Of a heap and itself they are all that leaks, and change nothing.
+fn assert_none_changes(rt: &impl Abort, alloc: Global, heap: &Heap) -> Result<(), Fail> {
+    let both = remains_of(alloc, heap, heap)?;
     assert_eq!(rt; both.removed().len(), 2);
     assert_eq!(rt; both.added().len(), 2);
     assert!(rt; both.changes_nothing());
     Ok(())
+}
+
+#[test]
+fn remains_tell_whether_they_change_anything(rt: HostRuntime) -> Result<(), Fail> {
+    let leaked = [CYCLE, LET_GO];
+    let without = [CYCLE, BREAK, LET_GO];
+    with_heaps(rt.alloc(), &leaked, &without, 12, 64, |leaked, without| {
+        assert_they_change(&rt, rt.alloc(), leaked, without)?;
+        assert_none_changes(&rt, rt.alloc(), leaked)
+    })
 }
 
 // Objects 70 and 71 hold each other.

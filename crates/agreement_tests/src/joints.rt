@@ -7,6 +7,7 @@ use mark_shelf::MarkShelf;
 use object_heap::Heap;
 use op_step::{Meter, run};
 use std::alloc::Global;
+use std::process::Abort;
 use std::test::Fail;
 use trace_types::kinds::Kind;
 use trace_types::ops::Op;
@@ -67,65 +68,104 @@ fn are_joined(alloc: Global, shelf: &mut MarkShelf, before: u32, first: u32) -> 
     Ok(is_joined)
 }
 
+fn assert_remembered_are_joined(
+    rt: &impl Abort,
+    alloc: Global,
+    shelf: &mut MarkShelf,
+) -> Result<(), Fail> {
+    let a = remember(alloc, shelf, 1, None)?;
+    assert_eq!(rt; a, Some(0));
+    let b = remember(alloc, shelf, 3, a)?;
+    assert_eq!(rt; b, Some(1));
+    remember(alloc, shelf, 5, b)?;
+    assert!(rt; are_joined(alloc, shelf, 1, 3)?);
+    assert!(rt; are_joined(alloc, shelf, 3, 5)?);
+    Ok(())
+}
+
 #[test]
 fn chunk_remembered_behind_another_is_joined(rt: HostRuntime) -> Result<(), Fail> {
-    let alloc = rt.alloc();
-    let mut shelf = MarkShelf::new(alloc, 1, 4, 4)?;
-    let a = remember(alloc, &mut shelf, 1, None)?;
-    assert_eq!(rt; a, Some(0));
-    let b = remember(alloc, &mut shelf, 3, a)?;
-    assert_eq!(rt; b, Some(1));
-    remember(alloc, &mut shelf, 5, b)?;
-    assert!(rt; are_joined(alloc, &mut shelf, 1, 3)?);
-    assert!(rt; are_joined(alloc, &mut shelf, 3, 5)?);
+    let mut shelf = MarkShelf::new(rt.alloc(), 1, 4, 4)?;
+    assert_remembered_are_joined(&rt, rt.alloc(), &mut shelf)
+}
+
+fn assert_alone_are_not_joined(
+    rt: &impl Abort,
+    alloc: Global,
+    shelf: &mut MarkShelf,
+) -> Result<(), Fail> {
+    let a = remember(alloc, shelf, 1, None)?;
+    remember(alloc, shelf, 3, a)?;
+    let (_, first) = find(alloc, shelf, 1, None)?;
+    assert!(rt; !first);
+    let (_, second) = find(alloc, shelf, 3, None)?;
+    assert!(rt; !second);
     Ok(())
 }
 
 // Nothing is known of a chunk that comes first, nor where no number tells what ends with the heap.
 #[test]
 fn chunk_behind_nothing_is_not_joined(rt: HostRuntime) -> Result<(), Fail> {
-    let alloc = rt.alloc();
-    let mut shelf = MarkShelf::new(alloc, 1, 4, 4)?;
-    let a = remember(alloc, &mut shelf, 1, None)?;
-    remember(alloc, &mut shelf, 3, a)?;
-    let (_, first) = find(alloc, &mut shelf, 1, None)?;
-    assert!(rt; !first);
-    let (_, second) = find(alloc, &mut shelf, 3, None)?;
-    assert!(rt; !second);
+    let mut shelf = MarkShelf::new(rt.alloc(), 1, 4, 4)?;
+    assert_alone_are_not_joined(&rt, rt.alloc(), &mut shelf)
+}
+
+// The first look-up compares the heaps. From then on the joint is known.
+fn assert_joined_once_found(
+    rt: &impl Abort,
+    alloc: Global,
+    shelf: &mut MarkShelf,
+    before: u32,
+) -> Result<(), Fail> {
+    assert!(rt; !are_joined(alloc, shelf, before, 3)?);
+    assert!(rt; are_joined(alloc, shelf, before, 3)?);
     Ok(())
 }
 
-// The first look-up behind another chunk compares the heaps. From then on the joint is known.
+fn assert_found_are_joined(
+    rt: &impl Abort,
+    alloc: Global,
+    shelf: &mut MarkShelf,
+) -> Result<(), Fail> {
+    for first in [1u32, 3, 5] {
+        remember(alloc, shelf, first, None)?;
+    }
+    assert_joined_once_found(rt, alloc, shelf, 1)?;
+    // Behind another one the joint is another.
+    assert_joined_once_found(rt, alloc, shelf, 5)?;
+    assert!(rt; !are_joined(alloc, shelf, 1, 3)?);
+    Ok(())
+}
+
 #[test]
 fn chunk_found_behind_another_is_joined(rt: HostRuntime) -> Result<(), Fail> {
-    let alloc = rt.alloc();
-    let mut shelf = MarkShelf::new(alloc, 1, 4, 4)?;
-    remember(alloc, &mut shelf, 1, None)?;
-    remember(alloc, &mut shelf, 3, None)?;
-    remember(alloc, &mut shelf, 5, None)?;
-    assert!(rt; !are_joined(alloc, &mut shelf, 1, 3)?);
-    assert!(rt; are_joined(alloc, &mut shelf, 1, 3)?);
-    // Behind another one the joint is another.
-    assert!(rt; !are_joined(alloc, &mut shelf, 5, 3)?);
-    assert!(rt; are_joined(alloc, &mut shelf, 5, 3)?);
-    assert!(rt; !are_joined(alloc, &mut shelf, 1, 3)?);
+    let mut shelf = MarkShelf::new(rt.alloc(), 1, 4, 4)?;
+    assert_found_are_joined(&rt, rt.alloc(), &mut shelf)
+}
+
+// Has the shelf remember four chunks, each behind the one before.
+fn remember_four(alloc: Global, shelf: &mut MarkShelf) -> Result<(), Fail> {
+    let a = remember(alloc, shelf, 1, None)?;
+    let b = remember(alloc, shelf, 3, a)?;
+    let c = remember(alloc, shelf, 5, b)?;
+    remember(alloc, shelf, 7, c)?;
+    Ok(())
+}
+
+fn assert_joints_stay(rt: &impl Abort, alloc: Global, shelf: &mut MarkShelf) -> Result<(), Fail> {
+    remember_four(alloc, shelf)?;
+    find(alloc, shelf, 1, None)?;
+    let (b, _) = find(alloc, shelf, 3, None)?;
+    let e = remember(alloc, shelf, 9, b)?;
+    remember(alloc, shelf, 11, e)?;
+    assert!(rt; are_joined(alloc, shelf, 1, 3)?);
+    assert!(rt; are_joined(alloc, shelf, 9, 11)?);
     Ok(())
 }
 
 // Of six chunks four stay. Those that were found stay longest, and so does what is known of them.
 #[test]
 fn joint_stays_with_its_chunk(rt: HostRuntime) -> Result<(), Fail> {
-    let alloc = rt.alloc();
-    let mut shelf = MarkShelf::new(alloc, 1, 4, 8)?;
-    let a = remember(alloc, &mut shelf, 1, None)?;
-    let b = remember(alloc, &mut shelf, 3, a)?;
-    let c = remember(alloc, &mut shelf, 5, b)?;
-    remember(alloc, &mut shelf, 7, c)?;
-    find(alloc, &mut shelf, 1, None)?;
-    let (b, _) = find(alloc, &mut shelf, 3, None)?;
-    let e = remember(alloc, &mut shelf, 9, b)?;
-    remember(alloc, &mut shelf, 11, e)?;
-    assert!(rt; are_joined(alloc, &mut shelf, 1, 3)?);
-    assert!(rt; are_joined(alloc, &mut shelf, 9, 11)?);
-    Ok(())
+    let mut shelf = MarkShelf::new(rt.alloc(), 1, 4, 8)?;
+    assert_joints_stay(&rt, rt.alloc(), &mut shelf)
 }

@@ -3,6 +3,7 @@ use mark_shelf::MarkShelf;
 use object_heap::Heap;
 use op_step::{ChunkRun, Meter, run};
 use std::alloc::Global;
+use std::process::Abort;
 use std::test::Fail;
 use trace_types::kinds::{Field, Kind};
 use trace_types::ops::Op;
@@ -29,98 +30,137 @@ fn finds(shelf: &mut MarkShelf, trace: &Trace) -> bool {
     shelf.find(&Heap::empty(), trace.as_slice()).is_some()
 }
 
+// Has the shelf remember the operation with a number, which makes a null pointer by a handle, as a chunk that begins with nothing.
+fn remember(alloc: Global, shelf: &mut MarkShelf, id: u32, to: u32) -> Result<(), Fail> {
+    let trace = null(alloc, id, to)?;
+    shelf.remember(chunk(alloc, &trace)?);
+    Ok(())
+}
+
+// Whether the shelf has it.
+fn has(alloc: Global, shelf: &mut MarkShelf, id: u32, to: u32) -> Result<bool, Fail> {
+    let trace = null(alloc, id, to)?;
+    Ok(finds(shelf, &trace))
+}
+
+// How many operations the chunk of such an operation has that the shelf finds, and whether its handle holds something in the end.
+fn found(alloc: Global, shelf: &mut MarkShelf, id: u32, to: u32) -> Result<(usize, bool), Fail> {
+    let trace = null(alloc, id, to)?;
+    match shelf.find(&Heap::empty(), trace.as_slice()) {
+        None => Err(Fail::from("not found")),
+        Some(found) => Ok((found.ops().len(), found.end().holding(to).is_some())),
+    }
+}
+
+fn assert_last_used_stay(
+    rt: &impl Abort,
+    alloc: Global,
+    shelf: &mut MarkShelf,
+) -> Result<(), Fail> {
+    for (name, gone) in [(1u32, None), (2, None), (1, None), (3, Some(2))] {
+        assert_eq!(rt; shelf.touch(name), gone);
+    }
+    remember(alloc, shelf, 10, 0)?;
+    remember(alloc, shelf, 20, 1)?;
+    assert!(rt; !has(alloc, shelf, 10, 0)?);
+    assert_eq!(rt; found(alloc, shelf, 20, 1)?, (1, true));
+    Ok(())
+}
+
 #[test]
 fn shelf(rt: HostRuntime) -> Result<(), Fail> {
-    let alloc = rt.alloc();
-    let mut shelf = MarkShelf::new(alloc, 2, 1, 2)?;
-    assert_eq!(rt; shelf.touch(1), None);
-    assert_eq!(rt; shelf.touch(2), None);
-    assert_eq!(rt; shelf.touch(1), None);
-    assert_eq!(rt; shelf.touch(3), Some(2));
-    let a = null(alloc, 10, 0)?;
-    let b = null(alloc, 20, 1)?;
-    shelf.remember(chunk(alloc, &a)?);
-    shelf.remember(chunk(alloc, &b)?);
-    assert!(rt; !finds(&mut shelf, &a));
-    match shelf.find(&Heap::empty(), b.as_slice()) {
-        None => assert!(rt; false),
-        Some(found) => {
-            assert_eq!(rt; found.ops().len(), 1);
-            assert!(rt; found.end().holding(1).is_some());
-        }
+    let mut shelf = MarkShelf::new(rt.alloc(), 2, 1, 2)?;
+    assert_last_used_stay(&rt, rt.alloc(), &mut shelf)
+}
+
+fn assert_all_stay(rt: &impl Abort, alloc: Global, shelf: &mut MarkShelf) -> Result<(), Fail> {
+    remember(alloc, shelf, 1, 0)?;
+    remember(alloc, shelf, 2, 0)?;
+    for name in [5u32, 6, 5, 6].iter() {
+        assert_eq!(rt; shelf.touch(*name), None);
+        assert!(rt; has(alloc, shelf, 1, 0)?);
+        assert!(rt; has(alloc, shelf, 2, 0)?);
     }
+    assert_eq!(rt; shelf.touch(7), Some(5));
     Ok(())
 }
 
 // What there is room for stays: two checkpoints and two chunks.
 #[test]
 fn shelf_keeps(rt: HostRuntime) -> Result<(), Fail> {
-    let alloc = rt.alloc();
-    let mut shelf = MarkShelf::new(alloc, 2, 2, 2)?;
-    let a = null(alloc, 1, 0)?;
-    let b = null(alloc, 2, 0)?;
-    shelf.remember(chunk(alloc, &a)?);
-    shelf.remember(chunk(alloc, &b)?);
-    for name in [5u32, 6, 5, 6].iter() {
-        assert_eq!(rt; shelf.touch(*name), None);
-        assert!(rt; finds(&mut shelf, &a));
-        assert!(rt; finds(&mut shelf, &b));
-    }
-    assert_eq!(rt; shelf.touch(7), Some(5));
+    let mut shelf = MarkShelf::new(rt.alloc(), 2, 2, 2)?;
+    assert_all_stay(&rt, rt.alloc(), &mut shelf)
+}
+
+// Whether the shelf has such an operation as a chunk that begins where another one ends.
+fn has_behind(alloc: Global, shelf: &mut MarkShelf, id: u32, to: u32) -> Result<bool, Fail> {
+    let before = chunk(alloc, &null(alloc, 1, 0)?)?;
+    let trace = null(alloc, id, to)?;
+    Ok(shelf.find(before.end(), trace.as_slice()).is_some())
+}
+
+fn assert_told_apart(rt: &impl Abort, alloc: Global, shelf: &mut MarkShelf) -> Result<(), Fail> {
+    remember(alloc, shelf, 2, 1)?;
+    assert!(rt; !has_behind(alloc, shelf, 2, 1)?);
+    assert!(rt; !has(alloc, shelf, 2, 3)?);
+    assert!(rt; has(alloc, shelf, 2, 1)?);
+    // A later chunk of the same name stands in its place.
+    remember(alloc, shelf, 2, 3)?;
+    assert!(rt; !has(alloc, shelf, 2, 1)?);
+    assert!(rt; has(alloc, shelf, 2, 3)?);
     Ok(())
 }
 
 #[test]
 fn other_start_or_operations(rt: HostRuntime) -> Result<(), Fail> {
-    let alloc = rt.alloc();
-    let mut shelf = MarkShelf::new(alloc, 1, 2, 2)?;
-    let before = chunk(alloc, &null(alloc, 1, 0)?)?;
-    let ops = null(alloc, 2, 1)?;
-    let others = null(alloc, 2, 3)?;
-    shelf.remember(chunk(alloc, &ops)?);
-    assert!(rt; shelf.find(before.end(), ops.as_slice()).is_none());
-    assert!(rt; !finds(&mut shelf, &others));
-    assert!(rt; finds(&mut shelf, &ops));
-    // A later chunk of the same name stands in its place.
-    shelf.remember(chunk(alloc, &others)?);
-    assert!(rt; !finds(&mut shelf, &ops));
-    assert!(rt; finds(&mut shelf, &others));
+    let mut shelf = MarkShelf::new(rt.alloc(), 1, 2, 2)?;
+    assert_told_apart(&rt, rt.alloc(), &mut shelf)
+}
+
+// Has the shelf remember chunks of operations with these numbers, one after another.
+fn remember_each(alloc: Global, shelf: &mut MarkShelf, ids: &[u32]) -> Result<(), Fail> {
+    for id in ids {
+        remember(alloc, shelf, *id, 0)?;
+    }
     Ok(())
+}
+
+// Of chunks 1, 2 and 3 one is gone.
+fn assert_one_is_gone(
+    rt: &impl Abort,
+    alloc: Global,
+    shelf: &mut MarkShelf,
+    gone: u32,
+) -> Result<(), Fail> {
+    for id in [1u32, 2, 3] {
+        assert_eq!(rt; has(alloc, shelf, id, 0)?, id != gone);
+    }
+    Ok(())
+}
+
+// A name that is there keeps its place.
+fn assert_oldest_goes(rt: &impl Abort, alloc: Global, shelf: &mut MarkShelf) -> Result<(), Fail> {
+    remember_each(alloc, shelf, [1, 2, 1, 3].as_slice())?;
+    assert_one_is_gone(rt, alloc, shelf, 1)
 }
 
 #[test]
 fn oldest_name_goes(rt: HostRuntime) -> Result<(), Fail> {
-    let alloc = rt.alloc();
-    let mut shelf = MarkShelf::new(alloc, 1, 8, 2)?;
-    let a = null(alloc, 1, 0)?;
-    let b = null(alloc, 2, 0)?;
-    let c = null(alloc, 3, 0)?;
-    shelf.remember(chunk(alloc, &a)?);
-    shelf.remember(chunk(alloc, &b)?);
-    // A name that is there keeps its place.
-    shelf.remember(chunk(alloc, &a)?);
-    shelf.remember(chunk(alloc, &c)?);
-    assert!(rt; !finds(&mut shelf, &a));
-    assert!(rt; finds(&mut shelf, &b));
-    assert!(rt; finds(&mut shelf, &c));
-    Ok(())
+    let mut shelf = MarkShelf::new(rt.alloc(), 1, 8, 2)?;
+    assert_oldest_goes(&rt, rt.alloc(), &mut shelf)
+}
+
+fn assert_found_stays(rt: &impl Abort, alloc: Global, shelf: &mut MarkShelf) -> Result<(), Fail> {
+    remember_each(alloc, shelf, [1, 2].as_slice())?;
+    assert!(rt; has(alloc, shelf, 1, 0)?);
+    remember(alloc, shelf, 3, 0)?;
+    assert_one_is_gone(rt, alloc, shelf, 2)
 }
 
 #[test]
 fn found_chunk_is_used_last(rt: HostRuntime) -> Result<(), Fail> {
-    let alloc = rt.alloc();
-    let mut shelf = MarkShelf::new(alloc, 1, 2, 8)?;
-    let a = null(alloc, 1, 0)?;
-    let b = null(alloc, 2, 0)?;
-    let c = null(alloc, 3, 0)?;
-    shelf.remember(chunk(alloc, &a)?);
-    shelf.remember(chunk(alloc, &b)?);
-    assert!(rt; finds(&mut shelf, &a));
-    shelf.remember(chunk(alloc, &c)?);
-    assert!(rt; finds(&mut shelf, &a));
-    assert!(rt; !finds(&mut shelf, &b));
-    assert!(rt; finds(&mut shelf, &c));
-    Ok(())
+    let mut shelf = MarkShelf::new(rt.alloc(), 1, 2, 8)?;
+    assert_found_stays(&rt, rt.alloc(), &mut shelf)
 }
 
 fn one_empty(alloc: Global) -> Result<Sequence<Field>, Fail> {
@@ -170,21 +210,34 @@ fn cycle_without(alloc: Global, gone: u32, last: u32) -> Result<Trace, Fail> {
     Ok(trace)
 }
 
+// Has the shelf remember the first 64 operations of that trace but one.
+fn remember_without(alloc: Global, shelf: &mut MarkShelf, gone: u32) -> Result<(), Fail> {
+    let trace = cycle_without(alloc, gone, 64)?;
+    shelf.remember(chunk(alloc, &trace)?);
+    Ok(())
+}
+
+// Whether the shelf has them.
+fn has_without(alloc: Global, shelf: &mut MarkShelf, gone: u32) -> Result<bool, Fail> {
+    let trace = cycle_without(alloc, gone, 64)?;
+    Ok(finds(shelf, &trace))
+}
+
+fn assert_by_content(rt: &impl Abort, alloc: Global, shelf: &mut MarkShelf) -> Result<(), Fail> {
+    remember_without(alloc, shelf, 8)?;
+    remember_without(alloc, shelf, 0)?;
+    assert!(rt; has_without(alloc, shelf, 8)?);
+    assert!(rt; has_without(alloc, shelf, 0)?);
+    // It has the name of the first, and other operations.
+    assert!(rt; !has_without(alloc, shelf, 7)?);
+    remember_without(alloc, shelf, 7)?;
+    assert!(rt; has_without(alloc, shelf, 7)?);
+    assert!(rt; !has_without(alloc, shelf, 8)?);
+    Ok(())
+}
+
 #[test]
 fn chunk_by_content(rt: HostRuntime) -> Result<(), Fail> {
-    let alloc = rt.alloc();
-    let mut shelf = MarkShelf::new(alloc, 1, 8, 8)?;
-    let without_8 = cycle_without(alloc, 8, 64)?;
-    let whole = cycle_without(alloc, 0, 64)?;
-    let without_7 = cycle_without(alloc, 7, 64)?;
-    shelf.remember(chunk(alloc, &without_8)?);
-    shelf.remember(chunk(alloc, &whole)?);
-    assert!(rt; finds(&mut shelf, &without_8));
-    assert!(rt; finds(&mut shelf, &whole));
-    // It has the name of the first, and other operations.
-    assert!(rt; !finds(&mut shelf, &without_7));
-    shelf.remember(chunk(alloc, &without_7)?);
-    assert!(rt; finds(&mut shelf, &without_7));
-    assert!(rt; !finds(&mut shelf, &without_8));
-    Ok(())
+    let mut shelf = MarkShelf::new(rt.alloc(), 1, 8, 8)?;
+    assert_by_content(&rt, rt.alloc(), &mut shelf)
 }

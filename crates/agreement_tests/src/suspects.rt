@@ -1,11 +1,12 @@
 //! Heaps compared at suspects alone: what leaks apart from all else is told without a walk over the heaps.
-use crate::agreeing::{BREAK, CYCLE, LET_GO, heap_of};
+use crate::agreeing::{BREAK, CYCLE, LET_GO, with_heaps};
 use agreement::{Meeting, Remains, Suspects, meet_among, refutes};
 use object_heap::Heap;
 use op_step::Meter;
 use op_step::replay::replay;
 use ownership_model::Remaining;
 use std::alloc::Global;
+use std::process::Abort;
 use std::test::Fail;
 use trace_reader::read_trace;
 use trace_types::slots::{Entry, Slot};
@@ -49,21 +50,30 @@ const LEAK: &str = "\
 {\"h\":7,\"id\":24,\"op\":\"drop\",\"t\":0}
 ";
 
-// Of what leaks the objects that differ are told alone.
-#[test]
-fn differing_island_is_told_alone(rt: HostRuntime) -> Result<(), Fail> {
-    let alloc = rt.alloc();
-    let old = heap_of(alloc, &[CYCLE, BREAK, LET_GO, LEAK], 25, 64)?;
-    let new = heap_of(alloc, &[CYCLE, LET_GO, LEAK], 25, 64)?;
-    let remains = remains_of(alloc, &new, &old)?;
+// The cycle of objects 1 and 2 is what the remains add.
+fn assert_cycle_is_added(rt: &impl Abort, remains: &Remains) {
     assert_eq!(rt; remains.removed().len(), 0);
     assert_eq!(rt; remains.added().len(), 2);
     assert!(rt; is_with(remains.added().get(1), 2, 1, 0));
     assert!(rt; is_with(remains.added().get(2), 1, 1, 0));
-    let back = remains_of(alloc, &old, &new)?;
+}
+
+fn assert_cycle_alone(rt: &impl Abort, alloc: Global, new: &Heap, old: &Heap) -> Result<(), Fail> {
+    assert_cycle_is_added(rt, &remains_of(alloc, new, old)?);
+    let back = remains_of(alloc, old, new)?;
     assert_eq!(rt; back.removed().len(), 2);
     assert_eq!(rt; back.added().len(), 0);
     Ok(())
+}
+
+// Of what leaks the objects that differ are told alone.
+#[test]
+fn differing_island_is_told_alone(rt: HostRuntime) -> Result<(), Fail> {
+    let old = [CYCLE, BREAK, LET_GO, LEAK];
+    let new = [CYCLE, LET_GO, LEAK];
+    with_heaps(rt.alloc(), &new, &old, 25, 64, |new, old| {
+        assert_cycle_alone(&rt, rt.alloc(), new, old)
+    })
 }
 
 // An object that holds itself and has a Weak, and another one that holds itself.
@@ -87,35 +97,56 @@ const LEAK_BOTH: &str = "\
 {\"h\":2,\"id\":10,\"op\":\"drop\",\"t\":0}
 ";
 
-// The first is the same in both but for its weak count.
-#[test]
-fn object_joins_by_its_count(rt: HostRuntime) -> Result<(), Fail> {
-    let alloc = rt.alloc();
-    let new = heap_of(alloc, &[PAIR, HOLD, LEAK_BOTH], 11, 64)?;
-    let old = heap_of(alloc, &[PAIR, DROP, LEAK_BOTH], 11, 64)?;
-    let (meeting, suspects) = meet_all(alloc, &new, &old)?;
-    let Meeting::Alike(remains) = &meeting else {
-        return Err(Fail::from("they agree"));
-    };
-    assert_eq!(rt; suspects.as_slice(), [5].as_slice());
+fn assert_first_joins(rt: &impl Abort, remains: &Remains) {
     assert_eq!(rt; remains.removed().len(), 2);
     assert_eq!(rt; remains.added().len(), 2);
     assert!(rt; is_with(remains.removed().get(1), 1, 1, 0));
     assert!(rt; is_with(remains.added().get(1), 1, 1, 1));
+}
+
+// The second object alone is left as a suspect.
+fn assert_joins_by_count(
+    rt: &impl Abort,
+    alloc: Global,
+    new: &Heap,
+    old: &Heap,
+) -> Result<(), Fail> {
+    let (meeting, suspects) = meet_all(alloc, new, old)?;
+    assert_eq!(rt; suspects.as_slice(), [5].as_slice());
+    match &meeting {
+        Meeting::Alike(remains) => assert_first_joins(rt, remains),
+        Meeting::Apart | Meeting::Same => return Err(Fail::from("they agree")),
+    }
+    Ok(())
+}
+
+// The first is the same in both but for its weak count.
+#[test]
+fn object_joins_by_its_count(rt: HostRuntime) -> Result<(), Fail> {
+    let new = [PAIR, HOLD, LEAK_BOTH];
+    let old = [PAIR, DROP, LEAK_BOTH];
+    with_heaps(rt.alloc(), &new, &old, 11, 64, |new, old| {
+        assert_joins_by_count(&rt, rt.alloc(), new, old)
+    })
+}
+
+const LEAK_SECOND: &str = "{\"h\":2,\"id\":10,\"op\":\"drop\",\"t\":0}\n";
+
+fn assert_apart(rt: &impl Abort, alloc: Global, new: &Heap, old: &Heap) -> Result<(), Fail> {
+    let (meeting, suspects) = meet_all(alloc, new, old)?;
+    assert!(rt; matches!(meeting, Meeting::Apart));
+    assert_eq!(rt; suspects.as_slice(), [5].as_slice());
     Ok(())
 }
 
 // Where the first is held yet, its count differs in what can be reached.
 #[test]
 fn count_of_a_held_object_parts(rt: HostRuntime) -> Result<(), Fail> {
-    let alloc = rt.alloc();
-    let leak = "{\"h\":2,\"id\":10,\"op\":\"drop\",\"t\":0}\n";
-    let new = heap_of(alloc, &[PAIR, HOLD, leak], 11, 64)?;
-    let old = heap_of(alloc, &[PAIR, DROP, leak], 11, 64)?;
-    let (meeting, suspects) = meet_all(alloc, &new, &old)?;
-    assert!(rt; matches!(meeting, Meeting::Apart));
-    assert_eq!(rt; suspects.as_slice(), [5].as_slice());
-    Ok(())
+    let new = [PAIR, HOLD, LEAK_SECOND];
+    let old = [PAIR, DROP, LEAK_SECOND];
+    with_heaps(rt.alloc(), &new, &old, 11, 64, |new, old| {
+        assert_apart(&rt, rt.alloc(), new, old)
+    })
 }
 
 // Two objects, each held.
@@ -129,42 +160,51 @@ const PUT: &str = "{\"from\":1,\"h\":0,\"i\":0,\"id\":3,\"op\":\"set\",\"t\":0}\
 
 const END: &str = "{\"h\":1,\"id\":3,\"op\":\"drop\",\"t\":0}\n";
 
+fn assert_parted(rt: &impl Abort, alloc: Global, new: &Heap, old: &Heap) -> Result<(), Fail> {
+    let mut suspects = Suspects::of_both(alloc, new, old)?;
+    let mut seen = None;
+    let meeting = meet_among(alloc, new, old, &mut suspects, &mut seen)?;
+    assert!(rt; matches!(meeting, Meeting::Apart));
+    match &seen {
+        Some(trail) => assert!(rt; refutes(trail, new, old)),
+        None => return Err(Fail::from("a trail")),
+    }
+    Ok(())
+}
+
 // A suspect that is reached parts the heaps, and the trail leads to it.
 #[test]
 fn reached_suspect_parts(rt: HostRuntime) -> Result<(), Fail> {
-    let alloc = rt.alloc();
-    let put = heap_of(alloc, &[HELD, PUT], 4, 65)?;
-    let end = heap_of(alloc, &[HELD, END], 4, 65)?;
-    assert!(rt; end.same_roots(&put));
-    for (new, old) in &[(&end, &put), (&put, &end)] {
-        let mut suspects = Suspects::of_both(alloc, new, old)?;
-        let mut seen = None;
-        let meeting = meet_among(alloc, new, old, &mut suspects, &mut seen)?;
-        assert!(rt; matches!(meeting, Meeting::Apart));
-        let Some(trail) = &seen else {
-            return Err(Fail::from("a trail"));
-        };
-        assert!(rt; refutes(trail, new, old));
-    }
+    with_heaps(rt.alloc(), &[HELD, END], &[HELD, PUT], 4, 65, |end, put| {
+        assert!(rt; end.same_roots(put));
+        assert_parted(&rt, rt.alloc(), end, put)?;
+        assert_parted(&rt, rt.alloc(), put, end)
+    })
+}
+
+// An object of the cycle is cloned, and the clone dropped.
+const CLONE_AND_DROP: &str = "\
+{\"from\":0,\"id\":31,\"op\":\"clone\",\"t\":0,\"to\":5}
+{\"h\":5,\"id\":32,\"op\":\"drop\",\"t\":0}
+";
+
+fn assert_dropped(rt: &impl Abort, alloc: Global, new: &Heap, old: &Heap) -> Result<(), Fail> {
+    let mut suspects = Suspects::of_both(alloc, new, old)?;
+    assert_eq!(rt; suspects.as_slice(), [1, 2, 1, 2].as_slice());
+    let meeting = meet_among(alloc, new, old, &mut suspects, &mut None)?;
+    assert!(rt; matches!(meeting, Meeting::Same));
+    assert_eq!(rt; suspects.as_slice().len(), 0);
     Ok(())
 }
 
 // What is the same again is no suspect any more.
 #[test]
 fn equal_suspects_are_dropped(rt: HostRuntime) -> Result<(), Fail> {
-    let alloc = rt.alloc();
-    let others = "\
-{\"from\":0,\"id\":31,\"op\":\"clone\",\"t\":0,\"to\":5}
-{\"h\":5,\"id\":32,\"op\":\"drop\",\"t\":0}
-";
-    let new = heap_of(alloc, &[CYCLE, others, LET_GO], 33, 64)?;
-    let old = heap_of(alloc, &[CYCLE, LET_GO], 33, 64)?;
-    let mut suspects = Suspects::of_both(alloc, &new, &old)?;
-    assert_eq!(rt; suspects.as_slice(), [1, 2, 1, 2].as_slice());
-    let meeting = meet_among(alloc, &new, &old, &mut suspects, &mut None)?;
-    assert!(rt; matches!(meeting, Meeting::Same));
-    assert_eq!(rt; suspects.as_slice().len(), 0);
-    Ok(())
+    let new = [CYCLE, CLONE_AND_DROP, LET_GO];
+    let old = [CYCLE, LET_GO];
+    with_heaps(rt.alloc(), &new, &old, 33, 64, |new, old| {
+        assert_dropped(&rt, rt.alloc(), new, old)
+    })
 }
 
 // What outcomes tell of: their own numbers, those of their events and those of their counts.

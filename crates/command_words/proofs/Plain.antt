@@ -1,6 +1,5 @@
 -- What clap knows of a command without options of its own kind is that it is plain: then it has no option that its subcommands share.
-use Rattle.std.proofs.Common.{◌≡◌, ◌&&◌, Bool, true, false, not, refl, ap}
-use Rattle.clap.specs.Words.{App, app_of}
+use Rattle.std.proofs.Common.{◌≡◌, ◌&&◌, Bool, true, false, not, refl}
 use Rattle.clap.specs.Simple.{has_plain_fields}
 use Rattle.clap.specs.declared.builder.command.Command.{Command, Command-F}
 

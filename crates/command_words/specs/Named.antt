@@ -56,11 +56,14 @@ explain_app = with_rule (with_rule (new_app (codes "explain")) (flag_rule life_i
 abbrev pub picture_app : App
 picture_app = with_rule (with_rule (new_app (codes "picture")) (flag_rule all_id)) objects_rule
 
+-- with the commands that have no options
+abbrev pub with_plain : App → App
+with_plain a = with_subcommand (with_subcommand (with_subcommand a (new_app (codes "replay")).top) (new_app (codes "script")).top) (new_app (codes "whatif")).top
+
 -- what clap was told of the program
 abbrev pub scope_app : App
-scope_app = with_subcommand (with_subcommand (with_subcommand (with_subcommand (with_subcommand (with_subcommand
-    (record bare_app { top = record bare_app.top { subcommand_required = true } })
-    (new_app (codes "replay")).top) (new_app (codes "script")).top) (new_app (codes "whatif")).top) race_app.top)
+scope_app = with_subcommand (with_subcommand (with_subcommand (with_plain
+    (record bare_app { top = record bare_app.top { subcommand_required = true } })) race_app.top)
     explain_app.top) picture_app.top
 
 -- the option's text is this number in decimal digits, which is from 1 to the most

@@ -1,7 +1,7 @@
 //! What clap is told of the program.
 ghost use Rattle.std.specs.Prelude.{◌≡◌, false, IfOk};
-ghost use Rattle.clap.specs.Words.{app_of, rule_of, with_rule};
-ghost use Rattle.command_words.specs.Named.{scope_app, explain_app, picture_app, workers_rule, objects_rule, flag_rule};
+ghost use Rattle.clap.specs.Words.{app_of, new_app, rule_of, with_rule, with_subcommand};
+ghost use Rattle.command_words.specs.Named.{scope_app, with_plain, race_app, explain_app, picture_app, workers_rule, objects_rule, flag_rule};
 
 use clap::builder::ValueParser;
 use clap::{Arg, ArgAction, Command};
@@ -12,32 +12,75 @@ use trace_types::limits::{MAX_ID, MAX_WORKERS};
 pub fn scope_command<'a>(alloc: Global) -> Result<Command<'a>, AllocError>
     ensures { IfOk result (λ c. app_of c ≡ scope_app) }
 {
-    let replay = Command::new(alloc, "replay").about(
+    let bare = Command::new(alloc, "arc_scope")
+        .about(
+            "Replays a trace of Arc, Weak and atomic shared_ptr operations and reports what each did",
+        )
+        .subcommand_required(true);
+    let plain = with_plain_commands(alloc, bare)?;
+    let more = with_race(alloc, plain)?;
+    with_questions(alloc, more)
+}
+
+// The program with the commands that have no options.
+fn with_plain_commands<'a>(alloc: Global, program: Command<'a>) -> Result<Command<'a>, AllocError>
+    ensures { IfOk result (λ c. app_of c ≡ with_plain (app_of program.entry)) }
+{
+    let one = with_command(
+        alloc,
+        program,
+        "replay",
         "Reads a trace, one operation a line in JSON, and writes its report",
-    );
-    let script = Command::new(alloc, "script").about(
+    )?;
+    let two = with_command(
+        alloc,
+        one,
+        "script",
         "Reads a trace, a line --, and requests to edit it, and writes the replies and the last version's report",
-    );
-    let whatif = Command::new(alloc, "whatif").about(
+    )?;
+    with_command(
+        alloc,
+        two,
+        "whatif",
         "Reads a trace, a line --, and one request to edit it, and writes the edited trace and its report",
-    );
+    )
+}
+
+// The program with one command more, which has no options.
+fn with_command<'a>(
+    alloc: Global,
+    program: Command<'a>,
+    name: &'a str,
+    about: &'a str,
+) -> Result<Command<'a>, AllocError>
+    ensures { IfOk result (λ c. app_of c
+        ≡ with_subcommand (app_of program.entry) (new_app name.now).top) }
+{
+    let command = Command::new(alloc, name).about(about);
+    program.subcommand(command)
+}
+
+// The program with `race`.
+fn with_race<'a>(alloc: Global, program: Command<'a>) -> Result<Command<'a>, AllocError>
+    ensures { IfOk result (λ c. app_of c ≡ with_subcommand (app_of program.entry) race_app.top) }
+{
     let titled = Command::new(alloc, "race").about(
         "Reads a trace, a line --, and requests to edit it, submits those of each session on a thread of its own, and writes the replies and the last version's report",
     );
     let race = titled.arg(workers_option(alloc))?;
+    program.subcommand(race)
+}
+
+// The program with the commands that tell why objects are still there.
+fn with_questions<'a>(alloc: Global, program: Command<'a>) -> Result<Command<'a>, AllocError>
+    ensures { IfOk result (λ c. app_of c
+        ≡ with_subcommand (with_subcommand (app_of program.entry) explain_app.top)
+        picture_app.top) }
+{
     let explain = explain_command(alloc)?;
+    let one = program.subcommand(explain)?;
     let picture = picture_command(alloc)?;
-    Command::new(alloc, "arc_scope")
-        .about(
-            "Replays a trace of Arc, Weak and atomic shared_ptr operations and reports what each did",
-        )
-        .subcommand_required(true)
-        .subcommand(replay)?
-        .subcommand(script)?
-        .subcommand(whatif)?
-        .subcommand(race)?
-        .subcommand(explain)?
-        .subcommand(picture)
+    one.subcommand(picture)
 }
 
 fn explain_command<'a>(alloc: Global) -> Result<Command<'a>, AllocError>

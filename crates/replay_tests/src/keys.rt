@@ -7,6 +7,7 @@ use std::alloc::Global;
 use std::process::Abort;
 use std::test::Fail;
 use trace_reader::read_trace;
+use trace_types::ops::Op;
 use trace_types::trace::Trace;
 
 fn trace_of(alloc: Global, lines: &str) -> Result<Trace, Fail> {
@@ -15,6 +16,32 @@ fn trace_of(alloc: Global, lines: &str) -> Result<Trace, Fail> {
 
 fn has_each(keys: &[Key], wanted: &[Key]) -> bool {
     wanted.iter().all(|key| keys.contains(key))
+}
+
+// The keys that an operation tells or names as it is carried out, in whatever order, and perhaps more than once.
+fn touched(alloc: Global, heap: &mut Heap, op: &Op) -> Result<Vec<Key>, Fail> {
+    if heap.object(op.id()).is_some() {
+        return Err(Fail::from("a number that is taken"));
+    }
+    let mut told = Vec::new(alloc);
+    let outcome = step_told(alloc, heap, op, &mut Meter::new(), &mut told)?;
+    let ops = vec![in alloc; op.clone()?]?;
+    let outcomes = vec![in alloc; outcome]?;
+    let mut all = Vec::new(alloc);
+    add_all(
+        told.as_slice(),
+        ops.as_slice(),
+        outcomes.as_slice(),
+        &mut all,
+    )?;
+    Ok(all)
+}
+
+// These are all keys that are wanted, and the operation's own number.
+fn are_all(alloc: Global, all: &[Key], wanted: &[Key], id: u32) -> Result<bool, Fail> {
+    let mut known = Vec::from_slice(alloc, wanted)?;
+    known.push(Key::Object(id))?;
+    Ok(has_each(all, wanted) && has_each(known.as_slice(), all))
 }
 
 // Each operation tells or names these keys, its own number, and no others; in what order, and how often, is left open.
@@ -27,26 +54,9 @@ fn assert_touched(
     let trace = trace_of(alloc, lines)?;
     assert_eq!(rt; trace.len(), wanted.len());
     let mut heap = Heap::empty();
-    let mut keys = Vec::new(alloc);
     for (op, wanted) in trace.as_slice().iter().zip(wanted) {
-        keys.clear();
-        if heap.object(op.id()).is_some() {
-            return Err(Fail::from("a number that is taken"));
-        }
-        let outcome = step_told(alloc, &mut heap, op, &mut Meter::new(), &mut keys)?;
-        let ops = vec![in alloc; op.clone()?]?;
-        let outcomes = vec![in alloc; outcome]?;
-        let mut all = Vec::new(alloc);
-        add_all(
-            keys.as_slice(),
-            ops.as_slice(),
-            outcomes.as_slice(),
-            &mut all,
-        )?;
-        assert!(rt; has_each(all.as_slice(), wanted));
-        let mut known = Vec::from_slice(alloc, wanted)?;
-        known.push(Key::Object(op.id()))?;
-        assert!(rt; has_each(known.as_slice(), all.as_slice()));
+        let all = touched(alloc, &mut heap, op)?;
+        assert!(rt; are_all(alloc, all.as_slice(), wanted, op.id())?);
     }
     Ok(())
 }

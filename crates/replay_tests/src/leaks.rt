@@ -7,8 +7,9 @@ ghost use Rattle.ownership_model.proofs.WorkedReleases as Worked;
 
 use leak_report::find_leaks;
 use object_heap::Heap;
-use ownership_model::{Holder, HuskLeft};
+use ownership_model::{Holder, HuskLeft, Leak};
 use std::alloc::{AllocError, Global};
+use std::process::Abort;
 use std::test::Fail;
 use trace_types::sequence::Sequence;
 use trace_types::slots::{Change, Holding, Slot};
@@ -41,6 +42,21 @@ fn husk(alloc: Global) -> Result<Vec<Change>, AllocError>
     ]?)
 }
 
+// The leak is of this object, which field 0 of the other holds.
+fn assert_held_by(rt: &impl Abort, leak: Option<&Leak>, object: u32, other: u32) {
+    let holder = Holder {
+        object: other,
+        field: 0,
+    };
+    match leak {
+        None => assert!(rt; false),
+        Some(leak) => {
+            assert_eq!(rt; leak.object, object);
+            assert!(rt; leak.holders.as_slice() == [holder].as_slice());
+        }
+    }
+}
+
 #[test]
 fn pair_leaks(rt: HostRuntime) -> Result<(), Fail> {
     let alloc = rt.alloc();
@@ -48,20 +64,8 @@ fn pair_leaks(rt: HostRuntime) -> Result<(), Fail> {
     let heap = made(alloc, changes.as_slice())?;
     let leaks = find_leaks(alloc, &heap)?;
     assert_eq!(rt; leaks.leaked.len(), 2);
-    let first = leaks.leaked.as_slice().first().ok_or("two leaks")?;
-    assert_eq!(rt; first.object, 1);
-    let holder = Holder {
-        object: 2,
-        field: 0,
-    };
-    assert!(rt; first.holders.as_slice() == [holder].as_slice());
-    let last = leaks.leaked.as_slice().last().ok_or("two leaks")?;
-    assert_eq!(rt; last.object, 2);
-    let holder = Holder {
-        object: 1,
-        field: 0,
-    };
-    assert!(rt; last.holders.as_slice() == [holder].as_slice());
+    assert_held_by(&rt, leaks.leaked.as_slice().first(), 1, 2);
+    assert_held_by(&rt, leaks.leaked.as_slice().last(), 2, 1);
     assert_eq!(rt; leaks.husks.len(), 0);
     Ok(())
 }

@@ -11,19 +11,24 @@ use trace_reader::read_trace;
 use trace_types::kinds::{Field, Kind};
 use trace_types::limits::MAX_THREAD;
 use trace_types::ops::Op;
-use trace_types::outcomes::{Answer, Event, Verdict};
+use trace_types::outcomes::{Answer, Event, Outcome, Verdict};
 use trace_types::sequence::Sequence;
 use trace_types::trace::Trace;
+
+// What is written of a trace, its outcomes and the heap at its end.
+fn written(alloc: Global, trace: &Trace, outcomes: &[Outcome], end: &Heap) -> Result<String, Fail> {
+    if outcomes.len() != trace.len() {
+        return Err(Fail::from("as many outcomes as operations"));
+    }
+    let shown = report(alloc, trace, outcomes, end)?;
+    Ok(text_of(alloc, &shown)?)
+}
 
 // The report of the trace that these lines are.
 fn reported(alloc: Global, lines: &str) -> Result<String, Fail> {
     let trace = read_trace(alloc, lines.as_bytes()).map_err(|_| Fail::from("a fault"))?;
     let (outcomes, end) = replay(alloc, &trace, &mut Meter::new())?;
-    if outcomes.len() != trace.len() {
-        return Err(Fail::from("as many outcomes as operations"));
-    }
-    let shown = report(alloc, &trace, outcomes.as_slice(), &end)?;
-    Ok(text_of(alloc, &shown)?)
+    written(alloc, &trace, outcomes.as_slice(), &end)
 }
 
 // The heap after the trace that these lines are.

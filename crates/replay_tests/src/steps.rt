@@ -2,7 +2,9 @@
 use crate::told::{assert_told, did, did_to_none, skipped, trace_of};
 use object_heap::Heap;
 use op_step::replay::replay;
-use op_step::{Meter, run, step};
+use op_step::{ChunkRun, Meter, run, step};
+use std::alloc::Global;
+use std::process::Abort;
 use std::test::Fail;
 use trace_types::kinds::{Field, Kind};
 use trace_types::ops::Op;
@@ -30,6 +32,16 @@ fn meter_counts_operations(rt: HostRuntime) -> Result<(), Fail> {
     Ok(())
 }
 
+// A share of the chunk is the replay of two operations from nothing.
+fn assert_kept(rt: &impl Abort, chunk: &ChunkRun) -> Result<(), Fail> {
+    let same = chunk.share()?;
+    assert!(rt; same.start().same(&Heap::empty()));
+    assert_eq!(rt; same.ops().len(), 2);
+    assert_eq!(rt; same.outcomes().len(), 2);
+    assert!(rt; same.end().holding(1).is_some());
+    Ok(())
+}
+
 #[test]
 fn chunk_keeps_its_replay(rt: HostRuntime) -> Result<(), Fail> {
     let alloc = rt.alloc();
@@ -38,13 +50,8 @@ fn chunk_keeps_its_replay(rt: HostRuntime) -> Result<(), Fail> {
     let start = Heap::empty();
     let mut meter = Meter::new();
     let chunk = run(alloc, &start, trace.as_slice(), &mut meter)?;
-    let same = chunk.share()?;
-    assert!(rt; same.start().same(&start));
-    assert_eq!(rt; same.ops().len(), 2);
-    assert_eq!(rt; same.outcomes().len(), 2);
-    assert!(rt; same.end().holding(1).is_some());
     assert_eq!(rt; meter.count(), 2);
-    Ok(())
+    assert_kept(&rt, &chunk)
 }
 
 #[test]
@@ -272,6 +279,16 @@ fn skips(rt: HostRuntime) -> Result<(), Fail> {
     assert_told(&rt, alloc, kinds, told.as_slice())
 }
 
+// A share of the heap holds what it does: object 1 by handle 0.
+fn assert_holds_one(rt: &impl Abort, alloc: Global, heap: &Heap) -> Result<(), Fail> {
+    let share = heap.share()?;
+    assert!(rt; share.same(heap));
+    assert_eq!(rt; share.handles(alloc)?.as_slice(), [0].as_slice());
+    assert_eq!(rt; share.cells(alloc)?.len(), 0);
+    assert_eq!(rt; share.objects(alloc)?.as_slice(), [1].as_slice());
+    Ok(())
+}
+
 #[test]
 fn one_new(rt: HostRuntime) -> Result<(), Fail> {
     let alloc = rt.alloc();
@@ -281,10 +298,5 @@ fn one_new(rt: HostRuntime) -> Result<(), Fail> {
     let (heap, outcome) = step(alloc, &Heap::empty(), &op, &mut meter)?;
     assert_eq!(rt; outcome.verdict, Verdict::Did(Answer::Made));
     assert_eq!(rt; meter.count(), 1);
-    let share = heap.share()?;
-    assert!(rt; share.same(&heap));
-    assert_eq!(rt; share.handles(alloc)?.as_slice(), [0].as_slice());
-    assert_eq!(rt; share.cells(alloc)?.len(), 0);
-    assert_eq!(rt; share.objects(alloc)?.as_slice(), [1].as_slice());
-    Ok(())
+    assert_holds_one(&rt, alloc, &heap)
 }

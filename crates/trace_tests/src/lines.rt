@@ -1,16 +1,18 @@
 //! Lines of traces.
 use serde_json::{Value, from_slice};
+use std::alloc::Global;
 use std::fmt::Write;
+use std::process::Abort;
 use std::test::Fail;
 use trace_reader::{fault_line, read_op, read_script, read_trace, write_line, write_trace};
 use trace_types::edits::Edit;
 use trace_types::limits::{MAX_FIELDS, MAX_INDEX, MAX_LINE};
 
 // What is said of a text: its fault's line, or `read`.
-fn told(rt: &HostRuntime, text: &[u8]) -> Result<String, Fail> {
-    match read_trace(rt.alloc(), text) {
-        Ok(_) => Ok(format!(in rt.alloc(); "read\n")?),
-        Err(fault) => Ok(fault_line(rt.alloc(), &fault)?),
+fn told(alloc: Global, text: &[u8]) -> Result<String, Fail> {
+    match read_trace(alloc, text) {
+        Ok(_) => Ok(format!(in alloc; "read\n")?),
+        Err(fault) => Ok(fault_line(alloc, &fault)?),
     }
 }
 
@@ -23,8 +25,16 @@ fn padded(rt: &HostRuntime, size: usize) -> Result<Vec<u8>, Fail> {
     Ok(line)
 }
 
+// This is said of each of these texts.
+fn assert_told(rt: &impl Abort, alloc: Global, table: &[(&str, &str)]) -> Result<(), Fail> {
+    for (text, wanted) in table {
+        assert_eq!(rt; told(alloc, text.as_bytes())?.as_str(), *wanted);
+    }
+    Ok(())
+}
+
 #[test]
-fn faulty_lines(rt: HostRuntime) -> Result<(), Fail> {
+fn lines_that_are_no_object(rt: HostRuntime) -> Result<(), Fail> {
     let table = [
         ("[1]", "fault line 1 NotObject\n"),
         ("7", "fault line 1 NotObject\n"),
@@ -40,6 +50,18 @@ fn faulty_lines(rt: HostRuntime) -> Result<(), Fail> {
         ("{\"\\udc00\":1}", "fault line 1 NotJson\n"),
         ("{\"more\":\"\u{1}\"}", "fault line 1 NotJson\n"),
         ("\u{feff}{\"id\":1}", "fault line 1 NotJson\n"),
+    ];
+    assert_told(&rt, rt.alloc(), &table)?;
+    assert_eq!(rt;
+        told(rt.alloc(), b"\xff")?.as_str(),
+        "fault line 1 NotJson\n"
+    );
+    Ok(())
+}
+
+#[test]
+fn numbers_that_are_faulty(rt: HostRuntime) -> Result<(), Fail> {
+    let table = [
         ("\n \t\r\n{\"t\":0}\n", "fault line 3 Missing\n"),
         ("{\"t\":0}", "fault line 1 Missing\n"),
         ("{\"id\":\"1\"}", "fault line 1 WrongType\n"),
@@ -56,6 +78,13 @@ fn faulty_lines(rt: HostRuntime) -> Result<(), Fail> {
         ("{\"\\u0069d\":0}", "fault line 1 OutOfRange\n"),
         ("{\"id\":0,\"id\":1}", "fault line 1 Missing\n"),
         ("{\"id\":1,\"id\":0}", "fault line 1 OutOfRange\n"),
+    ];
+    assert_told(&rt, rt.alloc(), &table)
+}
+
+#[test]
+fn faulty_lines(rt: HostRuntime) -> Result<(), Fail> {
+    let table = [
         ("{\"id\":1,\"t\":65536}", "fault line 1 OutOfRange\n"),
         ("{\"id\":1,\"t\":65535}", "fault line 1 Missing\n"),
         ("{\"id\":1,\"t\":0,\"op\":1}", "fault line 1 WrongType\n"),
@@ -81,11 +110,7 @@ fn faulty_lines(rt: HostRuntime) -> Result<(), Fail> {
         ),
         ("", "read\n"),
     ];
-    for (text, wanted) in table.iter() {
-        assert_eq!(rt; told(&rt, text.as_bytes())?.as_str(), *wanted);
-    }
-    assert_eq!(rt; told(&rt, b"\xff")?.as_str(), "fault line 1 NotJson\n");
-    Ok(())
+    assert_told(&rt, rt.alloc(), &table)
 }
 
 #[test]
@@ -103,7 +128,7 @@ fn fields_of_a_new_object(rt: HostRuntime) -> Result<(), Fail> {
         let line = format!(in rt.alloc();
             "{{\"id\":1,\"t\":0,\"op\":\"{name}\",\"to\":99,\"fields\":{fields}}}"
         )?;
-        assert_eq!(rt; told(&rt, line.as_bytes())?.as_str(), *wanted);
+        assert_eq!(rt; told(rt.alloc(), line.as_bytes())?.as_str(), *wanted);
     }
     Ok(())
 }
@@ -131,7 +156,7 @@ fn as_many_fields_as_there_may_be(rt: HostRuntime) -> Result<(), Fail> {
     ];
     for (first, count, wanted) in table {
         let line = with_fields(&rt, first, count)?;
-        assert_eq!(rt; told(&rt, line.as_bytes())?.as_str(), wanted);
+        assert_eq!(rt; told(rt.alloc(), line.as_bytes())?.as_str(), wanted);
     }
     Ok(())
 }
@@ -151,7 +176,7 @@ fn greatest_field_number(rt: HostRuntime) -> Result<(), Fail> {
             let line = format!(in rt.alloc();
                 "{{\"id\":1,\"t\":0,\"h\":0,\"i\":{i},\"op\":{op}}}"
             )?;
-            assert_eq!(rt; told(&rt, line.as_bytes())?.as_str(), wanted);
+            assert_eq!(rt; told(rt.alloc(), line.as_bytes())?.as_str(), wanted);
         }
     }
     Ok(())
@@ -190,7 +215,7 @@ fn every_operation_is_read(rt: HostRuntime) -> Result<(), Fail> {
     ];
     for members in table.iter() {
         let line = format!(in rt.alloc(); "{{\"id\":1,\"t\":0,\"op\":{members}}}")?;
-        assert_eq!(rt; told(&rt, line.as_bytes())?.as_str(), "read\n");
+        assert_eq!(rt; told(rt.alloc(), line.as_bytes())?.as_str(), "read\n");
     }
     Ok(())
 }
@@ -198,25 +223,25 @@ fn every_operation_is_read(rt: HostRuntime) -> Result<(), Fail> {
 #[test]
 fn the_longest_line(rt: HostRuntime) -> Result<(), Fail> {
     assert_eq!(rt;
-        told(&rt, padded(&rt, MAX_LINE)?.as_slice())?.as_str(),
+        told(rt.alloc(), padded(&rt, MAX_LINE)?.as_slice())?.as_str(),
         "read\n"
     );
     assert_eq!(rt;
-        told(&rt, padded(&rt, MAX_LINE + 1)?.as_slice())?.as_str(),
+        told(rt.alloc(), padded(&rt, MAX_LINE + 1)?.as_slice())?.as_str(),
         "fault line 1 LineTooLong\n"
     );
     Ok(())
 }
 
 // What is said of a text with requests: its fault's line, or how many operations and requests it has.
-fn told_script(rt: &HostRuntime, text: &str, lone: bool) -> Result<String, Fail> {
-    match read_script(rt.alloc(), text.as_bytes(), lone) {
+fn told_script(alloc: Global, text: &str, lone: bool) -> Result<String, Fail> {
+    match read_script(alloc, text.as_bytes(), lone) {
         Ok(script) => {
             let ops = script.trace.len();
             let requests = script.requests.len();
-            Ok(format!(in rt.alloc(); "{ops} {requests}\n")?)
+            Ok(format!(in alloc; "{ops} {requests}\n")?)
         }
-        Err(fault) => Ok(fault_line(rt.alloc(), &fault)?),
+        Err(fault) => Ok(fault_line(alloc, &fault)?),
     }
 }
 
@@ -233,7 +258,10 @@ fn faulty_requests(rt: HostRuntime) -> Result<(), Fail> {
     ];
     for (line, wanted) in table.iter() {
         let text = format!(in rt.alloc(); "--\n{line}\n")?;
-        assert_eq!(rt; told_script(&rt, text.as_str(), false)?.as_str(), *wanted);
+        assert_eq!(rt;
+            told_script(rt.alloc(), text.as_str(), false)?.as_str(),
+            *wanted
+        );
     }
     Ok(())
 }
@@ -284,46 +312,59 @@ fn faulty_edits(rt: HostRuntime) -> Result<(), Fail> {
     ];
     for (edits, wanted) in table.iter() {
         let text = format!(in rt.alloc(); "--\n{{\"base\":0,\"session\":0,\"edits\":{edits}}}\n")?;
-        assert_eq!(rt; told_script(&rt, text.as_str(), false)?.as_str(), *wanted);
+        assert_eq!(rt;
+            told_script(rt.alloc(), text.as_str(), false)?.as_str(),
+            *wanted
+        );
     }
     Ok(())
 }
 
+// This is said of a text of these parts.
+fn assert_script(
+    rt: &impl Abort,
+    alloc: Global,
+    parts: &[&str],
+    lone: bool,
+    wanted: &str,
+) -> Result<(), Fail> {
+    let mut text = String::new(alloc);
+    for part in parts {
+        text.push_str(part)?;
+    }
+    assert_eq!(rt; told_script(alloc, text.as_str(), lone)?.as_str(), wanted);
+    Ok(())
+}
+
+const OP: &str = "{\"id\":1,\"t\":0,\"op\":\"null\",\"to\":0}";
+
+const REQUEST: &str = "{\"base\":0,\"session\":0,\"edits\":[]}";
+
 #[test]
 fn lines_of_requests_are_counted_on(rt: HostRuntime) -> Result<(), Fail> {
-    let op = "{\"id\":1,\"t\":0,\"op\":\"null\",\"to\":0}";
-    let request = "{\"base\":0,\"session\":0,\"edits\":[]}";
-    let alloc = rt.alloc();
-    let none = format!(in alloc; "{op}\n\n--\n")?;
-    assert_eq!(rt; told_script(&rt, none.as_str(), true)?.as_str(), "1 0\n");
-    assert_eq!(rt; told_script(&rt, op, true)?.as_str(), "1 0\n");
-    assert_eq!(rt; told_script(&rt, "--", true)?.as_str(), "0 0\n");
-    assert_eq!(rt; told_script(&rt, "", true)?.as_str(), "0 0\n");
-    let two = format!(in alloc; "{op}\n--\n{request}\n \n{request}\n")?;
-    assert_eq!(rt; told_script(&rt, two.as_str(), false)?.as_str(), "1 2\n");
-    assert_eq!(rt;
-        told_script(&rt, two.as_str(), true)?.as_str(),
-        "fault line 5 TooMany\n"
-    );
-    let faulty = format!(in alloc; "{op}\n--\n{request}\n\n{{}}\n")?;
-    assert_eq!(rt;
-        told_script(&rt, faulty.as_str(), true)?.as_str(),
-        "fault line 5 Missing\n"
-    );
-    let trace = format!(in alloc; "\n{op}\n{op}\n--\n")?;
-    assert_eq!(rt;
-        told_script(&rt, trace.as_str(), false)?.as_str(),
-        "fault line 3 IdTaken\n"
-    );
-    assert_eq!(rt;
-        told_script(&rt, "--\r\n", false)?.as_str(),
-        "fault line 1 NotJson\n"
-    );
-    assert_eq!(rt;
-        told_script(&rt, " --\n", false)?.as_str(),
-        "fault line 1 NotJson\n"
-    );
-    Ok(())
+    let two: [&str; 6] = [OP, "\n--\n", REQUEST, "\n \n", REQUEST, "\n"];
+    assert_script(&rt, rt.alloc(), &two, false, "1 2\n")?;
+    assert_script(&rt, rt.alloc(), &two, true, "fault line 5 TooMany\n")?;
+    let faulty: [&str; 4] = [OP, "\n--\n", REQUEST, "\n\n{}\n"];
+    assert_script(&rt, rt.alloc(), &faulty, true, "fault line 5 Missing\n")?;
+    let trace: [&str; 5] = ["\n", OP, "\n", OP, "\n--\n"];
+    assert_script(&rt, rt.alloc(), &trace, false, "fault line 3 IdTaken\n")
+}
+
+#[test]
+fn scripts_without_requests_are_read(rt: HostRuntime) -> Result<(), Fail> {
+    assert_script(&rt, rt.alloc(), &[OP, "\n\n--\n"], true, "1 0\n")?;
+    assert_script(&rt, rt.alloc(), &[OP], true, "1 0\n")?;
+    assert_script(&rt, rt.alloc(), &["--"], true, "0 0\n")?;
+    assert_script(&rt, rt.alloc(), &[""], true, "0 0\n")?;
+    assert_script(
+        &rt,
+        rt.alloc(),
+        &["--\r\n"],
+        false,
+        "fault line 1 NotJson\n",
+    )?;
+    assert_script(&rt, rt.alloc(), &[" --\n"], false, "fault line 1 NotJson\n")
 }
 
 fn told_edit(rt: &HostRuntime, edit: &Edit) -> Result<String, Fail> {

@@ -3,6 +3,7 @@ ghost use Rattle.std.specs.Prelude.{⊤, ◌==◌};
 
 use share_tree::{ShareTree, Update};
 use std::alloc::{AllocError, Global};
+use std::process::Abort;
 use std::test::Fail;
 use trace_types::same::Same;
 
@@ -16,6 +17,7 @@ impl Same for Number {
 }
 
 // This in the place of a number. It answers whether it was there before.
+#[derive(Drop)]
 struct Put(u32);
 
 impl Update<Number> for Put {
@@ -51,18 +53,27 @@ fn number_at(tree: &ShareTree<Number>, key: u32) -> Option<u32> {
     }
 }
 
+// The keys, rising.
+fn has_keys(alloc: Global, tree: &ShareTree<Number>, keys: &[u32]) -> Result<bool, AllocError> {
+    Ok(tree.keys(alloc)?.as_slice() == keys)
+}
+
+// A tree of keys 5 and 3 stays as it is while one without 5 is made of it.
+fn assert_stays(rt: &impl Abort, alloc: Global, a: &ShareTree<Number>) -> Result<(), Fail> {
+    let b = a.without(alloc, 5)?;
+    assert!(rt; has_keys(alloc, &b, &[3])?);
+    assert!(rt; has_keys(alloc, a, &[3, 5])?);
+    assert_eq!(rt; number_at(a, 5), Some(50));
+    assert!(rt; !a.same(&b));
+    Ok(())
+}
+
 #[test]
 fn persistent_map(rt: HostRuntime) -> Result<(), Fail> {
-    let alloc = rt.alloc();
-    let a = tree_of(alloc, &[5, 3])?;
-    assert_eq!(rt; a.keys(alloc)?.as_slice(), [3, 5].as_slice());
-    let b = a.without(alloc, 5)?;
-    assert_eq!(rt; b.keys(alloc)?.as_slice(), [3].as_slice());
-    assert_eq!(rt; a.keys(alloc)?.as_slice(), [3, 5].as_slice());
-    assert_eq!(rt; number_at(&a, 5), Some(50));
-    assert!(rt; !a.same(&b));
-    let three_first = tree_of(alloc, &[3, 5])?;
-    assert!(rt; a.same(&three_first));
+    let a = tree_of(rt.alloc(), &[5, 3])?;
+    assert!(rt; has_keys(rt.alloc(), &a, &[3, 5])?);
+    assert_stays(&rt, rt.alloc(), &a)?;
+    assert!(rt; a.same(&tree_of(rt.alloc(), &[3, 5])?));
     Ok(())
 }
 
@@ -82,41 +93,81 @@ fn maps_of_other_heights_are_the_same(rt: HostRuntime) -> Result<(), Fail> {
     Ok(())
 }
 
-#[test]
-fn share_stands_while_the_other_changes(rt: HostRuntime) -> Result<(), Fail> {
-    let alloc = rt.alloc();
-    let mut tree = tree_of(alloc, &[1, 2, 300])?;
-    tree.insert(alloc, 4, Number(4))?;
-    let share = tree.share()?;
+// The tree of keys 1, 2, 4 and 300 changes, and a share of it stands.
+fn assert_share_stands(
+    rt: &impl Abort,
+    alloc: Global,
+    tree: &mut ShareTree<Number>,
+    share: &ShareTree<Number>,
+) -> Result<(), Fail> {
     tree.insert(alloc, 2, Number(7))?;
     tree.remove(alloc, 300)?;
     tree.remove(alloc, 9)?;
-    assert_eq!(rt; tree.keys(alloc)?.as_slice(), [1, 2, 4].as_slice());
-    assert_eq!(rt; number_at(&tree, 2), Some(7));
-    assert_eq!(rt; share.keys(alloc)?.as_slice(), [1, 2, 4, 300].as_slice());
-    assert_eq!(rt; number_at(&share, 2), Some(20));
+    assert!(rt; has_keys(alloc, tree, &[1, 2, 4])?);
+    assert_eq!(rt; number_at(tree, 2), Some(7));
+    assert!(rt; has_keys(alloc, share, &[1, 2, 4, 300])?);
+    assert_eq!(rt; number_at(share, 2), Some(20));
     assert_eq!(rt; share.len(), 4);
     assert_eq!(rt; tree.len(), 3);
     Ok(())
 }
 
 #[test]
-fn update_changes_what_is_there(rt: HostRuntime) -> Result<(), Fail> {
-    let alloc = rt.alloc();
-    let mut tree = tree_of(alloc, &[1, 2, 300])?;
-    assert!(rt; !tree.update(alloc, 2, &Put(7))?);
-    assert!(rt; tree.update(alloc, 2, &Put(7))?);
-    assert!(rt; !tree.update(alloc, 9, &Put(7))?);
-    assert_eq!(rt; number_at(&tree, 2), Some(7));
-    assert_eq!(rt; tree.keys(alloc)?.as_slice(), [1, 2, 300].as_slice());
+fn share_stands_while_the_other_changes(rt: HostRuntime) -> Result<(), Fail> {
+    let mut tree = tree_of(rt.alloc(), &[1, 2, 300])?;
+    tree.insert(rt.alloc(), 4, Number(4))?;
     let share = tree.share()?;
-    assert!(rt; tree.update(alloc, 2, &Put(7))?);
-    assert!(rt; !tree.update(alloc, 300, &Put(8))?);
+    assert_share_stands(&rt, rt.alloc(), &mut tree, &share)
+}
+
+// Puts a number in the place of another one, which tells whether it was there, and that it is there now.
+fn assert_put(
+    rt: &impl Abort,
+    alloc: Global,
+    tree: &mut ShareTree<Number>,
+    key: u32,
+    number: u32,
+    was_there: bool,
+) -> Result<(), Fail> {
+    assert_eq!(rt; tree.update(alloc, key, &Put(number))?, was_there);
+    assert_eq!(rt; number_at(tree, key), Some(number));
+    Ok(())
+}
+
+// Where nothing is, nothing is changed.
+fn assert_put_at_nothing(
+    rt: &impl Abort,
+    alloc: Global,
+    tree: &mut ShareTree<Number>,
+) -> Result<(), Fail> {
     assert!(rt; !tree.update(alloc, 9, &Put(7))?);
-    assert_eq!(rt; number_at(&tree, 300), Some(8));
-    assert_eq!(rt; number_at(&share, 300), Some(3000));
+    assert!(rt; has_keys(alloc, tree, &[1, 2, 300])?);
+    Ok(())
+}
+
+// Both while a share holds the same.
+fn assert_put_beside_a_share(
+    rt: &impl Abort,
+    alloc: Global,
+    tree: &mut ShareTree<Number>,
+    share: &ShareTree<Number>,
+) -> Result<(), Fail> {
+    assert_put(rt, alloc, tree, 2, 7, true)?;
+    assert_put(rt, alloc, tree, 300, 8, false)?;
+    assert_put_at_nothing(rt, alloc, tree)?;
+    assert_eq!(rt; number_at(share, 300), Some(3000));
     assert_eq!(rt; share.len(), 3);
     Ok(())
+}
+
+#[test]
+fn update_changes_what_is_there(rt: HostRuntime) -> Result<(), Fail> {
+    let mut tree = tree_of(rt.alloc(), &[1, 2, 300])?;
+    assert_put(&rt, rt.alloc(), &mut tree, 2, 7, false)?;
+    assert_put(&rt, rt.alloc(), &mut tree, 2, 7, true)?;
+    assert_put_at_nothing(&rt, rt.alloc(), &mut tree)?;
+    let share = tree.share()?;
+    assert_put_beside_a_share(&rt, rt.alloc(), &mut tree, &share)
 }
 
 #[test]
@@ -138,75 +189,135 @@ fn walk_rises_to_the_greatest_key(rt: HostRuntime) -> Result<(), Fail> {
     Ok(())
 }
 
-// With each allocation refused in turn (`tools/refused_memory/run`) each refusal meets one call here, which leaves
-// the tree as it was, and which is then made again.
-#[test]
-fn refused_memory_leaves_the_tree(rt: HostRuntime) -> Result<(), Fail> {
-    let alloc = rt.alloc();
-    let mut tree = ShareTree::<Number>::empty();
-    let mut share = tree.share()?;
+// Puts a number in. Where memory is refused, the tree stays as it was, and the same call goes well afterwards.
+fn insert_at_last(
+    rt: &impl Abort,
+    alloc: Global,
+    tree: &mut ShareTree<Number>,
+    key: u32,
+    number: u32,
+) -> Result<(), Fail> {
+    let len = tree.len();
+    if tree.insert(alloc, key, Number(number)).is_err() {
+        assert_eq!(rt; tree.len(), len);
+        assert!(rt; !tree.contains_key(key));
+        tree.insert(alloc, key, Number(number))?;
+    }
+    Ok(())
+}
+
+// Puts 50 in the place of a number, in the same way.
+fn update_at_last(
+    rt: &impl Abort,
+    alloc: Global,
+    tree: &mut ShareTree<Number>,
+    key: u32,
+    number: u32,
+) -> Result<(), Fail> {
+    if tree.update(alloc, key, &Put(50)).is_err() {
+        assert_eq!(rt; number_at(tree, key), Some(number));
+        tree.update(alloc, key, &Put(50))?;
+    }
+    Ok(())
+}
+
+// Takes a number out, in the same way.
+fn remove_at_last(
+    rt: &impl Abort,
+    alloc: Global,
+    tree: &mut ShareTree<Number>,
+    key: u32,
+    number: u32,
+) -> Result<(), Fail> {
+    if tree.remove(alloc, key).is_err() {
+        assert_eq!(rt; number_at(tree, key), Some(number));
+        tree.remove(alloc, key)?;
+    }
+    Ok(())
+}
+
+// A key far from the one before.
+fn far_key(i: u32) -> u32 {
+    i.wrapping_mul(2654435761) % 4099
+}
+
+// Puts forty numbers in, far from one another. The share is the tree as it was with 33.
+fn fill_far(
+    rt: &impl Abort,
+    alloc: Global,
+    tree: &mut ShareTree<Number>,
+    share: &mut ShareTree<Number>,
+) -> Result<(), Fail> {
     for i in 0..40u32 {
-        let key = i.wrapping_mul(2654435761) % 4099;
-        let len = tree.len();
-        if tree.insert(alloc, key, Number(i)).is_err() {
-            assert_eq!(rt; tree.len(), len);
-            assert!(rt; !tree.contains_key(key));
-            tree.insert(alloc, key, Number(i))?;
-        }
+        insert_at_last(rt, alloc, tree, far_key(i), i)?;
         if i % 8 == 0 {
-            share = tree.share()?;
+            *share = tree.share()?;
         }
     }
     assert_eq!(rt; tree.len(), 40);
     assert_eq!(rt; share.len(), 33);
+    Ok(())
+}
+
+// Changes all forty, and then takes them out.
+fn empty_far(rt: &impl Abort, alloc: Global, tree: &mut ShareTree<Number>) -> Result<(), Fail> {
     for i in 0..40u32 {
-        let key = i.wrapping_mul(2654435761) % 4099;
-        if tree.update(alloc, key, &Put(50)).is_err() {
-            assert_eq!(rt; number_at(&tree, key), Some(i));
-            tree.update(alloc, key, &Put(50))?;
-        }
+        update_at_last(rt, alloc, tree, far_key(i), i)?;
     }
     for i in 0..40u32 {
-        let key = i.wrapping_mul(2654435761) % 4099;
-        if tree.remove(alloc, key).is_err() {
-            assert_eq!(rt; number_at(&tree, key), Some(50));
-            tree.remove(alloc, key)?;
-        }
+        remove_at_last(rt, alloc, tree, far_key(i), 50)?;
     }
     assert_eq!(rt; tree.len(), 0);
+    Ok(())
+}
+
+// With each allocation refused in turn (`tools/refused_memory/run`) each refusal meets one call here, which leaves
+// the tree as it was, and which is then made again.
+#[test]
+fn refused_memory_leaves_the_tree(rt: HostRuntime) -> Result<(), Fail> {
+    let mut tree = ShareTree::<Number>::empty();
+    let mut share = tree.share()?;
+    fill_far(&rt, rt.alloc(), &mut tree, &mut share)?;
+    empty_far(&rt, rt.alloc(), &mut tree)?;
     assert_eq!(rt; share.len(), 33);
+    Ok(())
+}
+
+// Puts 48 numbers in, side by side. The share is the tree as it was with 37.
+fn fill_near(
+    rt: &impl Abort,
+    alloc: Global,
+    tree: &mut ShareTree<Number>,
+    share: &mut ShareTree<Number>,
+) -> Result<(), Fail> {
+    for i in 0..48u32 {
+        insert_at_last(rt, alloc, tree, i.wrapping_mul(7) % 48, i)?;
+        if i % 12 == 0 {
+            *share = tree.share()?;
+        }
+    }
+    assert_eq!(rt; tree.len(), 48);
+    assert_eq!(rt; share.len(), 37);
+    Ok(())
+}
+
+// Takes forty of them out.
+fn empty_near(rt: &impl Abort, alloc: Global, tree: &mut ShareTree<Number>) -> Result<(), Fail> {
+    for i in 0..40u32 {
+        remove_at_last(rt, alloc, tree, i.wrapping_mul(7) % 48, i)?;
+    }
+    assert_eq!(rt; tree.len(), 8);
     Ok(())
 }
 
 // The same for keys side by side, so that a node over leaves is copied with a few of them and gets more.
 #[test]
 fn refused_memory_leaves_neighbours(rt: HostRuntime) -> Result<(), Fail> {
-    let alloc = rt.alloc();
     let mut tree = ShareTree::<Number>::empty();
     let mut share = tree.share()?;
-    for i in 0..48u32 {
-        let key = i.wrapping_mul(7) % 48;
-        let len = tree.len();
-        if tree.insert(alloc, key, Number(i)).is_err() {
-            assert_eq!(rt; tree.len(), len);
-            assert!(rt; !tree.contains_key(key));
-            tree.insert(alloc, key, Number(i))?;
-        }
-        if i % 12 == 0 {
-            share = tree.share()?;
-        }
-    }
-    assert_eq!(rt; tree.len(), 48);
-    assert_eq!(rt; share.len(), 37);
+    fill_near(&rt, rt.alloc(), &mut tree, &mut share)?;
     share = tree.share()?;
-    for i in 0..40u32 {
-        let key = i.wrapping_mul(7) % 48;
-        if tree.remove(alloc, key).is_err() {
-            assert_eq!(rt; number_at(&tree, key), Some(i));
-            tree.remove(alloc, key)?;
-        }
-    }
-    assert_eq!(rt; tree.len(), 8);
+    empty_near(&rt, rt.alloc(), &mut tree)?;
     assert_eq!(rt; share.len(), 48);
     Ok(())
 }
