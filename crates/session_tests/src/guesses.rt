@@ -2,7 +2,7 @@
 ghost use Rattle.std.specs.Prelude.{◌≡◌, ◌≤◌, []};
 ghost use Rattle.live_sessions.specs.Events.{opening_of};
 
-use edit_desk::{Reply, Request};
+use crate::steps::submits_each;
 use live_sessions::{Naming, Started, open};
 use std::alloc::{AllocError, Global};
 use std::marker::Brand;
@@ -67,18 +67,7 @@ fn replayed<J: Naming, S: Threads + Wait + Sync>(
     requires workers { (1 ≤ workers) × (workers ≤ MAX_WORKERS) }
 {
     let live = open::<J, &S>(rt, alloc, started, workers).ok()?;
-    let mut pass = live.join(rt).ok()?;
-    for line in lines.into_vec() {
-        let RequestLine {
-            base,
-            session: _,
-            batch,
-        } = line;
-        let reply = live.submit(rt, &mut pass, Request { base, batch }).ok()?;
-        if !matches!(reply, Reply::Accepted(_)) {
-            return None;
-        }
-    }
+    submits_each(rt, &live, lines)?;
     let desk = live.close(Vec::new(alloc)).ok()?;
     Some(desk.meter().count())
 }

@@ -2,9 +2,9 @@
 ghost use Rattle.std.specs.Prelude.{◌≡◌, []};
 ghost use Rattle.live_sessions.specs.Events.{opening_of};
 
+use crate::steps::submits_each;
 use command_race::{report_of_desk, report_of_front};
-use edit_desk::Request;
-use live_sessions::{Naming, Started, open};
+use live_sessions::{Live, Naming, Publisher, Shown, Started, open};
 use std::alloc::Global;
 use std::marker::Brand;
 use std::sync::Wait;
@@ -26,6 +26,27 @@ object 1 alive
 total 2 ops 0 skipped 1 objects 1 alive 0 leaks 0 husks
 ";
 
+// What another session reads after one has submitted the requests.
+fn read_by_another<J: Naming, W: Publisher<Value = Shown<J>>, S: Threads + Wait + Sync>(
+    rt: &S,
+    alloc: Global,
+    live: &Live<J, W>,
+    lines: Sequence<RequestLine>,
+) -> Option<Vec<u8>> {
+    submits_each(rt, live, lines)?;
+    let mut other = live.join(rt).ok()?;
+    report_of_front(alloc, &mut other).ok()
+}
+
+// What the desk shows once it is closed.
+fn shown_at_last<J: Naming, W: Publisher<Value = Shown<J>>>(
+    alloc: Global,
+    live: Live<J, W>,
+) -> Option<Vec<u8>> {
+    let desk = live.close(Vec::new(alloc)).ok()?;
+    report_of_desk(alloc, &desk).ok()
+}
+
 // What another session reads after one has submitted the requests, and what the closed desk shows.
 fn reports<J: Naming, S: Threads + Wait + Sync>(
     rt: &S,
@@ -38,19 +59,8 @@ fn reports<J: Naming, S: Threads + Wait + Sync>(
     requires fresh { (started.desk.standing.opening ≡ J.opening) × (started.desk.standing.history ≡ []) }
 {
     let live = open::<J, &S>(rt, alloc, started, 1).ok()?;
-    let mut pass = live.join(rt).ok()?;
-    for line in lines.into_vec() {
-        let RequestLine {
-            base,
-            session: _,
-            batch,
-        } = line;
-        let _reply = live.submit(rt, &mut pass, Request { base, batch }).ok()?;
-    }
-    let mut other = live.join(rt).ok()?;
-    let read = report_of_front(alloc, &mut other).ok()?;
-    let desk = live.close(Vec::new(alloc)).ok()?;
-    let shown = report_of_desk(alloc, &desk).ok()?;
+    let read = read_by_another(rt, alloc, &live, lines)?;
+    let shown = shown_at_last(alloc, live)?;
     Some((read, shown))
 }
 

@@ -124,21 +124,36 @@ fn is_replay(alloc: Global, run: &Run, trace: &Trace) -> Option<bool> {
     Some(true)
 }
 
+// Each session has twenty entries in the history.
+fn assert_all_entered(rt: &impl Abort, desk: &Desk) {
+    assert_eq!(rt; desk.len(), 320);
+    for session in 0..PLACES {
+        assert_eq!(rt; entries_of(desk, session), 20);
+    }
+}
+
+// The report of the desk is that of the trace.
+fn assert_reported(rt: &impl Abort, alloc: Global, desk: &Desk, trace: &Trace) -> Result<(), Fail> {
+    let told = report_of_desk(alloc, desk)?;
+    let due = report_on(alloc, trace)?;
+    assert!(rt; told.as_slice() == due.as_slice());
+    Ok(())
+}
+
+// What the desk shows is the replay of the trace that its entries make, one after another.
+fn assert_is_replay(rt: &impl Abort, alloc: Global, desk: &Desk) -> Result<(), Fail> {
+    let (trace, version) = folded(alloc, desk).ok_or("each reply is the one that is due")?;
+    assert_eq!(rt; desk.version(), version);
+    let alike = is_replay(alloc, desk.published().run(), &trace).ok_or("memory")?;
+    assert!(rt; alike);
+    assert_reported(rt, alloc, desk, &trace)
+}
+
 #[test]
 fn sixteen_threads_submit_twenty_each(rt: HostRuntime) -> Result<(), Fail> {
     let alloc = rt.alloc();
     let trace = one_new(alloc).ok_or("memory")?;
     let desk = desk_after(&rt, alloc, trace, Case::Sixteen).ok_or("all sessions leave")?;
-    assert_eq!(rt; desk.len(), 320);
-    for session in 0..PLACES {
-        assert_eq!(rt; entries_of(&desk, session), 20);
-    }
-    let (trace, version) = folded(alloc, &desk).ok_or("each reply is the one that is due")?;
-    assert_eq!(rt; desk.version(), version);
-    let alike = is_replay(alloc, desk.published().run(), &trace).ok_or("memory")?;
-    assert!(rt; alike);
-    let told = report_of_desk(alloc, &desk)?;
-    let due = report_on(alloc, &trace)?;
-    assert!(rt; told.as_slice() == due.as_slice());
-    Ok(())
+    assert_all_entered(&rt, &desk);
+    assert_is_replay(&rt, alloc, &desk)
 }

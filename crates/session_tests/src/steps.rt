@@ -4,6 +4,8 @@ use live_sessions::{Live, Naming, Pass, Publisher, Receipt, Shown};
 use std::process::Abort;
 use std::sync::Wait;
 use std::thread::Threads;
+use trace_reader::RequestLine;
+use trace_types::sequence::Sequence;
 
 // Joins at this session's place.
 pub fn joins<J: Naming, W: Publisher<Value = Shown<J>>, S: Wait + Abort>(
@@ -26,6 +28,27 @@ pub fn submits<J: Naming, W: Publisher<Value = Shown<J>>, S: Threads + Wait + Ab
 ) -> Option<()> {
     let reply = live.submit(rt, pass, request?).ok()?;
     assert!(rt; reply == due);
+    Some(())
+}
+
+// One session joins and submits the requests of these lines, each of which is accepted. Its pass is dropped.
+pub fn submits_each<J: Naming, W: Publisher<Value = Shown<J>>, S: Threads + Wait + Sync>(
+    rt: &S,
+    live: &Live<J, W>,
+    lines: Sequence<RequestLine>,
+) -> Option<()> {
+    let mut pass = live.join(rt).ok()?;
+    for line in lines.into_vec() {
+        let RequestLine {
+            base,
+            session: _,
+            batch,
+        } = line;
+        let reply = live.submit(rt, &mut pass, Request { base, batch }).ok()?;
+        if !matches!(reply, Reply::Accepted(_)) {
+            return None;
+        }
+    }
     Some(())
 }
 
