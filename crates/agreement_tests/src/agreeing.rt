@@ -130,19 +130,12 @@ pub fn remains_of(alloc: Global, new: &Heap, old: &Heap) -> Result<Remains, Fail
     }
 }
 
-// The cycle is what the new heap has for itself.
-fn assert_cycle_remains(
-    rt: &impl Abort,
-    alloc: Global,
-    new: &Heap,
-    old: &Heap,
-) -> Result<(), Fail> {
-    let remains = remains_of(alloc, new, old)?;
+/// The cycle is what the remains add, and they take nothing out.
+pub fn assert_cycle_is_added(rt: &impl Abort, remains: &Remains) {
     assert_eq!(rt; remains.removed().len(), 0);
     assert_eq!(rt; remains.added().len(), 2);
     assert!(rt; is_held_by(remains.added().get(1), 2));
     assert!(rt; is_held_by(remains.added().get(2), 1));
-    Ok(())
 }
 
 // The remains make the new heap of the old one.
@@ -161,7 +154,7 @@ fn leaked_cycle_remains(rt: HostRuntime) -> Result<(), Fail> {
     let old = [CYCLE, BREAK, LET_GO];
     with_heaps(alloc, &new, &old, 12, 64, |new, old| {
         assert!(rt; !new.same(old));
-        assert_cycle_remains(&rt, alloc, new, old)?;
+        assert_cycle_is_added(&rt, &remains_of(alloc, new, old)?);
         assert_made_new(&rt, alloc, new, old)
     })
 }

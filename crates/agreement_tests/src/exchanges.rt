@@ -3,21 +3,14 @@ ghost use Rattle.std.specs.Prelude.{◌≡◌, IfOk, IfSome};
 ghost use Rattle.std.specs.Arc.{arc_value};
 ghost use Rattle.ownership_model.specs.Patch.{patched};
 
-use crate::agreeing::{BREAK, CYCLE, LET_GO, heap_of, with_heaps};
+use crate::agreeing::{BREAK, CYCLE, LET_GO, heap_of, remains_of, with_heaps};
 use agreement::agree::agree;
-use agreement::{Checkpoint, Exchange, Remains};
+use agreement::{Checkpoint, Exchange};
 use object_heap::Heap;
 use std::alloc::{AllocError, Global};
 use std::process::Abort;
 use std::sync::Arc;
 use std::test::Fail;
-
-fn remains_of(alloc: Global, new: &Heap, old: &Heap) -> Result<Remains, Fail> {
-    match agree(alloc, new, old)? {
-        Some(remains) => Ok(remains),
-        None => Err(Fail::from("they agree")),
-    }
-}
 
 // What is to be exchanged in the old heap to make it the new one, where both agree.
 fn exchange_between(
@@ -83,7 +76,7 @@ fn made_last(
     Ok(Some(heap))
 }
 
-// Of two heaps that leak otherwise the remains change something.
+// Of two heaps in which other objects leak the remains change something.
 fn assert_they_change(rt: &impl Abort, alloc: Global, a: &Heap, b: &Heap) -> Result<(), Fail> {
     assert!(rt; !remains_of(alloc, a, b)?.changes_nothing());
     assert!(rt; !remains_of(alloc, b, a)?.changes_nothing());

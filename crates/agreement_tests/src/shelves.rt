@@ -138,7 +138,7 @@ fn assert_one_is_gone(
     Ok(())
 }
 
-// A name that is there keeps its place.
+// The name of chunk 1 is there as it is remembered again, so it keeps its place.
 fn assert_oldest_goes(rt: &impl Abort, alloc: Global, shelf: &mut MarkShelf) -> Result<(), Fail> {
     remember_each(alloc, shelf, [1, 2, 1, 3].as_slice())?;
     assert_one_is_gone(rt, alloc, shelf, 1)
@@ -210,7 +210,7 @@ fn cycle_without(alloc: Global, gone: u32, last: u32) -> Result<Trace, Fail> {
     Ok(trace)
 }
 
-// Has the shelf remember the first 64 operations of that trace but one.
+// Has the shelf remember the first 64 operations of that trace, without the one with this number, if there is one.
 fn remember_without(alloc: Global, shelf: &mut MarkShelf, gone: u32) -> Result<(), Fail> {
     let trace = cycle_without(alloc, gone, 64)?;
     shelf.remember(chunk(alloc, &trace)?);

@@ -1,5 +1,5 @@
 //! Heaps compared at suspects alone: what leaks apart from all else is told without a walk over the heaps.
-use crate::agreeing::{BREAK, CYCLE, LET_GO, with_heaps};
+use crate::agreeing::{BREAK, CYCLE, LET_GO, assert_cycle_is_added, with_heaps};
 use agreement::{Meeting, Remains, Suspects, meet_among, refutes};
 use object_heap::Heap;
 use op_step::Meter;
@@ -49,14 +49,6 @@ const LEAK: &str = "\
 {\"from\":8,\"h\":7,\"i\":0,\"id\":23,\"op\":\"set\",\"t\":0}
 {\"h\":7,\"id\":24,\"op\":\"drop\",\"t\":0}
 ";
-
-// The cycle of objects 1 and 2 is what the remains add.
-fn assert_cycle_is_added(rt: &impl Abort, remains: &Remains) {
-    assert_eq!(rt; remains.removed().len(), 0);
-    assert_eq!(rt; remains.added().len(), 2);
-    assert!(rt; is_with(remains.added().get(1), 2, 1, 0));
-    assert!(rt; is_with(remains.added().get(2), 1, 1, 0));
-}
 
 fn assert_cycle_alone(rt: &impl Abort, alloc: Global, new: &Heap, old: &Heap) -> Result<(), Fail> {
     assert_cycle_is_added(rt, &remains_of(alloc, new, old)?);
@@ -182,13 +174,13 @@ fn reached_suspect_parts(rt: HostRuntime) -> Result<(), Fail> {
     })
 }
 
-// An object of the cycle is cloned, and the clone dropped.
+// A handle of the cycle is cloned, and the clone dropped.
 const CLONE_AND_DROP: &str = "\
 {\"from\":0,\"id\":31,\"op\":\"clone\",\"t\":0,\"to\":5}
 {\"h\":5,\"id\":32,\"op\":\"drop\",\"t\":0}
 ";
 
-fn assert_dropped(rt: &impl Abort, alloc: Global, new: &Heap, old: &Heap) -> Result<(), Fail> {
+fn assert_none_is_left(rt: &impl Abort, alloc: Global, new: &Heap, old: &Heap) -> Result<(), Fail> {
     let mut suspects = Suspects::of_both(alloc, new, old)?;
     assert_eq!(rt; suspects.as_slice(), [1, 2, 1, 2].as_slice());
     let meeting = meet_among(alloc, new, old, &mut suspects, &mut None)?;
@@ -203,7 +195,7 @@ fn equal_suspects_are_dropped(rt: HostRuntime) -> Result<(), Fail> {
     let new = [CYCLE, CLONE_AND_DROP, LET_GO];
     let old = [CYCLE, LET_GO];
     with_heaps(rt.alloc(), &new, &old, 33, 64, |new, old| {
-        assert_dropped(&rt, rt.alloc(), new, old)
+        assert_none_is_left(&rt, rt.alloc(), new, old)
     })
 }
 

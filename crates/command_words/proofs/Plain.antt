@@ -20,3 +20,7 @@ third a b c d e = left c d (right b (c && d) (right a (b && (c && d)) e))
 
 pub no_globals : (f : Command-F Command) → has_plain_fields f ≡ true → f.has_globals ≡ false
 no_globals f e = off f.has_globals (third _ _ (not f.has_globals) _ e)
+
+-- whether it has options that its subcommands share
+abbrev pub has_globals : Command-F Command → Bool
+has_globals f = f.has_globals

@@ -37,7 +37,7 @@ fn touched(alloc: Global, heap: &mut Heap, op: &Op) -> Result<Vec<Key>, Fail> {
     Ok(all)
 }
 
-// These are all keys that are wanted, and the operation's own number.
+// These are all keys that are wanted, and no others but the operation's own number.
 fn are_all(alloc: Global, all: &[Key], wanted: &[Key], id: u32) -> Result<bool, Fail> {
     let mut known = Vec::from_slice(alloc, wanted)?;
     known.push(Key::Object(id))?;

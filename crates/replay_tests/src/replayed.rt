@@ -1,4 +1,7 @@
 //! Operations with what is told of them.
+use leak_report::Report;
+use leak_report::report::report;
+use object_heap::Heap;
 use std::alloc::Global;
 use std::test::Fail;
 use trace_types::kinds::Kind;
@@ -73,4 +76,17 @@ pub fn counts(object: u32, strong: u64, weak: u64) -> Option<Counts> {
         strong,
         weak,
     })
+}
+
+// The report of operations with what they did, and the heap at their end.
+pub fn report_of<'a>(
+    alloc: Global,
+    trace: &'a Trace,
+    outcomes: &'a [Outcome],
+    end: &Heap,
+) -> Result<Report<'a>, Fail> {
+    if outcomes.len() != trace.len() {
+        return Err(Fail::from("as many outcomes as operations"));
+    }
+    Ok(report(alloc, trace, outcomes, end)?)
 }

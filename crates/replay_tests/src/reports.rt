@@ -1,8 +1,7 @@
 //! What is written of a report, and devices that fail.
 ghost use Rattle.std.specs.Prelude.{Some};
 
-use crate::replayed::{Replayed, counts};
-use leak_report::report::report;
+use crate::replayed::{Replayed, counts, report_of};
 use leak_report::{Report, WriteFault, find_leaks, write_report};
 use object_heap::Heap;
 use std::alloc::Global;
@@ -38,12 +37,9 @@ fn add_made_and_dropped(alloc: Global, all: &mut Replayed) -> Result<(), Fail> {
     )
 }
 
-// The report of operations that leave nothing.
-fn report_of(alloc: Global, all: &Replayed) -> Result<Report<'_>, Fail> {
-    if all.outcomes.len() != all.trace.len() {
-        return Err(Fail::from("as many outcomes as operations"));
-    }
-    Ok(report(alloc, &all.trace, &all.outcomes, &Heap::empty())?)
+// The report of all operations, with nothing at the end.
+fn report_of_all(alloc: Global, all: &Replayed) -> Result<Report<'_>, Fail> {
+    report_of(alloc, &all.trace, &all.outcomes, &Heap::empty())
 }
 
 const MADE_AND_DROPPED: &str = "\
@@ -69,7 +65,7 @@ fn assert_written(rt: &impl Abort, alloc: Global, shown: &Report) -> Result<(), 
 }
 
 fn assert_is_reported(rt: &impl Abort, alloc: Global, all: &Replayed) -> Result<(), Fail> {
-    let shown = report_of(alloc, all)?;
+    let shown = report_of_all(alloc, all)?;
     assert_one_life(rt, &shown);
     assert_written(rt, alloc, &shown)
 }
@@ -128,7 +124,7 @@ fn assert_cut_off(rt: &impl Abort, alloc: Global, shown: &Report) {
 fn a_full_device_has_a_front_of_the_text(rt: HostRuntime) -> Result<(), Fail> {
     let mut all = Replayed::nothing(rt.alloc());
     add_made_and_dropped(rt.alloc(), &mut all)?;
-    let shown = report_of(rt.alloc(), &all)?;
+    let shown = report_of_all(rt.alloc(), &all)?;
     assert_cut_off(&rt, rt.alloc(), &shown);
     Ok(())
 }
@@ -161,7 +157,7 @@ fn assert_lives(rt: &impl Abort, shown: &Report, due: &[u32]) {
 fn lives_rise_where_numbers_do_not(rt: HostRuntime) -> Result<(), Fail> {
     let mut all = Replayed::nothing(rt.alloc());
     add_each(rt.alloc(), &mut all, &[5, 7, 2, 6, 9])?;
-    let shown = report_of(rt.alloc(), &all)?;
+    let shown = report_of_all(rt.alloc(), &all)?;
     assert_lives(&rt, &shown, &[2, 5, 6, 7, 9]);
     Ok(())
 }

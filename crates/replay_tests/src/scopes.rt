@@ -1,5 +1,5 @@
 //! The ends of scopes: small traces with their reports, and large ones.
-use leak_report::report::report;
+use crate::replayed::report_of;
 use leak_report::text_of;
 use object_heap::Heap;
 use op_step::Meter;
@@ -17,10 +17,7 @@ use trace_types::trace::Trace;
 
 // What is written of a trace, its outcomes and the heap at its end.
 fn written(alloc: Global, trace: &Trace, outcomes: &[Outcome], end: &Heap) -> Result<String, Fail> {
-    if outcomes.len() != trace.len() {
-        return Err(Fail::from("as many outcomes as operations"));
-    }
-    let shown = report(alloc, trace, outcomes, end)?;
+    let shown = report_of(alloc, trace, outcomes, end)?;
     Ok(text_of(alloc, &shown)?)
 }
 

@@ -67,7 +67,7 @@ fn replayed<J: Naming, S: Threads + Wait + Sync>(
     requires workers { (1 ≤ workers) × (workers ≤ MAX_WORKERS) }
 {
     let live = open::<J, &S>(rt, alloc, started, workers).ok()?;
-    submits_each(rt, &live, lines)?;
+    let _pass = submits_each(rt, &live, lines)?;
     let desk = live.close(Vec::new(alloc)).ok()?;
     Some(desk.meter().count())
 }

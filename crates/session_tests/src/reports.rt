@@ -4,7 +4,7 @@ ghost use Rattle.live_sessions.specs.Events.{opening_of};
 
 use crate::steps::submits_each;
 use command_race::{report_of_desk, report_of_front};
-use live_sessions::{Live, Naming, Publisher, Shown, Started, open};
+use live_sessions::{Live, Naming, Pass, Publisher, Shown, Started, open};
 use std::alloc::Global;
 use std::marker::Brand;
 use std::sync::Wait;
@@ -26,22 +26,22 @@ object 1 alive
 total 2 ops 0 skipped 1 objects 1 alive 0 leaks 0 husks
 ";
 
-// What another session reads after one has submitted the requests.
+// What another session reads. It keeps its pass.
 fn read_by_another<J: Naming, W: Publisher<Value = Shown<J>>, S: Threads + Wait + Sync>(
     rt: &S,
     alloc: Global,
     live: &Live<J, W>,
-    lines: Sequence<RequestLine>,
-) -> Option<Vec<u8>> {
-    submits_each(rt, live, lines)?;
+) -> Option<(Pass<J>, Vec<u8>)> {
     let mut other = live.join(rt).ok()?;
-    report_of_front(alloc, &mut other).ok()
+    let read = report_of_front(alloc, &mut other).ok()?;
+    Some((other, read))
 }
 
-// What the desk shows once it is closed.
+// What the desk shows once it is closed, while passes are still there.
 fn shown_at_last<J: Naming, W: Publisher<Value = Shown<J>>>(
     alloc: Global,
     live: Live<J, W>,
+    _passes: (Pass<J>, Pass<J>),
 ) -> Option<Vec<u8>> {
     let desk = live.close(Vec::new(alloc)).ok()?;
     report_of_desk(alloc, &desk).ok()
@@ -59,8 +59,9 @@ fn reports<J: Naming, S: Threads + Wait + Sync>(
     requires fresh { (started.desk.standing.opening ≡ J.opening) × (started.desk.standing.history ≡ []) }
 {
     let live = open::<J, &S>(rt, alloc, started, 1).ok()?;
-    let read = read_by_another(rt, alloc, &live, lines)?;
-    let shown = shown_at_last(alloc, live)?;
+    let pass = submits_each(rt, &live, lines)?;
+    let (other, read) = read_by_another(rt, alloc, &live)?;
+    let shown = shown_at_last(alloc, live, (pass, other))?;
     Some((read, shown))
 }
 
@@ -72,7 +73,7 @@ fn reports_on<S: Threads + Wait + Sync>(rt: &S, alloc: Global) -> Option<(Vec<u8
 
 #[test]
 fn report_follows_what_another_session_submitted(rt: HostRuntime) -> Result<(), Fail> {
-    let (read, shown) = reports_on(&rt, rt.alloc()).ok_or("the request is answered")?;
+    let (read, shown) = reports_on(&rt, rt.alloc()).ok_or("the request is accepted")?;
     assert!(rt; read.as_slice() == REPORT.as_bytes());
     assert!(rt; shown.as_slice() == REPORT.as_bytes());
     Ok(())

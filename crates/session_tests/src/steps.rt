@@ -1,4 +1,4 @@
-//! What a session of a test does, one step a function.
+//! What a session of a test does.
 use edit_desk::{Reply, Request};
 use live_sessions::{Live, Naming, Pass, Publisher, Receipt, Shown};
 use std::process::Abort;
@@ -31,12 +31,12 @@ pub fn submits<J: Naming, W: Publisher<Value = Shown<J>>, S: Threads + Wait + Ab
     Some(())
 }
 
-// One session joins and submits the requests of these lines, each of which is accepted. Its pass is dropped.
+// A session joins and submits the requests of these lines, each of which is accepted. It keeps its pass.
 pub fn submits_each<J: Naming, W: Publisher<Value = Shown<J>>, S: Threads + Wait + Sync>(
     rt: &S,
     live: &Live<J, W>,
     lines: Sequence<RequestLine>,
-) -> Option<()> {
+) -> Option<Pass<J>> {
     let mut pass = live.join(rt).ok()?;
     for line in lines.into_vec() {
         let RequestLine {
@@ -49,7 +49,7 @@ pub fn submits_each<J: Naming, W: Publisher<Value = Shown<J>>, S: Threads + Wait
             return None;
         }
     }
-    Some(())
+    Some(pass)
 }
 
 // The pass has had so many replies and seen so many entries; then it reads this version.

@@ -8,6 +8,8 @@ use trace_reader::{fault_line, read_op, read_script, read_trace, write_line, wri
 use trace_types::edits::Edit;
 use trace_types::limits::{MAX_FIELDS, MAX_INDEX, MAX_LINE};
 
+const OP: &str = "{\"id\":1,\"t\":0,\"op\":\"null\",\"to\":0}";
+
 // What is said of a text: its fault's line, or `read`.
 fn told(alloc: Global, text: &[u8]) -> Result<String, Fail> {
     match read_trace(alloc, text) {
@@ -18,7 +20,7 @@ fn told(alloc: Global, text: &[u8]) -> Result<String, Fail> {
 
 // A line of so many bytes: the operation, and spaces after it.
 fn padded(rt: &HostRuntime, size: usize) -> Result<Vec<u8>, Fail> {
-    let mut line = Vec::from_slice(rt.alloc(), b"{\"id\":1,\"t\":0,\"op\":\"null\",\"to\":0}")?;
+    let mut line = Vec::from_slice(rt.alloc(), OP.as_bytes())?;
     for _ in line.len()..size {
         line.push(b' ')?;
     }
@@ -60,7 +62,7 @@ fn lines_that_are_no_object(rt: HostRuntime) -> Result<(), Fail> {
 }
 
 #[test]
-fn numbers_that_are_faulty(rt: HostRuntime) -> Result<(), Fail> {
+fn numbers_of_operations(rt: HostRuntime) -> Result<(), Fail> {
     let table = [
         ("\n \t\r\n{\"t\":0}\n", "fault line 3 Missing\n"),
         ("{\"t\":0}", "fault line 1 Missing\n"),
@@ -336,8 +338,6 @@ fn assert_script(
     Ok(())
 }
 
-const OP: &str = "{\"id\":1,\"t\":0,\"op\":\"null\",\"to\":0}";
-
 const REQUEST: &str = "{\"base\":0,\"session\":0,\"edits\":[]}";
 
 #[test]
@@ -352,7 +352,7 @@ fn lines_of_requests_are_counted_on(rt: HostRuntime) -> Result<(), Fail> {
 }
 
 #[test]
-fn scripts_without_requests_are_read(rt: HostRuntime) -> Result<(), Fail> {
+fn scripts_without_requests(rt: HostRuntime) -> Result<(), Fail> {
     assert_script(&rt, rt.alloc(), &[OP, "\n\n--\n"], true, "1 0\n")?;
     assert_script(&rt, rt.alloc(), &[OP], true, "1 0\n")?;
     assert_script(&rt, rt.alloc(), &["--"], true, "0 0\n")?;

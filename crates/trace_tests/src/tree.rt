@@ -120,7 +120,7 @@ fn share_stands_while_the_other_changes(rt: HostRuntime) -> Result<(), Fail> {
     assert_share_stands(&rt, rt.alloc(), &mut tree, &share)
 }
 
-// Puts a number in the place of another one, which tells whether it was there, and that it is there now.
+// Puts a number in the place of another one. The tree tells whether it was there before, and then it is there.
 fn assert_put(
     rt: &impl Abort,
     alloc: Global,
@@ -145,7 +145,7 @@ fn assert_put_at_nothing(
     Ok(())
 }
 
-// Both while a share holds the same.
+// The same while a share holds what the tree does.
 fn assert_put_beside_a_share(
     rt: &impl Abort,
     alloc: Global,
@@ -283,6 +283,11 @@ fn refused_memory_leaves_the_tree(rt: HostRuntime) -> Result<(), Fail> {
     Ok(())
 }
 
+// One of 48 keys side by side.
+fn near_key(i: u32) -> u32 {
+    i.wrapping_mul(7) % 48
+}
+
 // Puts 48 numbers in, side by side. The share is the tree as it was with 37.
 fn fill_near(
     rt: &impl Abort,
@@ -291,7 +296,7 @@ fn fill_near(
     share: &mut ShareTree<Number>,
 ) -> Result<(), Fail> {
     for i in 0..48u32 {
-        insert_at_last(rt, alloc, tree, i.wrapping_mul(7) % 48, i)?;
+        insert_at_last(rt, alloc, tree, near_key(i), i)?;
         if i % 12 == 0 {
             *share = tree.share()?;
         }
@@ -304,7 +309,7 @@ fn fill_near(
 // Takes forty of them out.
 fn empty_near(rt: &impl Abort, alloc: Global, tree: &mut ShareTree<Number>) -> Result<(), Fail> {
     for i in 0..40u32 {
-        remove_at_last(rt, alloc, tree, i.wrapping_mul(7) % 48, i)?;
+        remove_at_last(rt, alloc, tree, near_key(i), i)?;
     }
     assert_eq!(rt; tree.len(), 8);
     Ok(())

@@ -1,13 +1,9 @@
-use Rattle.std.proofs.Common.{ap, ◌∙◌, ◌≡◌, Bool, true, codes}
+use Rattle.std.proofs.Common.{ap, ◌∙◌, ◌≡◌, true, codes}
 use Rattle.std.proofs.lemmas.Result.{IfOk-weaker}
 use Rattle.clap.specs.Words.{App, app_of, with_subcommand, new_app}
 use Rattle.clap.specs.Simple.{app_of_fields}
-use Rattle.clap.specs.declared.builder.command.Command.{Command, Command-F}
 use Rattle.command_words.specs.Named.{with_plain, race_app, explain_app, picture_app}
 use Rattle.command_words.proofs.app.scope_command.Goals as goal
-
-abbrev has_globals : Command-F Command → Bool
-has_globals f = f.has_globals
 
 abbrev top_required : App → App
 top_required a = record a { top = record a.top { subcommand_required = true } }

@@ -1,12 +1,9 @@
-use Rattle.std.proofs.Common.{ap, ◌∙◌, ◌≡◌, Bool}
+use Rattle.std.proofs.Common.{ap, ◌∙◌, ◌≡◌}
 use Rattle.std.proofs.lemmas.Result.{IfOk-weaker}
 use Rattle.clap.specs.Words.{App, app_of, with_subcommand, new_app}
 use Rattle.clap.specs.Simple.{app_of_fields}
-use Rattle.clap.specs.declared.builder.command.Command.{Command, Command-F}
+use Rattle.command_words.proofs.Plain.{has_globals}
 use Rattle.command_words.proofs.app.with_command.Goals as goal
-
-abbrev has_globals : Command-F Command → Bool
-has_globals f = f.has_globals
 
 pub returns : goal.returns
 returns c =

@@ -1,11 +1,7 @@
-use Rattle.std.proofs.Common.{ap, ◌∙◌, Bool, codes}
+use Rattle.std.proofs.Common.{ap, ◌∙◌, codes}
 use Rattle.std.proofs.lemmas.Result.{IfOk-weaker}
 use Rattle.clap.specs.Words.{with_subcommand, new_app}
-use Rattle.clap.specs.declared.builder.command.Command.{Command, Command-F}
 use Rattle.command_words.proofs.app.with_plain_commands.Goals as goal
-
-abbrev has_globals : Command-F Command → Bool
-has_globals f = f.has_globals
 
 pub returns : goal.returns
 returns c =

@@ -1,12 +1,9 @@
-use Rattle.std.proofs.Common.{ap, ap₂, ◌∙◌, Bool}
+use Rattle.std.proofs.Common.{ap, ap₂, ◌∙◌}
 use Rattle.std.proofs.lemmas.Result.{IfOk-weaker}
 use Rattle.clap.specs.Words.{App, app_of, with_subcommand}
-use Rattle.clap.specs.declared.builder.command.Command.{Command, Command-F, out-Command}
+use Rattle.clap.specs.declared.builder.command.Command.{out-Command}
 use Rattle.command_words.proofs.Plain.{no_globals}
 use Rattle.command_words.proofs.app.with_questions.Goals as goal
-
-abbrev has_globals : Command-F Command → Bool
-has_globals f = f.has_globals
 
 pub returns : goal.returns
 returns c =
