@@ -1,6 +1,6 @@
 //! A difference that lasts to the end: what doesn't touch it is taken over, and what touches it is stepped.
 use crate::small_runs::{counts, did, is_replay, tells, with_both, with_edited};
-use crate::small_traces::{add, add_pairs, batch, change, insertion, new};
+use crate::small_traces::{add, add_pairs, batch, change, insertion, new, two};
 use run_engine::Run;
 use std::alloc::Global;
 use std::process::Abort;
@@ -157,4 +157,41 @@ fn stretches_are_taken_over_after_looks_in_vain(rt: HostRuntime) -> Result<(), F
 fn all_is_stepped_after_many_looks_in_vain(rt: HostRuntime) -> Result<(), Fail> {
     let alloc = rt.alloc();
     assert_asked(&rt, alloc, 64, 2_048, 4_097)
+}
+
+// An object by handle 0, which holds itself and one by handle 1, and pairs of operations up to one with a number. Among these the first
+// handle ends.
+fn cycle_left(alloc: Global) -> Result<Trace, Fail> {
+    let mut trace = Trace::new(alloc);
+    add(&mut trace, 1, new(alloc, 0, &[Field::Null, Field::Null])?)?;
+    add(&mut trace, 2, new(alloc, 1, &[Field::Null])?)?;
+    add(&mut trace, 3, Kind::Clone { from: 1, to: 2 })?;
+    add(&mut trace, 4, held(0, 0, 2))?;
+    add(&mut trace, 5, Kind::Clone { from: 0, to: 3 })?;
+    add(&mut trace, 6, held(0, 1, 3))?;
+    add(&mut trace, 7, Kind::Drop { h: 1 })?;
+    add_pairs(alloc, &mut trace, 8, 2_049)?;
+    add(&mut trace, 2_050, Kind::Drop { h: 0 })?;
+    add_pairs(alloc, &mut trace, 2_051, 4_100)?;
+    Ok(trace)
+}
+
+// A handle goes into a field of the object that another one holds.
+fn held(h: u32, i: u32, from: u32) -> Kind {
+    Kind::Set { h, i, from }
+}
+
+// The second object gets a Weak to itself. No operation behind touches it, but from operation 2,050 on nothing leads to it: of the stretches that may
+// be taken over at once some end before there, and the replay stops at the next checkpoint.
+#[test]
+fn heaps_agree_between_stretches(rt: HostRuntime) -> Result<(), Fail> {
+    let alloc = rt.alloc();
+    let weak = insertion(6, 5_000, Kind::Downgrade { from: 1, to: 30 })?;
+    let edits = two(alloc, weak, insertion(5_000, 5_001, held(1, 0, 30))?)?;
+    let trace = cycle_left(alloc)?;
+    with_both(alloc, trace, edits, |_, edited, steps| {
+        assert_eq!(rt; steps, 66);
+        assert!(rt; is_replay(alloc, edited)?);
+        Ok(())
+    })
 }

@@ -1,7 +1,7 @@
 -- Sets of numbers and of keys: what is in them when they are made of lists, and looked up.
 use Rattle.std.proofs.Common.{◌≡◌, ℕ, zero, suc, ◌<◌, ◌≤◌, List, [], ◌∷◌, ◌++◌, length, get_or, refl, ap, ◌∙◌, sym, subst, arith, Bool, true, false}
 use Rattle.std.proofs.lemmas.Bool.Decides.{nat_tests}
-use Rattle.std.specs.Prelude.{nat_le, ◌==◌, ◌||◌, Result, Ok, Err, Option, Some, None, option_to_list, is_ok}
+use Rattle.std.specs.Prelude.{◌↔◌, nat_le, ◌==◌, ◌||◌, Result, Ok, Err, Option, Some, None, option_to_list, is_ok}
 use Rattle.std.specs.List.{Contains, dedup, list_any}
 use Rattle.std.specs.List.Sorted.{IsPermutation, IsStrictlyIncreasing, IsBinarySearchResult}
 use Rattle.std.specs.Ordering.{nat_cmp}
@@ -20,7 +20,7 @@ use Rattle.heap_difference.specs.declared.key_set.KeySet.{KeySet}
 use Rattle.heap_difference.specs.declared.key_set.Kind.{Kind}
 use Rattle.heap_difference.specs.declared.key_set.Kind.TheVariants as kind
 use Rattle.heap_difference.specs.KeySets.{is_among, kind_number, numbers, set_of, Has, share_one, meet}
-use Rattle.heap_difference.proofs.Tests.{itself, has_first, or_right}
+use Rattle.heap_difference.proofs.Tests.{clash, itself, has_first, or_right}
 
 both_ways : (b c : Bool) → (b ≡ true → c ≡ true) → (c ≡ true → b ≡ true) → b ≡ c
 both_ways true true p q = refl
@@ -307,3 +307,21 @@ meet_turned a b =
 -- a set meets a list where one of its keys is in the set
 pub meet_listed : (s : KeySet) (keys : List Key) → list_any (is_among s) keys ≡ meet s (set_of keys)
 meet_listed s keys = meets_listed s keys ∙ meet_turned (set_of keys) s
+
+-- ---- sets within others
+-- all of these numbers are among those
+abbrev pub AreAll : (xs ys : List ℕ) → Type 0
+AreAll xs ys = (q : ℕ) → has q xs ≡ true → has q ys ≡ true
+
+pub all_of_kinds : (d e : KeySet) → AreAll d.handles e.handles → AreAll d.cells e.cells → AreAll d.objects e.objects → AreAll d.labels e.labels → (x : Key) → is_among d x ≡ true → is_among e x ≡ true
+all_of_kinds d e hs cs os ts (Handle q) here = hs q here
+all_of_kinds d e hs cs os ts (Cell q) here = cs q here
+all_of_kinds d e hs cs os ts (Object q) here = os q here
+all_of_kinds d e hs cs os ts (Scope q) here = ts q here
+
+-- what is tested where an earlier test held, or isn't tested any more, tells whether both hold
+pub tested_too : (A B : Type 0) (a b v : Bool) → (a ≡ true ↔ A) → a ≡ true → (b ≡ true ↔ B) → v ≡ b → (v ≡ true ↔ A × B)
+tested_too A B a b v first held second is = (λ t. (first.0 held, second.0 (sym is ∙ t)), λ both. is ∙ second.1 both.1)
+
+pub tested_no_more : (A B : Type 0) (a v : Bool) → (a ≡ true ↔ A) → a ≡ false → v ≡ a → (v ≡ true ↔ A × B)
+tested_no_more A B a v first failed is = (λ t. absurd (clash a (sym is ∙ t) failed), λ both. absurd (clash a (first.1 both.0) failed))

@@ -98,7 +98,7 @@ equal_states old new sound sound_too a =
     let same : old.scopes ≡ new.scopes = scopes.equal old new [] [] sound sound_too (λ t. a.scopes t refl) in
     λ i. record { handles = handles i; cells = cells i; objects = objects i; scopes = same i }
 
-fewer : (a b : Bool) → (a ≡ true → b ≡ true) → not b ≡ true → not a ≡ true
+pub fewer : (a b : Bool) → (a ≡ true → b ≡ true) → not b ≡ true → not a ≡ true
 fewer true true p n = absurd cc
 fewer true false p n = absurd (clash false (p refl) refl)
 fewer false b p n = refl

@@ -7,5 +7,6 @@ pub mod FoundLemmas
 pub mod LawLemmas
 pub mod PutLemmas
 pub mod LaidLemmas
-pub mod PassLemmas
+pub mod PuttingLemmas
+pub mod LayerLemmas
 pub mod MergeLemmas

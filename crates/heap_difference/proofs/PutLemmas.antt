@@ -66,7 +66,7 @@ pub puts_make : PutsMakeScopes
 puts_make k old new puts sound alike are t = sym (ap (put_all puts t) (alike t) ∙ all_put new sound puts k are t)
 
 -- ---- over operations that touch nothing of it
-alike_less : (j k : Key → Bool) (m n : State) → ((x : Key) → j x ≡ true → k x ≡ true) → AreAlike k m n → AreAlike j m n
+pub alike_less : (j k : Key → Bool) (m n : State) → ((x : Key) → j x ≡ true → k x ≡ true) → AreAlike k m n → AreAlike j m n
 alike_less j k m n fewer a = record {
   handles = λ h c. a.handles h (fewer (Handle h) c);
   cells = λ q c. a.cells q (fewer (Cell q) c);

@@ -60,6 +60,10 @@ share_one xs ys = list_any (λ q. has q ys) xs
 abbrev pub meet : KeySet → KeySet → Bool
 meet a b = share_one a.handles b.handles || (share_one a.cells b.cells || (share_one a.objects b.objects || share_one a.labels b.labels))
 
+-- For private functions alone: the set that has these handles, and no other key
+abbrev pub handles_alone : List ℕ → KeySet
+handles_alone hs = record { handles = hs; cells = []; objects = []; labels = [] }
+
 -- For private functions alone: the first number of a list
 abbrev pub first_number : List ℕ → Option ℕ
 first_number [] = None

@@ -5,4 +5,4 @@ pub mod Naming
 pub mod Sifts
 pub mod Puts
 pub mod Laid
-pub mod Passing
+pub mod Layers

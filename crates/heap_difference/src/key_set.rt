@@ -1,5 +1,5 @@
 //! Sets of keys.
-ghost use Rattle.std.specs.Prelude.{◌≡◌, ◌==◌, ◌||◌, ◌+◌, ◌-◌, ◌^◌, ℕ, IfOk, OnOk, length, min};
+ghost use Rattle.std.specs.Prelude.{◌≡◌, ◌==◌, ◌||◌, ◌+◌, ◌-◌, ◌^◌, ◌↔◌, ℕ, true, IfOk, OnOk, IsTrue, length, min};
 ghost use Rattle.ownership_model.specs.Reach.{has};
 ghost use Rattle.heap_difference.specs.KeySets.{kind_number, numbers, nothing, is_among, set_of, meet, Has};
 
@@ -73,6 +73,17 @@ impl KeySet {
             Key::Object(number) => self.objects.has(number),
             Key::Scope(number) => self.labels.has(number),
         }
+    }
+
+    /// Whether all keys of another set are in this one. Each is looked up, until one isn't there.
+    pub fn has_all(&self, other: &KeySet) -> bool
+        ensures { IsTrue result
+            ↔ ((x : Key) → is_among other.now x ≡ true → is_among self.now x ≡ true) }
+    {
+        self.handles.has_all(&other.handles)
+            && self.cells.has_all(&other.cells)
+            && self.objects.has_all(&other.objects)
+            && self.labels.has_all(&other.labels)
     }
 
     /// Whether any key of a list is in the set. The list is gone through once, and each of its keys is looked up in the set.

@@ -1,6 +1,7 @@
 //! The laws of differences, each the contract of a function that does nothing.
 ghost use Rattle.heap_difference.specs.Laws.{StretchesPass, DifferencesHold};
 ghost use Rattle.heap_difference.specs.Puts.{PutsMakeScopes, PutsStay};
+ghost use Rattle.heap_difference.specs.Layers.{LayersHold};
 
 /// Operations that touch nothing that differs do the same in both states, and the difference stays as it is.
 pub fn passing_law()
@@ -20,4 +21,9 @@ pub fn puts_law()
 /// Over operations that touch nothing that differs, and no handle just under one that is put in, what is put in stays as it is.
 pub fn puts_stay_law()
     ensures { PutsStay }
+{}
+
+/// What stands in a state at a difference can be kept, and be laid over older states behind operations that touch none of it.
+pub fn layers_law()
+    ensures { LayersHold }
 {}

@@ -1,5 +1,5 @@
 //! Sets of numbers.
-ghost use Rattle.std.specs.Prelude.{◌≡◌, ◌≤◌, ◌||◌, [], ℕ, IfOk, length, drop};
+ghost use Rattle.std.specs.Prelude.{◌≡◌, ◌≤◌, ◌||◌, ◌↔◌, [], ℕ, true, IfOk, IsTrue, length, drop};
 ghost use Rattle.std.specs.List.Sorted.{IsStrictlyIncreasing};
 ghost use Rattle.ownership_model.specs.Reach.{has};
 ghost use Rattle.heap_difference.specs.KeySets.{first_number, lesser_of, without_first};
@@ -79,6 +79,18 @@ impl Numbers {
         ensures { result ≡ has number self.now }
     {
         self.items.binary_search(&number).is_ok()
+    }
+
+    /// Whether all numbers of another set are in this one. Each is looked up, until one isn't there.
+    pub fn has_all(&self, other: &Numbers) -> bool
+        ensures { IsTrue result ↔ ((q : ℕ) → has q other.now ≡ true → has q self.now ≡ true) }
+    {
+        for number in other.as_slice() {
+            if !self.has(*number) {
+                return false;
+            }
+        }
+        true
     }
 
     /// The numbers of both. Both sets are gone through once.

@@ -2,9 +2,11 @@
 use Rattle.std.proofs.Common.{◌≡◌, ℕ, ◌+◌, ◌<◌, ◌≤◌, List, [], ◌∷◌, length, drop, get_or, suc, add-one, refl, ap, ◌∙◌, sym, subst, arith, Bool, true, false}
 use Rattle.std.proofs.Math.Seq.{drop-cons}
 use Rattle.std.specs.Prelude.{Option, Some, None, ◌==◌, nat_le, if◌then◌else◌}
-use Rattle.std.specs.FinMap.{get}
+use Rattle.std.specs.Cmp.{nat_cmp_total}
+use Rattle.std.specs.FinMap.{get, insert, remove, same_map, nat_cmp-IsAntisymmetric}
 use Rattle.trace_types.specs.declared.limits.TheConstants.{MAX_THREAD}
 use Rattle.trace_types.specs.declared.slots.Slot.{Slot}
+use Rattle.trace_types.specs.declared.slots.Entry.{Entry}
 use Rattle.trace_types.specs.declared.slots.Scoped.{Scoped}
 use Rattle.trace_types.specs.declared.slots.Change.{Change}
 use Rattle.trace_types.specs.declared.slots.Change.TheVariants.{SetHandle}
@@ -12,13 +14,13 @@ use Rattle.ownership_model.specs.State.{State, holding_weight, HoldPointers}
 use Rattle.ownership_model.specs.Bounds.{IsBounded, LabelsFit, ChangeFits}
 use Rattle.ownership_model.specs.Changes.{changed_by, CanBeDone}
 use Rattle.ownership_model.proofs.LawsHold.{bounds}
-use Rattle.ownership_model.proofs.Counting.{total-set}
+use Rattle.ownership_model.proofs.Counting.{total-set, same_number, get_inserted, get_removed}
 use Rattle.object_heap.specs.declared.draft.Draft.{Draft}
 use Rattle.object_heap.specs.declared.put.Put.{Put}
 use Rattle.object_heap.specs.Counted.{drafted, IsCounted}
 use Rattle.object_heap.specs.Gains.{CountsMore, Changes}
 use Rattle.object_heap.specs.Links.{entered_above}
-use Rattle.object_heap.specs.Laid.{with_put, CanPut, PutFits, PutsFit, IsDrafted, MayHold}
+use Rattle.object_heap.specs.Laid.{with_put, with_entry, CanPut, PutFits, PutsFit, IsDrafted, MayHold}
 use Rattle.object_heap.proofs.GainLemmas.{no_more}
 use Rattle.object_heap.proofs.ExchangeLemmas.{IsBalanced, counted_then}
 
@@ -82,3 +84,19 @@ module _ (m : State) (puts : List Put) (i : ℕ) (x : Put) (within : i < length 
 pub may_hold : (m : State) (c : ℕ) (o : Option Slot) → HoldPointers m.cells → get m.cells c ≡ o → MayHold o
 may_hold m c None pointers is = tt
 may_hold m c (Some s) pointers is = pointers c s is
+
+-- ---- objects
+there_already : (b : Bool) (x y : Option Entry) → (b ≡ true → y ≡ x) → (if b then x else y) ≡ y
+there_already true x y is = sym (is refl)
+there_already false x y is = refl
+
+-- what stands for an object already, put again, changes nothing
+pub entry_again : (m : State) (o : ℕ) (x : Option Entry) → get m.objects o ≡ x → with_entry x o m ≡ m
+entry_again m o None is =
+    let objects : remove m.objects o ≡ m.objects = same_map nat_cmp_total nat_cmp-IsAntisymmetric (remove m.objects o) m.objects (λ q.
+    get_removed m.objects o q ∙ there_already (o == q) None (get m.objects q) (λ t. ap (get m.objects) (sym (same_number o q t)) ∙ is)) in
+    λ i. record m { objects = objects i }
+entry_again m o (Some e) is =
+    let objects : insert m.objects o e ≡ m.objects = same_map nat_cmp_total nat_cmp-IsAntisymmetric (insert m.objects o e) m.objects (λ q.
+    get_inserted m.objects o e q ∙ there_already (o == q) (Some e) (get m.objects q) (λ t. ap (get m.objects) (sym (same_number o q t)) ∙ is)) in
+    λ i. record m { objects = objects i }

@@ -9,6 +9,7 @@ ghost use Rattle.object_heap.specs.Laid.{ended_at, without_handles, with_put, wi
 
 use crate::counting::hold_holding;
 use crate::draft::Draft;
+use crate::object::same_entry;
 use crate::put::Put;
 use std::alloc::{AllocError, Global};
 use trace_types::slots::{Entry, Slot};
@@ -150,7 +151,8 @@ impl Draft {
         Ok(())
     }
 
-    // This stands for an object, or nothing does.
+    // This stands for an object, or nothing does. Where it is so already nothing is done: to put the same again would count all its fields
+    // anew, and most objects of a difference differ in their counts alone, which follow from the slots that name them.
     fn put_entry(
         &mut self,
         alloc: Global,
@@ -163,6 +165,9 @@ impl Draft {
         ensures { OnOk result (IsDrafted self.new
             (with_entry (option_copied entry.entry) object (drafted self.old))) }
     {
+        if same_entry(self.objects.get(object), entry) {
+            return Ok(());
+        }
         match entry {
             Some(entry) => self.put_in(alloc, object, entry),
             None => self.take_out(alloc, object),

@@ -141,8 +141,8 @@ impl Same for Object {
     }
 }
 
-// Whether the same stands in both places.
-fn same_entry(one: Option<&Entry>, another: Option<&Entry>) -> bool
+/// Whether the same stands in both places.
+pub fn same_entry(one: Option<&Entry>, another: Option<&Entry>) -> bool
     ensures { IsTrue result ↔ (option_copied one.entry ≡ option_copied another.entry) }
 {
     match (one, another) {

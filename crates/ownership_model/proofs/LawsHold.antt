@@ -1,7 +1,7 @@
 -- The laws, each as the contract of its function in `laws` or `reach_laws` has it. For the layers above: their proofs cite a law by
 -- its name here.
 use Rattle.std.proofs.Common.{arith}
-use Rattle.ownership_model.specs.Laws.{AgreementHolds, PatchesHold, SoundnessHolds, ReleasesInTurn, CascadeHolds, BoundsHold, AppendsHold, TouchedHolds, ScopesHold}
+use Rattle.ownership_model.specs.Laws.{AgreementHolds, AgreementStays, PatchesHold, SoundnessHolds, ReleasesInTurn, CascadeHolds, BoundsHold, AppendsHold, TouchedHolds, ScopesHold}
 use Rattle.ownership_model.specs.Before.{OldTracesReplayAsBefore}
 use Rattle.ownership_model.specs.FootprintLaws.{FootprintsHold, StretchesAreTaken, PartsStayAlike}
 use Rattle.ownership_model.specs.ReachLaws.{ReachIsLeast, NamedAreReached, LeakedAreUnreached, HoldersHold}
@@ -11,6 +11,7 @@ use Rattle.ownership_model.proofs.CascadeLemmas.{course, freed_exactly}
 use Rattle.ownership_model.proofs.LeastLemmas.{kept_roots, kept_scopes, destroyed}
 use Rattle.ownership_model.proofs.CarryLemmas.{row_carriable, step_sound}
 use Rattle.ownership_model.proofs.JoinedLemmas as joined
+use Rattle.ownership_model.proofs.StayLemmas.{still_agree}
 use Rattle.ownership_model.proofs.PatchLemmas.{get-patched}
 use Rattle.ownership_model.proofs.RemainsLemmas.{is_patched, patched_both, patched_less, still_there}
 use Rattle.ownership_model.proofs.LaterLemmas.{stops_later}
@@ -30,6 +31,9 @@ use Rattle.ownership_model.proofs.RootLemmas.{named_reached}
 
 pub agreement : AgreementHolds
 agreement = joined.agreement_holds
+
+pub agreement_stays : AgreementStays
+agreement_stays = still_agree
 
 pub patches : PatchesHold
 patches = record { object = get-patched; only = is_patched; both = patched_both; less = patched_less; there = still_there; later = stops_later }

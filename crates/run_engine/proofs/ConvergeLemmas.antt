@@ -4,16 +4,17 @@ use Rattle.std.specs.Prelude.{Some, is_some, IsTrue, Contains}
 use mathlib.Core.Logic.{⊎_elim}
 use Rattle.std.proofs.lemmas.List.{drop-drop}
 use Rattle.std.proofs.lemmas.List.Elements.{Contains-append_cases}
-use Rattle.std.proofs.Math.Seq.{take-add, take-length}
-use Rattle.ownership_model.specs.State.{State, nothing_held}
+use Rattle.std.proofs.Math.Seq.{take-add, take-append_seam, take-length}
+use Rattle.ownership_model.specs.State.{State, IsSound, nothing_held}
 use Rattle.trace_types.specs.Operation.{Operation}
 use Rattle.run_engine.specs.SegmentView.{SegmentView}
 use Rattle.trace_types.specs.Trace.{has_distinct_numbers}
 use Rattle.ownership_model.specs.Step.{end_from, AreUnused}
 use Rattle.run_engine.specs.Segments.{trace_of, mark_here, marks_from, AreReplayFrom, AreFull, BeginsMarked, IsRunFrom, IsRun, IsReached, IsPiece, all_marks}
+use Rattle.run_engine.specs.inner.Untouched.{IsPast}
 use Rattle.run_engine.specs.HeadAndTail.{ShareEnd}
 use Rattle.run_engine.specs.Bounds.{AgreesAt, StepsAtMost}
-use Rattle.ownership_model.proofs.LawsHold.{appends}
+use Rattle.ownership_model.proofs.LawsHold.{appends, soundness, agreement_stays}
 use Rattle.agreement.specs.Agreement.{Agree}
 use Rattle.heap_difference.specs.declared.key_set.KeySet.{KeySet}
 use Rattle.heap_difference.specs.Differences.{IsDifference}
@@ -28,20 +29,21 @@ use Rattle.run_engine.proofs.PlaceLemmas.{Contains-one, mark_here-place, mark_he
 pub ShareEnd-length : (old ops : List Operation) (a b : ℕ) → ShareEnd old ops a b → length old - a ≡ length ops - b
 ShareEnd-length old ops a b h = sym (length-drop a old) ∙ ap length h.same ∙ length-drop b ops
 
--- a loop over the old segments: it stands at the one at i, which begins at `at`; the replay of the edited trace stands at x
+-- a loop over the old segments: it stands at the one at i, which begins at `at`; the replay of the edited trace stands at x. Where it has passed
+-- `at`, the states agree nowhere up to there
 pub record IsBeside (old : List SegmentView) (ops : List Operation) (a b r before i at x : ℕ) (segments : List SegmentView) (heap : State) (count : ℕ) : Type 0 where
   pub place : length (trace_of (take i old)) ≡ at
   pub prefix : IsReached ops x segments heap
-  pub order : x ≤ at - a + b
+  pub ahead : (p : ℕ) → at ≤ p → p - a + b < x → AgreesAt (trace_of old) ops a b p → ⊥
   pub rise : count + r ≤ before + x
   pub later : (p : ℕ) → Contains (all_marks old) p → a ≤ p → AgreesAt (trace_of old) ops a b p → Contains (marks_from at (drop i old) ++ length (trace_of old) ∷ []) p
 
 pub IsBeside-next : (old : List SegmentView) (ops : List Operation) (a b r before i at x : ℕ) (segments : List SegmentView) (heap : State) (count y : ℕ) (next : List SegmentView) (then : State) (counted : ℕ) (s : SegmentView)
     → IsBeside old ops a b r before i at x segments heap count → i < length old → s ≡ get_or old i s
-    → IsReached ops y next then → y ≤ at + length s.ops - a + b → counted + r ≤ before + y
+    → IsReached ops y next then → ((p : ℕ) → at + length s.ops ≤ p → p - a + b < y → AgreesAt (trace_of old) ops a b p → ⊥) → counted + r ≤ before + y
     → (is_some s.mark ≡ true → a ≤ at → AgreesAt (trace_of old) ops a b at → ⊥)
     → IsBeside old ops a b r before (i + 1) (at + length s.ops) y next then counted
-IsBeside-next old ops a b r before i at x segments heap count y next then counted s h lt is prefix order rise differs =
+IsBeside-next old ops a b r before i at x segments heap count y next then counted s h lt is prefix ahead rise differs =
     let n : ℕ = length (trace_of old) in
     let rest : List ℕ = marks_from (at + length s.ops) (drop (i + 1) old) ++ n ∷ [] in
     let list : marks_from at (drop i old) ++ n ∷ [] ≡ mark_here at s.mark ++ rest =
@@ -49,7 +51,7 @@ IsBeside-next old ops a b r before i at x segments heap count y next then counte
     record {
       place = length-trace_of-next old i s lt is ∙ ap (λ m. m + length s.ops) h.place;
       prefix = prefix;
-      order = order;
+      ahead = ahead;
       rise = rise;
       later = λ p mark behind agrees. ⊎_elim
           (λ here.
@@ -164,7 +166,7 @@ IsBeside-first old ops a b r before i at segments heap full within place early h
     record {
       place = place;
       prefix = h;
-      order = omega arith;
+      ahead = λ p there passed agrees. absurd (omega arith);
       rise = omega arith;
       later = λ p mark behind agrees. ⊎_elim
           (λ prefix.
@@ -179,6 +181,53 @@ pub IsReached-rest : (ops : List Operation) (at len : ℕ) (segments more : List
 IsReached-rest ops at len segments more heap end h piece =
     IsReached-next ops at (length ops) len segments more heap end h h.within (omega arith) (subst (λ os. IsPiece heap os more end len) (sym (take-rest at ops)) piece)
 
+-- ---- states that agree agree so further on
+stays-behind : (old ops : List Operation) (p q n : ℕ) → IsTrue (has_distinct_numbers old) → IsTrue (has_distinct_numbers ops) → take n (drop p old) ≡ take n (drop q ops)
+    → Agree (end_from nothing_held (take q ops)) (end_from nothing_held (take p old)) → Agree (end_from nothing_held (take (q + n) ops)) (end_from nothing_held (take (p + n) old))
+stays-behind old ops p q n distinct distinct_too same agree =
+    let os : List Operation = take n (drop p old) in
+    let old_front : IsTrue (has_distinct_numbers (take p old ++ os)) = distinct-front old p n distinct in
+    let new_front : IsTrue (has_distinct_numbers (take q ops ++ os)) = subst (λ (more : List Operation). IsTrue (has_distinct_numbers (take q ops ++ more))) (sym same) (distinct-front ops q n distinct_too) in
+    let new_end : end_from nothing_held (take (q + n) ops) ≡ end_from (end_from nothing_held (take q ops)) os =
+    ap (end_from nothing_held) (take-add q n ops) ∙ appends.end nothing_held (take q ops) (take n (drop q ops)) ∙ ap (end_from (end_from nothing_held (take q ops))) (sym same) in
+    let old_end : end_from nothing_held (take (p + n) old) ≡ end_from (end_from nothing_held (take p old)) os =
+    ap (end_from nothing_held) (take-add p n old) ∙ appends.end nothing_held (take p old) os in
+    rw (new_end, old_end)
+    (agreement_stays (end_from nothing_held (take q ops)) (end_from nothing_held (take p old)) (sound-at ops q distinct_too) (sound-at old p distinct) agree os
+    (appends.distinct_rest (take p old) os old_front) (unused-behind (take q ops) os new_front) (unused-behind (take p old) os old_front))
+  where
+    distinct-front : (ops : List Operation) (q n : ℕ) → IsTrue (has_distinct_numbers ops) → IsTrue (has_distinct_numbers (take q ops ++ take n (drop q ops)))
+    distinct-front ops q n distinct =
+        let parts : (take q ops ++ take n (drop q ops)) ++ drop n (drop q ops) ≡ ops =
+        append_assoc (take q ops) (take n (drop q ops)) (drop n (drop q ops)) ∙ ap (λ (more : List Operation). take q ops ++ more) (take-append-drop n (drop q ops)) ∙ take-append-drop q ops in
+        appends.distinct_front (take q ops ++ take n (drop q ops)) (drop n (drop q ops)) (subst (λ (all : List Operation). IsTrue (has_distinct_numbers all)) (sym parts) distinct)
+
+    sound-at : (ops : List Operation) (q : ℕ) → IsTrue (has_distinct_numbers ops) → IsSound (end_from nothing_held (take q ops)) []
+    sound-at ops q distinct =
+        let front : IsTrue (has_distinct_numbers (take q ops)) = appends.distinct_front (take q ops) (drop q ops) (subst (λ (all : List Operation). IsTrue (has_distinct_numbers all)) (sym (take-append-drop q ops)) distinct) in
+        (soundness.replays nothing_held (take q ops) soundness.start front (soundness.unused (take q ops))).1
+
+-- where a replay went on over old stretches and doesn't agree behind them, it agrees nowhere between
+pub IsPast-apart : (old ops : List Operation) (at next from len : ℕ) → at ≤ next → IsTrue (has_distinct_numbers old) → IsTrue (has_distinct_numbers ops) → drop at old ≡ drop from ops
+    → (Agree (end_from nothing_held (take (from + len) ops)) (end_from nothing_held (take (at + len) old)) → ⊥) → IsPast old ops at next from (from + len)
+IsPast-apart old ops at next from len order distinct distinct_too shared apart p there passed agrees =
+    let d : ℕ = p - at in
+    let n : ℕ = len - d in
+    let here : d + from ≡ from + d = omega arith in
+    let old_here : at + d ≡ p = omega arith in
+    let whole : from + d + n ≡ from + len = omega arith in
+    let old_whole : p + n ≡ at + len = omega arith in
+    let same : drop p old ≡ drop (from + d) ops = ap (λ q. drop q old) (sym old_here) ∙ sym (drop-drop d at old) ∙ ap (drop d) shared ∙ drop-drop d from ops in
+    let agree : Agree (end_from nothing_held (take (from + d) ops)) (end_from nothing_held (take p old)) = subst (λ q. Agree (end_from nothing_held (take q ops)) (end_from nothing_held (take p old))) here agrees in
+    let behind : Agree (end_from nothing_held (take (from + d + n) ops)) (end_from nothing_held (take (p + n) old)) = stays-behind old ops p (from + d) n distinct distinct_too (ap (take n) same) agree in
+    apart (subst (λ q. Agree (end_from nothing_held (take (from + len) ops)) (end_from nothing_held (take q old))) old_whole (subst (λ q. Agree (end_from nothing_held (take q ops)) (end_from nothing_held (take (p + n) old))) whole behind))
+
+-- the same from the seam
+pub IsPast-seam : (old ops : List Operation) (a b at next from to p : ℕ) → a ≤ at → at ≤ next → from ≡ at - a + b → IsPast old ops at next from to → next ≤ p → p - a + b < to → AgreesAt old ops a b p → ⊥
+IsPast-seam old ops a b at next from to p behind order there past le passed agrees =
+    let same : p - at + from ≡ p - a + b = omega (arith, there) in
+    past p le (omega (arith, same)) (subst (λ q. Agree (end_from nothing_held (take q ops)) (end_from nothing_held (take p old))) (sym same) agrees)
+
 -- behind one segment more there are no fewer operations
 pub trace_of-more : (segments : List SegmentView) (i : ℕ) → length (trace_of (take i segments)) ≤ length (trace_of (take (i + 1) segments))
 trace_of-more segments i =
@@ -186,18 +235,38 @@ trace_of-more segments i =
     ap trace_of (take-add i 1 segments) ∙ trace_of-append (take i segments) (take 1 (drop i segments)) in
     omega (arith, ap length more, length-append (trace_of (take i segments)) (trace_of (take 1 (drop i segments))))
 
--- behind an old stretch that touches none of them the same keys differ
-pub DifferAt-passed : (r : Revision) (keys : KeySet) (x at edited base len : ℕ) (segments more : List SegmentView) (heap end : State) → IsReached (new_trace r) x segments heap → IsPiece heap (drop x (new_trace r)) more end len
+-- ---- operations that are taken over from a position on, and others behind them
+pub over-few : (ops more rest : List Operation) (from : ℕ) → from ≤ length ops → drop from ops ≡ more ++ rest → from + length more ≤ length ops
+over-few ops more rest from within parts = omega (arith, within, length-drop from ops, ap length parts, length-append more rest)
+
+-- where a replay ends behind them
+pub over-end : (ops more rest : List Operation) (from len : ℕ) (start end : State) → start ≡ end_from nothing_held (take from ops) → drop from ops ≡ more ++ rest → end ≡ end_from start more → len ≡ length more
+    → end ≡ end_from nothing_held (take (from + len) ops)
+over-end ops more rest from len start end here parts is long =
+    let some : take len (drop from ops) ≡ more = ap (λ n. take n (drop from ops)) long ∙ ap (take (length more)) parts ∙ take-append_seam more rest in
+    is ∙ ap (λ m. end_from m more) here ∙ sym (appends.end nothing_held (take from ops) more) ∙ ap (end_from nothing_held) (ap (λ os. take from ops ++ os) (sym some) ∙ sym (take-add from len ops))
+
+-- where the old segments end that have them
+pub over-far : (old : List SegmentView) (index k at : ℕ) (more : List Operation) → length (trace_of (take index old)) ≡ at → trace_of (drop index old) ≡ more ++ trace_of (drop (index + k) old)
+    → length (trace_of (take (index + k) old)) ≡ at + length more
+over-far old index k at more place parts =
+    let whole = ap length (trace_of-parted old index) in
+    let later = ap length (trace_of-parted old (index + k)) in
+    omega (
+      arith,
+      place,
+      ap length parts,
+      length-append more (trace_of (drop (index + k) old)),
+      whole,
+      later,
+      length-append (trace_of (take index old)) (trace_of (drop index old)),
+      length-append (trace_of (take (index + k) old)) (trace_of (drop (index + k) old)),
+    )
+
+-- behind old stretches that touch none of them the same keys differ
+pub DifferAt-passed : (r : Revision) (keys : KeySet) (x at edited base len : ℕ) (end : State) → end ≡ end_from nothing_held (take (x + len) (new_trace r))
     → edited ≡ x → base ≡ at → IsDifference keys (end_from nothing_held (take (at + len) (old_trace r))) end → DifferAt r keys (edited + len) (base + len)
-DifferAt-passed r keys x at edited base len segments more heap end h piece new old differ =
-    let there : end ≡ end_from nothing_held (take (edited + len) (new_trace r)) =
-    (IsReached-rest (new_trace r) x len segments more heap end h piece).state ∙ ap (λ n. end_from nothing_held (take (n + len) (new_trace r))) (sym new) in
+DifferAt-passed r keys x at edited base len end is new old differ =
+    let there : end ≡ end_from nothing_held (take (edited + len) (new_trace r)) = is ∙ ap (λ n. end_from nothing_held (take (n + len) (new_trace r))) (sym new) in
     let here : end_from nothing_held (take (at + len) (old_trace r)) ≡ end_from nothing_held (take (base + len) (old_trace r)) = ap (λ n. end_from nothing_held (take (n + len) (old_trace r))) (sym old) in
     subst (λ m. IsDifference keys m (end_from nothing_held (take (edited + len) (new_trace r)))) here (subst (IsDifference keys (end_from nothing_held (take (at + len) (old_trace r)))) there differ)
-
--- a replay that went on by the segment at i stands at its end at most
-pub past-within : (old : List SegmentView) (a b i at x y : ℕ) (s : SegmentView) → i < length old → s ≡ get_or old i s → length (trace_of (take i old)) ≡ at → a ≤ at → x ≡ at - a + b
-    → y + at ≤ x + length (trace_of (take (i + 1) old)) → y ≤ at + length s.ops - a + b
-past-within old a b i at x y s lt is place behind there le =
-    let next : length (trace_of (take (i + 1) old)) ≡ length (trace_of (take i old)) + length s.ops = length-trace_of-next old i s lt is in
-    omega arith

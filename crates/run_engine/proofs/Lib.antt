@@ -38,3 +38,5 @@ mod DivergenceLemmas
 mod DifferenceLemmas
 mod UntouchedLemmas
 mod TouchingLemmas
+mod LayeredLemmas
+mod OverLemmas

@@ -1,19 +1,21 @@
 -- A replay that goes on, and the names that are touched for it.
-use Rattle.std.proofs.Common.{◌≡◌, ℕ, zero, suc, ◌+◌, ◌-◌, ◌%◌, ◌<◌, ◌≤◌, Bool, true, false, cond, nat_lt, le-ltb, List, [], ◌∷◌, ◌++◌, length, refl, ap, sym, subst, ◌∙◌, arith, append_assoc}
+use Rattle.std.proofs.Common.{◌≡◌, ℕ, zero, suc, ◌+◌, ◌-◌, ◌%◌, ◌<◌, ◌≤◌, Bool, true, false, cond, nat_lt, le-ltb, List, [], ◌∷◌, ◌++◌, length, refl, ap, sym, subst, ◌∙◌, get_or, arith, append_assoc, length-append}
 use Rattle.std.specs.Prelude.{◌&&◌, not, take, map, filter, filter_map, fold, Option, None, Some, IsTrue, option_to_list, Contains, slice_get, slice_index_or, option_map, ◌⊎◌}
 use mathlib.Core.Logic.{⊎_elim, inl, inr}
-use Rattle.std.proofs.lemmas.List.{append-nil, map-append}
+use Rattle.std.proofs.lemmas.List.{append-nil, map-append, take_more}
 use Rattle.std.proofs.lemmas.List.Elements.{filter-append, filter_map-append}
 use Rattle.trace_types.specs.Operation.{Operation}
 use Rattle.trace_types.specs.Trace.{has_distinct_numbers}
 use Rattle.mark_shelf.specs.Shelf.{Shelf, Touches, touched, dropped, in_front}
+use Rattle.run_engine.specs.SegmentView.{SegmentView}
+use Rattle.run_engine.specs.Segments.{ops_of, trace_of}
 use Rattle.run_engine.specs.inner.Cleared.{is_named}
 use Rattle.run_engine.specs.Marks.{multiples_below}
 use Rattle.run_engine.specs.Memo.{IsSearched, AreSome}
 use Rattle.run_engine.specs.Guesses.{Reusable}
 use Rattle.run_engine.specs.NewMarks.{IsGap, AreLaid}
 use Rattle.run_engine.specs.GivenUp.{given_up, name_at, names_at}
-use Rattle.run_engine.specs.inner.Onward.{among, AreNames, AreMore, LeaveSame, cuts, AreMarksTouched, AreAnswered, IsWay, IsOnward}
+use Rattle.run_engine.specs.inner.Onward.{begins, among, AreNames, AreMore, LeaveSame, cuts, AreMarksTouched, AreAnswered, IsWay, IsOnward}
 use Rattle.run_engine.proofs.TouchLemmas.{AreTouches-append}
 use Rattle.run_engine.proofs.AnsweredLemmas.{given_up-all}
 use Rattle.run_engine.proofs.ClearedLemmas.{goes}
@@ -234,6 +236,23 @@ pub IsWay-cut : (trace : List Operation) (old : Reusable) (from at len : ℕ) (m
 IsWay-cut trace old from at len marks first second gone le z pos small one two =
     subst (λ more. IsWay trace old from (at + len) more marks second gone) (sym (cuts-next from at len le z pos small))
     (IsWay-next trace old from at (at + len) (cuts from at) (at ∷ []) marks first second gone gone (λ id t. t) one two)
+
+-- where segments begin, and others behind them
+begins-append : (at : ℕ) (segments more : List SegmentView) → begins at (segments ++ more) ≡ begins at segments ++ begins (at + length (trace_of segments)) more
+begins-append at [] more = let here : at ≡ at + 0 = omega arith in ap (λ n. begins n more) here
+begins-append at (s ∷ segments) more =
+    let there : at + length (ops_of s) + length (trace_of segments) ≡ at + length (ops_of s ++ trace_of segments) = omega (arith, length-append (ops_of s) (trace_of segments)) in
+    ap (λ ps. at ∷ ps) (begins-append (at + length (ops_of s)) segments more ∙ ap (λ n. begins (at + length (ops_of s)) segments ++ begins n more) there)
+
+-- the names of the first segments are touched, and that of one more
+pub AreAnswered-begun : (trace : List Operation) (from : ℕ) (segments : List SegmentView) (i at : ℕ) (s : SegmentView) (a b c : Shelf) (f g h : ℕ → Bool) → i < length segments → s ≡ get_or segments i s
+    → at ≡ from + length (trace_of (take i segments)) → AreAnswered a b (names_at trace (begins from (take i segments))) f g → AreAnswered b c (names_at trace (at ∷ [])) g h
+    → AreAnswered a c (names_at trace (begins from (take (i + 1) segments))) f h
+AreAnswered-begun trace from segments i at s a b c f g h lt is place first second =
+    let more : begins from (take (i + 1) segments) ≡ begins from (take i segments) ++ at ∷ [] =
+    ap (begins from) (take_more segments i s lt ∙ ap (λ t. take i segments ++ t ∷ []) (sym is)) ∙ begins-append from (take i segments) (s ∷ []) ∙ ap (λ n. begins from (take i segments) ++ n ∷ []) (sym place) in
+    subst (λ names. AreAnswered a c names f h) (sym (ap (names_at trace) more ∙ names_at-append trace (begins from (take i segments)) (at ∷ [])))
+    (AreAnswered-next a b c (names_at trace (begins from (take i segments))) (names_at trace (at ∷ [])) f g h first second)
 
 -- one touch, after which the answered name is added
 pub AreAnswered-one : (trace : List Operation) (old new : Shelf) (id at : ℕ) (answer name : Option ℕ) (f g : ℕ → Bool) → Touches old id new answer → name ≡ Some id → option_to_list name ≡ names_at trace (at ∷ [])

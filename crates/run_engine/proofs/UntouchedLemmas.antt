@@ -1,8 +1,9 @@
 -- Old stretches that are taken over though the heaps differ.
-use Rattle.std.proofs.Common.{◌≡◌, ℕ, ◌+◌, ◌<◌, ◌≤◌, suc, List, [], ◌∷◌, ◌++◌, length, take, drop, get_or, Bool, true, false, refl, ap, sym, subst, ◌∙◌, arith, length-append, take-append-drop}
-use Rattle.std.specs.Prelude.{Option, Some, None, is_some, IfSome, IsTrue, if◌then◌else◌}
-use Rattle.std.proofs.lemmas.List.{append-nil}
-use Rattle.std.proofs.Math.Seq.{take-append_seam}
+use Rattle.std.proofs.Common.{◌≡◌, ℕ, ◌+◌, ◌<◌, ◌≤◌, zero, suc, List, [], ◌∷◌, ◌++◌, length, take, drop, get_or, Bool, true, false, refl, ap, sym, subst, ◌∙◌, arith, length-append, take-append-drop}
+use Rattle.std.specs.Prelude.{◌||◌, Option, Some, None, is_some, IfSome, IsTrue, option_map}
+use Rattle.std.proofs.lemmas.List.{append-nil, append_assoc, drop-drop}
+use Rattle.std.specs.List.{list_any}
+use Rattle.std.proofs.Math.Seq.{take-append_seam, drop-append_seam}
 use Rattle.trace_types.specs.Operation.{Operation}
 use Rattle.trace_types.specs.Trace.{has_distinct_numbers}
 use Rattle.ownership_model.specs.declared.key.Key.{Key}
@@ -14,19 +15,25 @@ use Rattle.ownership_model.proofs.LawsHold.{appends, soundness}
 use Rattle.heap_difference.specs.declared.key_set.KeySet.{KeySet}
 use Rattle.heap_difference.specs.KeySets.{is_among, meet, set_of}
 use Rattle.heap_difference.specs.Differences.{outside, IsDifference}
-use Rattle.heap_difference.specs.Laws.{HasTouched}
-use Rattle.heap_difference.specs.Passing.{MayPass, HasPassed}
-use Rattle.heap_difference.proofs.LawLemmas.{meet_none}
+use Rattle.heap_difference.specs.Laws.{HasTouched, IsPassed}
+use Rattle.heap_difference.specs.Puts.{AreUndersApart}
+use Rattle.heap_difference.specs.Layers.{LayerView, with_layer, IsLaidBy}
+use Rattle.heap_difference.proofs.KeyLemmas.{meet_listed}
+use Rattle.heap_difference.proofs.LawLemmas.{meet_none, stretches_pass}
+use Rattle.heap_difference.proofs.LayerLemmas.{layers_hold}
+use Rattle.agreement.specs.Agreement.{Agree}
+use Rattle.run_engine.specs.declared.replay.prefix.NextStretch.{NextStretch}
 use Rattle.run_engine.specs.SegmentView.{SegmentView}
-use Rattle.run_engine.specs.Segments.{ops_of, trace_of, all_marks, has_mark, AreReplayFrom, AreFull, BeginsMarked, IsRun, IsPiece}
+use Rattle.run_engine.specs.Segments.{ops_of, trace_of, mark_here, all_marks, has_mark, AreReplayFrom, AreFull, BeginsMarked, IsKept, IsPiece}
 use Rattle.run_engine.specs.Steps.{IsUntouchedStretch}
 use Rattle.run_engine.specs.inner.Touching.{TouchTheSame, HasTouchedFrom}
+use Rattle.run_engine.specs.inner.Layered.{Makes, CanStand, standing_at}
+use Rattle.run_engine.specs.inner.Untouched.{IsTakenOver, AreTakenOver, AreAmong, CanBeUnder, IsUnder, AreUnder, AreNext}
 use Rattle.run_engine.proofs.ListingLemmas.{around}
-use Rattle.run_engine.proofs.SegmentLemmas.{trace_of-next, length-trace_of-next}
-use Rattle.run_engine.proofs.PieceLemmas.{AreFull-back, anchored, mark-at, segment-at, unused-behind}
+use Rattle.run_engine.proofs.SegmentLemmas.{trace_of-next, trace_of-append}
+use Rattle.run_engine.proofs.PieceLemmas.{AreFull-back, mark-at, segment-at, unused-behind}
 use Rattle.run_engine.proofs.PlaceLemmas.{trace_of-prefix, trace_of-back, trace_of-parted}
 use Rattle.run_engine.proofs.ConvergeLemmas.{distinct-back}
-use Rattle.run_engine.proofs.GiveUpLemmas.{has_mark-at}
 use Rattle.run_engine.proofs.MarksLemmas.{IsFollowed, segment-followed}
 
 -- the segment at i of an old run begins with its checkpoint
@@ -36,20 +43,15 @@ pub record IsMarkedAt (old : List SegmentView) (i : ℕ) (m : State) (s : Segmen
   pub mark : s.mark ≡ Some m
   pub here : m ≡ end_from nothing_held (trace_of (take i old))
 
-mark-known : (m n : State) (o : Option State) → is_some o ≡ true → IfSome o (λ k. k ≡ n) → m ≡ n → o ≡ Some m
-mark-known m n None t h e = absurd cc
-mark-known m n (Some k) t h e = ap Some (h ∙ sym e)
-
-pub IsMarkedAt-kept : (old : List SegmentView) (i at : ℕ) (m : State) (s : SegmentView) → AreReplayFrom nothing_held old → i < length old → s ≡ get_or old i s → has_mark old i ≡ true
-    → length (trace_of (take i old)) ≡ at → m ≡ end_from nothing_held (take at (trace_of old)) → IsMarkedAt old i m s
-IsMarkedAt-kept old i at m s replay lt is kept place state =
-    let here : m ≡ end_from nothing_held (trace_of (take i old)) = state ∙ ap (end_from nothing_held) (sym (trace_of-prefix old i at place)) in
-    record {
-      within = lt;
-      is = is;
-      mark = mark-known m (end_from nothing_held (trace_of (take i old))) s.mark (sym (has_mark-at old i s lt is) ∙ kept) (mark-at nothing_held old i s replay lt is) here;
-      here = here;
-    }
+-- so it does where it is known what it touches
+IsMarkedAt-touched : (old : List SegmentView) (i : ℕ) (s : SegmentView) (keys : List Key) → AreReplayFrom nothing_held old → i < length old → s ≡ get_or old i s → HasTouchedFrom keys s.mark (ops_of s)
+    → IsMarkedAt old i (end_from nothing_held (trace_of (take i old))) s
+IsMarkedAt-touched old i s keys replay lt is touched =
+    record { within = lt; is = is; mark = at s.mark touched (mark-at nothing_held old i s replay lt is); here = refl }
+  where
+    at : (o : Option State) → HasTouchedFrom keys o (ops_of s) → IfSome o (λ n. n ≡ end_from nothing_held (trace_of (take i old))) → o ≡ Some (end_from nothing_held (trace_of (take i old)))
+    at None h e = absurd h
+    at (Some n) h e = ap Some e
 
 -- the operations from there on are those of the segment, and then others
 rest-here : (old : List SegmentView) (i : ℕ) (m : State) (s : SegmentView) → IsMarkedAt old i m s → trace_of (drop i old) ≡ ops_of s ++ trace_of (drop (i + 1) old)
@@ -71,69 +73,108 @@ full-few (s ∷ segments) full =
     let more = full-few segments full.1 in
     omega (arith, length-append (ops_of s) (trace_of segments))
 
--- the operations of the segment may be passed
-pub MayPass-here : (old : List SegmentView) (i : ℕ) (m heap after : State) (s : SegmentView) (d : KeySet) (keys : List Key) → IsMarkedAt old i m s → IsTrue (has_distinct_numbers (trace_of old))
-    → AreUnused heap (trace_of (drop i old)) → IsDifference d m heap → HasTouchedFrom keys s.mark (ops_of s) → after ≡ end_from nothing_held (trace_of (take (i + 1) old)) → MayPass d keys heap after
-MayPass-here old i m heap after s d keys h distinct unused difference touched is =
+-- what touches no key of the layer touches none among them
+none-listed : (p q : Key → Bool) → ((x : Key) → p x ≡ true → q x ≡ true) → (keys : List Key) → list_any q keys ≡ false → list_any p keys ≡ false
+none-listed p q more [] none = refl
+none-listed p q more (x ∷ keys) none = at (p x) (q x) refl refl none (none-listed p q more keys)
+  where
+    at : (b c : Bool) → p x ≡ b → q x ≡ c → (c || list_any q keys) ≡ false → (list_any q keys ≡ false → list_any p keys ≡ false) → (p x || list_any p keys) ≡ false
+    at true true e f h rest = absurd cc
+    at true false e f h rest = absurd (let t : q x ≡ true = more x e in cc)
+    at false true e f h rest = absurd cc
+    at false false e f h rest = ap (λ b. b || list_any p keys) e ∙ rest h
+
+less-apart : (d : KeySet) (l : LayerView) (keys : List Key) → AreAmong d l → meet l.keys (set_of keys) ≡ false → meet d (set_of keys) ≡ false
+less-apart d l keys among none = sym (meet_listed d keys) ∙ none-listed (is_among d) (is_among l.keys) among keys (meet_listed l.keys keys ∙ none)
+
+-- what is known where the segment may begin with a new state that a layer makes of the old one: its operations touch none of the layer's keys
+record IsClear (old : List SegmentView) (i : ℕ) (m new : State) (s : SegmentView) (l : LayerView) (keys : List Key) : Type 0 where
+  marked : IsMarkedAt old i m s
+  sound : IsSound m []
+  laid : IsLaidBy l m new
+  unused : AreUnused new (trace_of (drop i old))
+  unused_here : AreUnused new (ops_of s)
+  old_unused : AreUnused m (ops_of s)
+  distinct : IsTrue (has_distinct_numbers (trace_of (drop i old)))
+  distinct_here : IsTrue (has_distinct_numbers (ops_of s))
+  touched : HasTouched (set_of keys) m (ops_of s)
+  apart : meet l.keys (set_of keys) ≡ false
+  unders : AreUndersApart (set_of keys) l.puts
+
+-- an old state is sound
+sound-at : (old : List SegmentView) (i : ℕ) → IsTrue (has_distinct_numbers (trace_of old)) → IsSound (end_from nothing_held (trace_of (take i old))) []
+sound-at old i distinct =
+    let prefix : List Operation = trace_of (take i old) in
+    let whole : IsTrue (has_distinct_numbers (prefix ++ trace_of (drop i old))) = subst (λ ops. IsTrue (has_distinct_numbers ops)) (sym (trace_of-parted old i)) distinct in
+    (soundness.replays nothing_held prefix soundness.start (appends.distinct_front prefix (trace_of (drop i old)) whole) (soundness.unused prefix)).1
+
+clear-here : (old : List SegmentView) (i : ℕ) (m new : State) (s : SegmentView) (l : LayerView) (keys : List Key) → IsMarkedAt old i m s → IsTrue (has_distinct_numbers (trace_of old)) → IsLaidBy l m new → AreUnused new (trace_of (drop i old))
+    → HasTouchedFrom keys s.mark (ops_of s) → (meet l.keys (set_of keys) ≡ false) × AreUndersApart (set_of keys) l.puts → IsClear old i m new s l keys
+clear-here old i m new s l keys h distinct laid unused touched apart =
     let prefix : List Operation = trace_of (take i old) in
     let rest : List Operation = trace_of (drop (i + 1) old) in
     let whole : IsTrue (has_distinct_numbers (prefix ++ trace_of (drop i old))) = subst (λ ops. IsTrue (has_distinct_numbers ops)) (sym (trace_of-parted old i)) distinct in
+    let behind : IsTrue (has_distinct_numbers (trace_of (drop i old))) = distinct-back old i distinct in
     record {
-      old = m;
-      ops = ops_of s;
-      difference = difference;
-      touched = subst (λ o. HasTouchedFrom keys o (ops_of s)) h.mark touched;
-      sound = subst (λ n. IsSound n []) (sym h.here) (soundness.replays nothing_held prefix soundness.start (appends.distinct_front prefix (trace_of (drop i old)) whole) (soundness.unused prefix)).1;
-      distinct = appends.distinct_front (ops_of s) rest (subst (λ ops. IsTrue (has_distinct_numbers ops)) (rest-here old i m s h) (distinct-back old i distinct));
+      marked = h;
+      sound = subst (λ n. IsSound n []) (sym h.here) (sound-at old i distinct);
+      laid = laid;
+      unused = unused;
+      unused_here = appends.unused_front new (ops_of s) rest (subst (AreUnused new) (rest-here old i m s h) unused);
       old_unused = appends.unused_front m (ops_of s) rest (subst (AreUnused m) (rest-here old i m s h) (subst (λ n. AreUnused n (trace_of (drop i old))) (sym h.here) (unused-behind prefix (trace_of (drop i old)) whole)));
-      unused = appends.unused_front heap (ops_of s) rest (subst (AreUnused heap) (rest-here old i m s h) unused);
-      after_is = is ∙ end-here old i m s h;
+      distinct = behind;
+      distinct_here = appends.distinct_front (ops_of s) rest (subst (λ ops. IsTrue (has_distinct_numbers ops)) (rest-here old i m s h) behind);
+      touched = subst (λ o. HasTouchedFrom keys o (ops_of s)) h.mark touched;
+      apart = apart.0;
+      unders = apart.1;
     }
 
--- what is known of each that passes is known of the segment
-pub HasPassed-here : (old : List SegmentView) (i : ℕ) (m heap after : State) (s : SegmentView) (d : KeySet) (keys : List Key) (answer : Option State) (end : State) → IsMarkedAt old i m s → IsTrue (has_distinct_numbers (trace_of old))
-    → AreUnused heap (trace_of (drop i old)) → IsDifference d m heap → HasTouchedFrom keys s.mark (ops_of s) → after ≡ end_from nothing_held (trace_of (take (i + 1) old))
-    → ((p : MayPass d keys heap after) → IfSome answer (HasPassed d p.old heap p.ops)) → answer ≡ Some end → HasPassed d m heap (ops_of s) end
-unfolding MayPass-here
-HasPassed-here old i m heap after s d keys answer end h distinct unused difference touched is all e =
-    subst (λ o. IfSome o (HasPassed d m heap (ops_of s))) e (all (MayPass-here old i m heap after s d keys h distinct unused difference touched is))
+-- they do the same in both states
+passes : (old : List SegmentView) (i : ℕ) (m new : State) (s : SegmentView) (l : LayerView) (keys : List Key) → IsClear old i m new s l keys → IsPassed l.keys m new (ops_of s)
+passes old i m new s l keys c = stretches_pass l.keys (set_of keys) m new (ops_of s) c.laid.difference c.touched c.apart c.sound c.laid.sound c.distinct_here c.old_unused c.unused_here
 
--- the segment may begin with the other heap
-pub TouchTheSame-here : (m heap end : State) (s : SegmentView) (d : KeySet) → s.mark ≡ Some m → HasPassed d m heap (ops_of s) end → IfSome s.mark (λ n. TouchTheSame n heap (ops_of s))
-TouchTheSame-here m heap end s d mark passed =
-    let same : TouchTheSame m heap (ops_of s) = record { footprints = passed.passed.footprints; moved = passed.passed.moved } in
-    subst (λ o. IfSome o (λ n. TouchTheSame n heap (ops_of s))) (sym mark) same
+-- the segment may begin with the new state
+stand-here : (old : List SegmentView) (i : ℕ) (m new : State) (s : SegmentView) (l : LayerView) (keys : List Key) → IsClear old i m new s l keys → IfSome s.anchor (λ n. n ≡ m) → CanStand l s new
+stand-here old i m new s l keys c anchor =
+    let makes : Makes l new m = record { sound = c.sound; laid = c.laid } in
+    let passed : IsPassed l.keys m new (ops_of s) = passes old i m new s l keys c in
+    let same : TouchTheSame m new (ops_of s) = record { footprints = passed.footprints; moved = passed.moved } in
+    record {
+      mark = subst (λ o. IfSome o (Makes l new)) (sym c.marked.mark) makes;
+      anchor = anchor-made s.anchor anchor makes;
+      touch = subst (λ o. IfSome o (λ n. TouchTheSame n new (ops_of s))) (sym c.marked.mark) same;
+    }
+  where
+    anchor-made : (o : Option State) → IfSome o (λ n. n ≡ m) → Makes l new m → IfSome o (Makes l new)
+    anchor-made None is makes = tt
+    anchor-made (Some n) is makes = subst (Makes l new) (sym is) makes
 
 within-more : (j k : Key → Bool) (keys : List Key) → ((x : Key) → j x ≡ true → k x ≡ true) → AreWithin j keys → AreWithin k keys
 within-more j k [] more h = tt
 within-more j k (x ∷ keys) more h = (more x h.0, within-more j k keys more h.1)
 
--- the segment begins with another heap, which is its anchor as well if that is wanted
-abbrev pub begun : SegmentView → State → Bool → SegmentView
-begun s heap wanted = record s { mark = Some heap; anchor = if wanted then Some heap else None }
-
--- an old segment with a checkpoint at its other end, too, that is taken over behind another heap
-pub record IsUntouched (old : List SegmentView) (i at : ℕ) (heap end : State) (segments : List SegmentView) (d : KeySet) (len : ℕ) : Type 0 where
-  pub stretch : IsUntouchedStretch (trace_of old) (all_marks old) heap (trace_of (drop i old)) len
-  pub piece : IsPiece heap (trace_of (drop i old)) segments end len
-  pub len_is : length (trace_of (take (i + 1) old)) ≡ at + len
-  pub difference : IsDifference d (end_from nothing_held (take (at + len) (trace_of old))) end
-
-IsPiece-here : (old : List SegmentView) (i : ℕ) (m heap end : State) (s : SegmentView) (wanted : Bool) (d : KeySet) → IsMarkedAt old i m s → AreReplayFrom nothing_held old → AreFull old → HasPassed d m heap (ops_of s) end
-    → IsPiece heap (trace_of (drop i old)) (begun s heap wanted ∷ []) end (length (ops_of s))
-IsPiece-here old i m heap end s wanted d h replay full passed =
+IsPiece-here : (old : List SegmentView) (i : ℕ) (m new : State) (s : SegmentView) (l : LayerView) (keys : List Key) → IsClear old i m new s l keys → AreReplayFrom nothing_held old → AreFull old
+    → IsPiece new (trace_of (drop i old)) (standing_at new s ∷ []) (end_from new (ops_of s)) (length (ops_of s))
+IsPiece-here old i m new s l keys c replay full =
+    let h : IsMarkedAt old i m s = c.marked in
+    let passed : IsPassed l.keys m new (ops_of s) = passes old i m new s l keys c in
     let first : take (length (ops_of s)) (trace_of (drop i old)) ≡ ops_of s = first-here old i m s h in
     let back : AreFull (s ∷ drop (i + 1) old) = subst AreFull (around old i s h.within h.is) (AreFull-back (take i old) (drop i old) (subst AreFull (sym (take-append-drop i old)) full)) in
+    let mark : option_map (λ (n : State). new) s.mark ≡ Some new = ap (option_map (λ (n : State). new)) h.mark in
     record {
       some = back.0;
       fits = omega (arith, ap length (rest-here old i m s h), length-append (ops_of s) (trace_of (drop (i + 1) old)));
       trace = append-nil (ops_of s) ∙ sym first;
-      replay = (record { mark = refl; anchor = anchored heap wanted; outcomes = (segment-at nothing_held old i s replay h.within h.is).outcomes ∙ ap (λ n. outcomes_from n (ops_of s)) (sym h.here) ∙ passed.passed.outcomes }, tt);
+      replay = (record { mark = all-are s.mark; anchor = all-are s.anchor; outcomes = (segment-at nothing_held old i s replay h.within h.is).outcomes ∙ ap (λ n. outcomes_from n (ops_of s)) (sym h.here) ∙ passed.outcomes }, tt);
       full = (back.0, tt);
-      begins = refl;
-      state = passed.end_is ∙ ap (end_from heap) (sym first);
-      marks = λ at. refl;
+      begins = ap is_some mark;
+      state = ap (end_from new) (sym first);
+      marks = λ at. ap (λ o. mark_here at o ++ []) mark;
     }
+  where
+    all-are : (o : Option State) → IfSome (option_map (λ (n : State). new) o) (λ n. n ≡ new)
+    all-are None = tt
+    all-are (Some n) = refl
 
 -- it is an old stretch between neighbouring checkpoints, and differs from the other heap in none that its operations touch
 IsUntouchedStretch-here : (old : List SegmentView) (i at : ℕ) (m heap : State) (s : SegmentView) (d : KeySet) (keys : List Key) → IsMarkedAt old i m s → length (trace_of (take i old)) ≡ at → BeginsMarked (drop (i + 1) old)
@@ -155,17 +196,118 @@ IsUntouchedStretch-here old i at m heap s d keys h place begins difference touch
       within = subst (λ n. AreWithin (outside d) (footprints_from n ops ++ moved_from n ops)) there within;
     }
 
-pub IsUntouched-here : (old : List SegmentView) (last : State) (i at : ℕ) (m heap end : State) (s : SegmentView) (wanted : Bool) (d : KeySet) (keys : List Key) (segments : List SegmentView) (len : ℕ)
-    → IsMarkedAt old i m s → IsRun old last → length (trace_of (take i old)) ≡ at → BeginsMarked (drop (i + 1) old) → IsDifference d m heap → HasTouchedFrom keys s.mark (ops_of s) → meet d (set_of keys) ≡ false
-    → HasPassed d m heap (ops_of s) end → segments ≡ begun s heap wanted ∷ [] → len ≡ length (ops_of s) → IsUntouched old i at heap end segments d len
-IsUntouched-here old last i at m heap end s wanted d keys segments len h run place begins difference touched apart passed segments_are len_is =
-    let far : length (trace_of (take (i + 1) old)) ≡ at + length (ops_of s) = length-trace_of-next old i s h.within h.is ∙ ap (λ n. n + length (ops_of s)) place in
-    let behind : end_from m (ops_of s) ≡ end_from nothing_held (take (at + length (ops_of s)) (trace_of old)) =
-    sym (end-here old i m s h) ∙ ap (end_from nothing_held) (trace_of-prefix old (i + 1) (at + length (ops_of s)) far) in
-    let whole : IsUntouched old i at heap end (begun s heap wanted ∷ []) d (length (ops_of s)) = record {
-      stretch = IsUntouchedStretch-here old i at m heap s d keys h place begins difference touched apart;
-      piece = IsPiece-here old i m heap end s wanted d h run.replay run.full passed;
-      len_is = far;
-      difference = subst (λ n. IsDifference d n end) behind (subst (IsDifference d (end_from m (ops_of s))) (sym passed.end_is) passed.passed.difference);
-    } in
-    subst (λ ss. IsUntouched old i at heap end ss d len) (sym segments_are) (subst (IsUntouched old i at heap end (begun s heap wanted ∷ []) d) (sym len_is) whole)
+-- the segment at i is taken over where a layer makes the state there new
+pub under-here : (old : List SegmentView) (last : State) (i : ℕ) (new : State) (s : SegmentView) (l : LayerView) (keys : List Key) → IsKept old last → i < length old → s ≡ get_or old i s → BeginsMarked (drop (i + 1) old)
+    → IsLaidBy l (end_from nothing_held (trace_of (take i old))) new → AreUnused new (trace_of (drop i old)) → HasTouchedFrom keys s.mark (ops_of s) → (meet l.keys (set_of keys) ≡ false) × AreUndersApart (set_of keys) l.puts
+    → CanStand l s new × IsUnder old l i new (standing_at new s)
+under-here old last i new s l keys kept lt is begins laid unused touched apart =
+    let m : State = end_from nothing_held (trace_of (take i old)) in
+    let h : IsMarkedAt old i m s = IsMarkedAt-touched old i s keys kept.run.replay lt is touched in
+    let c : IsClear old i m new s l keys = clear-here old i m new s l keys h kept.trace.distinct laid unused touched apart in
+    let rest : trace_of (drop i old) ≡ ops_of s ++ trace_of (drop (i + 1) old) = rest-here old i m s h in (
+      stand-here old i m new s l keys c (segment-at nothing_held old i s kept.run.replay lt is).anchor,
+      record {
+        begins = begins;
+        taken = record {
+          stretch = IsUntouchedStretch-here old i (length (trace_of (take i old))) m new s l.keys keys h refl begins laid.difference touched apart.0;
+          piece = IsPiece-here old i m new s l keys c kept.run.replay kept.run.full;
+        };
+        trace = rest;
+        laid = subst (λ n. IsLaidBy l n (end_from new (ops_of s))) (sym (end-here old i m s h))
+            (layers_hold.on l.keys (set_of keys) l.from m new l.puts (ops_of s) laid c.touched c.apart c.unders c.sound c.distinct_here c.old_unused c.unused_here);
+        differs = λ d among differ. subst (λ n. IsDifference d n (end_from new (ops_of s))) (sym (end-here old i m s h))
+            (stretches_pass d (set_of keys) m new (ops_of s) differ c.touched (less-apart d l keys among c.apart) c.sound laid.sound c.distinct_here c.old_unused c.unused_here).difference;
+        unused = appends.unused_rest new (ops_of s) (trace_of (drop (i + 1) old)) laid.sound (subst (λ ops. IsTrue (has_distinct_numbers ops)) rest c.distinct) (subst (AreUnused new) rest unused);
+      },
+    )
+
+-- ---- one behind the other
+taken-snoc : (old : List Operation) (marks : List ℕ) (start : State) (ops : List Operation) (segments : List SegmentView) (s : SegmentView) → AreTakenOver old marks start ops segments
+    → IsTakenOver old marks (end_from start (trace_of segments)) (drop (length (trace_of segments)) ops) s → AreTakenOver old marks start ops (segments ++ s ∷ [])
+taken-snoc old marks start ops [] s h last = (last, tt)
+taken-snoc old marks start ops (r ∷ segments) s h last =
+    let end : end_from start (ops_of r ++ trace_of segments) ≡ end_from (end_from start (ops_of r)) (trace_of segments) = appends.end start (ops_of r) (trace_of segments) in
+    let far : drop (length (ops_of r ++ trace_of segments)) ops ≡ drop (length (trace_of segments)) (drop (length (ops_of r)) ops) =
+    ap (λ n. drop n ops) (length-append (ops_of r) (trace_of segments)) ∙ sym (drop-drop (length (trace_of segments)) (length (ops_of r)) ops) in (
+      h.0,
+      taken-snoc old marks (end_from start (ops_of r)) (drop (length (ops_of r)) ops) segments s h.1
+          (subst (λ os. IsTakenOver old marks (end_from (end_from start (ops_of r)) (trace_of segments)) os s) far
+          (subst (λ m. IsTakenOver old marks m (drop (length (ops_of r ++ trace_of segments)) ops) s) end last)),
+    )
+
+-- no segment is taken over yet
+pub under-none : (old : List SegmentView) (l : LayerView) (index : ℕ) (start : State) (segments : List SegmentView) → segments ≡ [] → index ≤ length old → BeginsMarked (drop index old)
+    → IsLaidBy l (end_from nothing_held (trace_of (take index old))) start → AreUnused start (trace_of (drop index old)) → AreUnder old l index start segments
+under-none old l index start segments none within begins laid unused =
+    let here : index ≡ index + 0 = omega arith in
+    subst (AreUnder old l index start) (sym none) (record {
+      within = omega (arith, within);
+      begins = subst (λ n. BeginsMarked (drop n old)) here begins;
+      taken = tt;
+      trace = ap (λ n. trace_of (drop n old)) here;
+      laid = subst (λ n. IsLaidBy l (end_from nothing_held (trace_of (take n old))) start) here laid;
+      differs = λ d among differ. subst (λ n. IsDifference d (end_from nothing_held (trace_of (take n old))) start) here differ;
+      unused = subst (λ n. AreUnused start (trace_of (drop n old))) here unused;
+    })
+
+-- the next one may be
+pub under-may : (old : List SegmentView) (l : LayerView) (index i : ℕ) (start : State) (segments : List SegmentView) → i ≡ index + length segments → i < length old → AreUnder old l index start segments
+    → CanBeUnder old l i (end_from start (trace_of segments))
+under-may old l index i start segments place lt h = record {
+  within = lt;
+  laid = subst (λ n. IsLaidBy l (end_from nothing_held (trace_of (take n old))) (end_from start (trace_of segments))) (sym place) h.laid;
+  unused = subst (λ n. AreUnused (end_from start (trace_of segments)) (trace_of (drop n old))) (sym place) h.unused;
+}
+
+-- one more is
+pub under-next : (old : List SegmentView) (l : LayerView) (index i : ℕ) (start : State) (segments more : List SegmentView) (s : SegmentView) → i ≡ index + length segments → i < length old → more ≡ segments ++ s ∷ []
+    → AreUnder old l index start segments → IsUnder old l i (end_from start (trace_of segments)) s → AreUnder old l index start more
+under-next old l index i start segments more s place lt is h next =
+    let there : i + 1 ≡ index + length (segments ++ s ∷ []) = omega (arith, length-append segments (s ∷ []), place) in
+    let ops : trace_of (segments ++ s ∷ []) ≡ trace_of segments ++ ops_of s = trace_of-append segments (s ∷ []) ∙ ap (λ os. trace_of segments ++ os) (append-nil (ops_of s)) in
+    let end : end_from (end_from start (trace_of segments)) (ops_of s) ≡ end_from start (trace_of (segments ++ s ∷ [])) = sym (appends.end start (trace_of segments) (ops_of s)) ∙ ap (end_from start) (sym ops) in
+    let behind : trace_of (drop index old) ≡ trace_of segments ++ trace_of (drop i old) = h.trace ∙ ap (λ n. trace_of segments ++ trace_of (drop n old)) (sym place) in
+    let left : drop (length (trace_of segments)) (trace_of (drop index old)) ≡ trace_of (drop i old) = ap (drop (length (trace_of segments))) behind ∙ drop-append_seam (trace_of segments) (trace_of (drop i old)) in
+    subst (AreUnder old l index start) (sym is) (record {
+      within = omega (arith, there, lt);
+      begins = subst (λ n. BeginsMarked (drop n old)) there next.begins;
+      taken = taken-snoc (trace_of old) (all_marks old) start (trace_of (drop index old)) segments s h.taken
+          (subst (λ os. IsTakenOver (trace_of old) (all_marks old) (end_from start (trace_of segments)) os s) (sym left) next.taken);
+      trace = behind ∙ ap (λ os. trace_of segments ++ os) (next.trace ∙ ap (λ n. ops_of s ++ trace_of (drop n old)) there) ∙ sym (append_assoc (trace_of segments) (ops_of s) (trace_of (drop (index + length (segments ++ s ∷ [])) old)))
+          ∙ ap (λ os. os ++ trace_of (drop (index + length (segments ++ s ∷ [])) old)) (sym ops);
+      laid = subst (IsLaidBy l (end_from nothing_held (trace_of (take (index + length (segments ++ s ∷ [])) old)))) end
+          (subst (λ n. IsLaidBy l (end_from nothing_held (trace_of (take n old))) (end_from (end_from start (trace_of segments)) (ops_of s))) there next.laid);
+      differs = λ d among differ.
+          subst (IsDifference d (end_from nothing_held (trace_of (take (index + length (segments ++ s ∷ [])) old)))) end
+          (subst (λ n. IsDifference d (end_from nothing_held (trace_of (take n old))) (end_from (end_from start (trace_of segments)) (ops_of s))) there
+          (next.differs d among (subst (λ n. IsDifference d (end_from nothing_held (trace_of (take n old))) (end_from start (trace_of segments))) (sym place) (h.differs d among differ))));
+      unused = subst (λ m. AreUnused m (trace_of (drop (index + length (segments ++ s ∷ [])) old))) end
+          (subst (λ n. AreUnused (end_from (end_from start (trace_of segments)) (ops_of s)) (trace_of (drop n old))) there next.unused);
+    })
+
+-- the heap behind them is the old one under the layer
+pub end-under : (old : List SegmentView) (l : LayerView) (index count : ℕ) (run : List SegmentView) (after end : State) → IsTrue (has_distinct_numbers (trace_of old)) → AreUnder old l index l.from run → count ≡ length run
+    → after ≡ end_from nothing_held (trace_of (take (index + count) old)) → end ≡ with_layer l after → end ≡ end_from l.from (trace_of run)
+end-under old l index count run after end distinct h same is made =
+    let here : after ≡ end_from nothing_held (trace_of (take (index + length run) old)) = is ∙ ap (λ n. end_from nothing_held (trace_of (take (index + n) old))) same in
+    made ∙ layers_hold.made l after (end_from l.from (trace_of run)) (subst (λ (m : State). IsLaidBy l m (end_from l.from (trace_of run))) (sym here) h.laid) (subst (λ m. IsSound m []) (sym here) (sound-at old (index + length run) distinct))
+
+-- they are what a replay goes on with
+pub next-under : (old : List SegmentView) (l : LayerView) (index count : ℕ) (run : List SegmentView) (after end : State) (next : NextStretch) → AreUnder old l index l.from run → count ≡ length run
+    → after ≡ end_from nothing_held (trace_of (take (index + count) old)) → end ≡ end_from l.from (trace_of run) → 0 < count → (1 < count → Agree end after → ⊥)
+    → next.segments ≡ run → next.len ≡ length (trace_of run) → next.end ≡ end → AreNext old index l.from next
+next-under old l index count run after end next h same is made some apart segments_are len_are end_are = record {
+  some = rw segments_are (omega (arith, some, same));
+  within = rw segments_are h.within;
+  taken = rw segments_are h.taken;
+  trace = rw segments_are h.trace;
+  len_is = rw segments_are len_are;
+  end_is = rw segments_are (end_are ∙ made);
+  apart = rw (segments_are, end_are) (λ many agree. apart (omega (arith, many, same)) (subst (Agree end) (sym (is ∙ ap (λ n. end_from nothing_held (trace_of (take (index + n) old))) same)) agree));
+}
+
+-- where a segment has its checkpoint, those from there on begin with it
+pub begins-marked : (old : List SegmentView) (i : ℕ) → has_mark old i ≡ true → BeginsMarked (drop i old)
+begins-marked [] i h = absurd cc
+begins-marked (s ∷ old) zero h = h
+begins-marked (s ∷ old) (suc i) h = begins-marked old i h

@@ -18,5 +18,7 @@ pub mod RevisionProps
 pub mod OldRun
 pub mod Divergence
 pub mod Touching
+pub mod Layered
+pub mod Untouched
 pub mod Difference
 pub mod Shifts

@@ -1,11 +1,13 @@
 -- A replay that goes on, where the names of its checkpoints are touched ahead of it.
-use Rattle.std.specs.Prelude.{◌≡◌, ◌==◌, ◌+◌, ◌-◌, ℕ, Bool, true, List, ◌∷◌, ◌++◌, map, fold}
+use Rattle.std.specs.Prelude.{◌≡◌, ◌==◌, ◌+◌, ◌-◌, ℕ, Bool, true, List, [], ◌∷◌, ◌++◌, length, map, fold}
 use Rattle.std.specs.List.{list_any}
 use Rattle.trace_types.specs.Operation.{Operation}
 use Rattle.mark_shelf.specs.Shelf.{Shelf}
 use Rattle.op_step.specs.Chunk.{Chunk}
 use Rattle.run_engine.specs.Guesses.{Reusable}
 use Rattle.run_engine.specs.RunView.{RunView}
+use Rattle.run_engine.specs.SegmentView.{SegmentView}
+use Rattle.run_engine.specs.Segments.{ops_of}
 use Rattle.run_engine.specs.Marks.{multiples_below}
 use Rattle.run_engine.specs.NewMarks.{AreLaid, AreMarksOf, AreMarksAfter}
 use Rattle.run_engine.specs.Memo.{AreSome}
@@ -30,6 +32,11 @@ LeaveSame trace names marks all = fold (given_up trace) marks names ≡ fold (gi
 -- the cuts from one position on, and below another, each 64 behind the one before it
 abbrev pub cuts : ℕ → ℕ → List ℕ
 cuts from to = map (λ p. from + p) (multiples_below (to - from))
+
+-- where segments begin, the first of them at a position
+abbrev pub begins : ℕ → List SegmentView → List ℕ
+begins at [] = []
+begins at (s ∷ segments) = at ∷ begins (at + length (ops_of s)) segments
 
 -- touches of names, which answer others, and look-ups of chunks lead from one shelf to another, whose chunks are not new
 pub record AreMarksTouched (old new : Shelf) (names answers : List ℕ) : Type 0 where

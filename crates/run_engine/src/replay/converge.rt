@@ -1,5 +1,5 @@
 //! A replay beside an old one, as far as the two come together.
-ghost use Rattle.std.specs.Prelude.{◌≡◌, ◌++◌, ◌+◌, ◌<◌, ◌≤◌, ℕ, List, IfOk, IfSome, OnOk, length, take, drop, slice_range, true};
+ghost use Rattle.std.specs.Prelude.{◌≡◌, ◌++◌, ◌+◌, ◌-◌, ◌<◌, ◌≤◌, ℕ, List, IfOk, IfSome, OnOk, IsTrue, length, take, drop, slice_range, true, false};
 ghost use Rattle.std.specs.Ordering.{nat_cmp};
 ghost use Rattle.std.specs.BTreeSet.{contains};
 ghost use Rattle.ownership_model.specs.State.{nothing_held};
@@ -10,15 +10,16 @@ ghost use Rattle.run_engine.specs.Guesses.{with_guesses};
 ghost use Rattle.run_engine.specs.inner.OldRun.{old_trace, old_marks, new_trace, reusable};
 ghost use Rattle.run_engine.specs.HeadAndTail.{ShareEnd};
 ghost use Rattle.run_engine.specs.Bounds.{StepsAtMost};
-ghost use Rattle.run_engine.specs.NewMarks.{AreNeighbours, IsGap};
+ghost use Rattle.run_engine.specs.NewMarks.{IsGap};
 ghost use Rattle.run_engine.specs.inner.Onward.{AreMarksLeft};
 ghost use Rattle.run_engine.specs.Memo.{IsSearched};
-ghost use Rattle.run_engine.specs.Steps.{IsUntouchedStretch, AreTaken, AreStepped};
+ghost use Rattle.run_engine.specs.Steps.{AreTaken, AreStepped};
 ghost use Rattle.run_engine.specs.inner.GoesOn.{MayGoOn, GoesOnBeside};
 ghost use Rattle.run_engine.specs.inner.Placed.{IsPlaced, IsNext};
-ghost use Rattle.run_engine.specs.inner.Divergence.{IsFork};
+ghost use Rattle.run_engine.specs.inner.Divergence.{IsFork, IsDivergence};
 ghost use Rattle.run_engine.specs.inner.Difference.{AreDiffering};
 ghost use Rattle.run_engine.specs.inner.Metered.{IsMetered};
+ghost use Rattle.run_engine.specs.inner.Untouched.{AreNext, IsPast};
 
 use crate::replay::ahead::go_ahead;
 use crate::replay::difference::Difference;
@@ -30,13 +31,14 @@ use crate::replay::progress::{Fork, Progress};
 use crate::replay::rejoin::{OldMark, rejoined_at};
 use crate::replay::revision::Revision;
 use crate::replay::stretch::{may_begin, old_stretch};
-use crate::replay::touching::touch_at;
-use crate::replay::untouched::untouched_stretch;
+use crate::replay::touching::{touch_at, touch_each};
+use crate::replay::untouched::untouched_stretches;
 use crate::segments::blocks::Segments;
 use mark_shelf::MarkShelf;
 use object_heap::Heap;
 use op_step::Meter;
 use std::alloc::{AllocError, Global};
+use trace_types::limits::MAX_OPS;
 
 /// Where the operations begin that both traces end with, in the old trace and in the edited one.
 #[derive(Clone, Copy)]
@@ -220,7 +222,7 @@ fn advance(
     Ok(Progress { prefix, fork })
 }
 
-// The old stretch that begins at an old checkpoint, where the replay stands beside it, if it is known to touch nothing at which the heaps
+// The old stretches that begin at an old checkpoint, where the replay stands beside it, if they are known to touch nothing at which the heaps
 // differ.
 fn next_untouched(
     alloc: Global,
@@ -228,6 +230,7 @@ fn next_untouched(
     progress: &Progress,
     old: &OldMark,
     difference: &mut Difference,
+    divergence: &mut Divergence,
 ) -> Result<Option<NextStretch>, AllocError>
     requires prefix { IsReached (new_trace revision.now)
         progress.now.prefix.len progress.now.prefix.segments progress.now.prefix.end }
@@ -240,20 +243,13 @@ fn next_untouched(
     requires shared { trace_of (drop old.now.index revision.now.segments.now)
         ≡ drop progress.now.prefix.len (new_trace revision.now) }
     requires known { AreDiffering revision.now difference.old }
-    ensures gap { IfOk result
-        (λ o. IfSome o (λ p. AreNeighbours (old_marks revision.now) p.len)) }
-    ensures stretch { IfOk result (λ o. IfSome o (λ p.
-        IsUntouchedStretch (old_trace revision.now) (old_marks revision.now)
-        progress.now.prefix.end (drop progress.now.prefix.len (new_trace revision.now)) p.len)) }
-    ensures piece { IfOk result (λ o. IfSome o (λ p.
-        IsPiece progress.now.prefix.end (drop progress.now.prefix.len (new_trace revision.now))
-        p.segments p.end p.len)) }
-    ensures len { IfOk result (λ o. IfSome o (λ p.
-        length (trace_of (take (old.now.index + 1) revision.now.segments.now))
-        ≡ old.now.at + p.len)) }
-    ensures next { (chunks : List (ℕ × Chunk)) →
+    requires divergence { IsDivergence revision.now divergence.old }
+    ensures next { IfOk result (λ o. IfSome o (AreNext revision.now.segments.now
+        old.now.index progress.now.prefix.end)) }
+    ensures origin { (chunks : List (ℕ × Chunk)) →
         IfOk result (λ o. IfSome o (IsNext chunks progress.now.prefix.end)) }
     ensures known { OnOk result (AreDiffering revision.now difference.new) }
+    ensures divergence { OnOk result (IsDivergence revision.now divergence.new) }
 {
     let did_look = difference.look(alloc, revision, progress, old)?;
     if !did_look {
@@ -262,9 +258,8 @@ fn next_untouched(
     let Some(keys) = difference.keys() else {
         return Ok(None);
     };
-    let prefix = &progress.prefix;
-    let is_due = prefix.anchoring.is_due(prefix.len);
-    let next = untouched_stretch(alloc, revision, &prefix.end, old, keys, is_due)?;
+    let heap = &progress.prefix.end;
+    let next = untouched_stretches(alloc, revision, heap, old, keys, divergence)?;
     match &next {
         None => difference.miss(),
         Some(piece) => difference.pass(piece.len),
@@ -272,11 +267,12 @@ fn next_untouched(
     Ok(next)
 }
 
-// Goes on with the replay by a stretch: the name of the checkpoint where it begins is touched.
+// Goes on with the replay by stretches: the names of the checkpoints where they begin are touched.
 fn taken(
     alloc: Global,
     revision: &Revision,
     progress: Progress,
+    index: usize,
     next: NextStretch,
     shelf: &mut MarkShelf,
 ) -> Result<Progress, AllocError>
@@ -284,20 +280,25 @@ fn taken(
         progress.prefix.len progress.prefix.segments progress.prefix.end }
     requires fork { IsFork revision.now progress.fork }
     requires placed { IsPlaced shelf.old.chunks progress.prefix }
-    requires gap { AreNeighbours (old_marks revision.now) next.len }
-    requires stretch { IsUntouchedStretch (old_trace revision.now) (old_marks revision.now)
-        progress.prefix.end (drop progress.prefix.len (new_trace revision.now)) next.len }
-    requires piece { IsPiece progress.prefix.end
-        (drop progress.prefix.len (new_trace revision.now)) next.segments next.end next.len }
-    requires next { (chunks : List (ℕ × Chunk)) → IsNext chunks progress.prefix.end next }
+    requires shared { trace_of (drop index revision.now.segments.now)
+        ≡ drop progress.prefix.len (new_trace revision.now) }
+    requires next { AreNext revision.now.segments.now index progress.prefix.end next }
+    requires origin { (chunks : List (ℕ × Chunk)) → IsNext chunks progress.prefix.end next }
     ensures beside { (count : ℕ) → IfOk result (λ p.
         GoesOnBeside revision.now progress.prefix p.prefix shelf.old shelf.new count count) }
     ensures fork { IfOk result (λ p. IsFork revision.now p.fork) }
     ensures placed { IfOk result (λ p. IsPlaced shelf.new.chunks p.prefix) }
     ensures len { IfOk result (λ p. p.prefix.len ≡ progress.prefix.len + next.len) }
+    ensures end { IfOk result (λ p. p.prefix.end ≡ next.end) }
 {
     let mut prefix = progress.prefix;
-    touch_at(revision.ops, prefix.len, shelf, &mut prefix.answered)?;
+    touch_each(
+        revision.ops,
+        prefix.len,
+        &next.segments,
+        shelf,
+        &mut prefix.answered,
+    )?;
     let prefix = joined(alloc, prefix, next)?;
     Ok(Progress {
         prefix,
@@ -305,14 +306,15 @@ fn taken(
     })
 }
 
-// Goes on with the replay over the old stretch that begins at an old checkpoint, if that is known to touch nothing at which the heaps
-// differ. Else the replay stays where it stands.
+// Goes on with the replay over the old stretches that begin at an old checkpoint, if they are known to touch nothing at which the heaps differ.
+// At no old checkpoint that it passes do the heaps agree. Else the replay stays where it stands.
 fn go_past(
     alloc: Global,
     revision: &Revision,
     progress: Progress,
     old: &OldMark,
     difference: &mut Difference,
+    divergence: &mut Divergence,
     shelf: &mut MarkShelf,
 ) -> Result<Progress, AllocError>
     requires prefix { IsReached (new_trace revision.now)
@@ -327,20 +329,35 @@ fn go_past(
     requires shared { trace_of (drop old.now.index revision.now.segments.now)
         ≡ drop progress.prefix.len (new_trace revision.now) }
     requires known { AreDiffering revision.now difference.old }
+    requires divergence { IsDivergence revision.now divergence.old }
     ensures beside { (count : ℕ) → IfOk result (λ p.
         GoesOnBeside revision.now progress.prefix p.prefix shelf.old shelf.new count count) }
     ensures fork { IfOk result (λ p. IsFork revision.now p.fork) }
     ensures placed { IfOk result (λ p. IsPlaced shelf.new.chunks p.prefix) }
     ensures no_less { IfOk result (λ p. progress.prefix.len ≤ p.prefix.len) }
-    ensures order { IfOk result (λ p. p.prefix.len + old.now.at ≤ progress.prefix.len
-        + length (trace_of (take (old.now.index + 1) revision.now.segments.now))) }
+    ensures past { IfOk result (λ p. IsPast (old_trace revision.now) (new_trace revision.now)
+        old.now.at (length (trace_of (take (old.now.index + 1) revision.now.segments.now)))
+        progress.prefix.len p.prefix.len) }
     ensures known { OnOk result (AreDiffering revision.now difference.new) }
+    ensures divergence { OnOk result (IsDivergence revision.now divergence.new) }
 {
-    let next = next_untouched(alloc, revision, &progress, old, difference)?;
+    let next = next_untouched(alloc, revision, &progress, old, difference, divergence)?;
     match next {
         None => Ok(progress),
-        Some(piece) => taken(alloc, revision, progress, piece, shelf),
+        Some(piece) => taken(alloc, revision, progress, old.index, piece, shelf),
     }
+}
+
+// Whether the replay comes to an old position yet, at or behind the seam: it may have passed it.
+fn is_ahead(progress: &Progress, seam: Seam, at: usize) -> bool
+    requires old { at ≤ MAX_OPS }
+    requires edited { seam.edited ≤ MAX_OPS }
+    ensures ahead { IsTrue result →
+        (seam.base ≤ at) × (progress.now.prefix.len ≤ at - seam.base + seam.edited) }
+    ensures behind { result ≡ false → seam.base ≤ at →
+        at - seam.base + seam.edited < progress.now.prefix.len }
+{
+    at >= seam.base && progress.prefix.len <= at - seam.base + seam.edited
 }
 
 // The segments of the replayed prefix, and then others.
@@ -422,14 +439,19 @@ pub fn converge(
     let mut difference = Difference::none(alloc, fork);
     for i in first..old.len() {
         let segment = old.at(i);
-        if at >= seam.base {
+        if is_ahead(&progress, seam, at) {
             if let Some(mark) = segment.mark() {
                 let limits = Limits {
                     to: at - seam.base + seam.edited,
                     open: seam.edited,
                 };
                 progress = advance(alloc, revision, progress, limits, shelf, meter)?;
-                let old_mark = OldMark { index: i, at, mark };
+                let heap = mark.heap(alloc)?;
+                let old_mark = OldMark {
+                    index: i,
+                    at,
+                    mark: heap,
+                };
                 let found = rejoined_at(
                     alloc,
                     revision,
@@ -444,7 +466,15 @@ pub fn converge(
                     let len = revision.ops.len();
                     return Ok(spliced(alloc, prefix, rest, end, len)?);
                 }
-                progress = go_past(alloc, revision, progress, &old_mark, &mut difference, shelf)?;
+                progress = go_past(
+                    alloc,
+                    revision,
+                    progress,
+                    &old_mark,
+                    &mut difference,
+                    &mut divergence,
+                    shelf,
+                )?;
             }
         }
         at += segment.ops().len();

@@ -175,8 +175,7 @@ impl Difference {
         let Some(all) = gathered(alloc, &of_new, revision.segments, self.base, old.index)? else {
             return Ok(None);
         };
-        let kept = old.mark.heap(alloc)?;
-        let keys = found(alloc, &kept, &progress.prefix.end, &all)?;
+        let keys = found(alloc, &old.mark, &progress.prefix.end, &all)?;
         if are_more(&keys, MOST_KEYS) {
             return Ok(None);
         }
@@ -209,13 +208,13 @@ impl Difference {
     }
 }
 
-// Whether one of the first keys that were told of the stretch at an index, or that it names, is soon seen to differ between its checkpoint
-// and a heap. Then the stretch can't be taken over. If not, that says nothing.
+// Whether one of the first keys that were told of the stretch at an index, or that it names, is soon seen to differ between the heap that is
+// kept for its checkpoint and another one. Then the stretch can hardly be taken over. If not, that says nothing.
 fn soon_differ(revision: &Revision, heap: &Heap, index: usize) -> bool
     requires { index < length revision.now.segments.now }
 {
     let segment = revision.segments.at(index);
-    let Some(kept) = segment.heap() else {
+    let Some(kept) = segment.base() else {
         return false;
     };
     let Some(touched) = segment.keys() else {

@@ -4,6 +4,7 @@ ghost use Rattle.ownership_model.specs.State.{State, nothing_held};
 ghost use Rattle.ownership_model.specs.Agrees.{HaveSameRoots};
 ghost use Rattle.agreement.specs.Agreement.{Agree};
 ghost use Rattle.agreement.specs.Meeting.{Meets};
+ghost use Rattle.heap_difference.specs.Differences.{IsDifference};
 ghost use Rattle.run_engine.specs.inner.OldRun.{new_trace};
 ghost use Rattle.run_engine.specs.Segments.{trace_of, AreReplayFrom, IsReached};
 ghost use Rattle.run_engine.specs.inner.Divergence.{IsFork, DifferWithin, IsDivergence, HasFollowed, HasCompared};
@@ -15,6 +16,7 @@ use crate::replay::progress::{Fork, Progress};
 use crate::replay::revision::Revision;
 use crate::segments::blocks::Segments;
 use agreement::{Meeting, Suspects, Trail, are_told_apart, meet, meet_rooted};
+use heap_difference::KeySet;
 use object_heap::Heap;
 use std::alloc::{AllocError, Global};
 
@@ -122,6 +124,30 @@ impl Divergence {
         ensures known { (r : Revision) → IsDivergence r self.old → IsDivergence r self.new }
     {
         are_told_apart(alloc, new, old, &mut self.trail)
+    }
+
+    /// Whether heaps are told apart that differ at some keys alone: by the trail, by their handles, cells and scopes, or else by what the objects
+    /// among the keys lead to. If not, they may agree.
+    pub fn is_apart(
+        &mut self,
+        alloc: Global,
+        new: &Heap,
+        old: &Heap,
+        keys: &KeySet,
+    ) -> Result<bool, AllocError>
+        requires { IsDifference keys.now old.now new.now }
+        ensures apart { IfOk result (λ told. IsTrue told → ¬ (Agree new.now old.now)) }
+        ensures known { (r : Revision) → IsDivergence r self.old → IsDivergence r self.new }
+    {
+        let told = are_told_apart(alloc, new, old, &mut self.trail)?;
+        if told {
+            return Ok(true);
+        }
+        let mut suspects = Suspects::of(alloc, keys.objects.as_slice())?;
+        match meet_rooted(alloc, new, old, &mut suspects, &mut self.trail)? {
+            Meeting::Apart => Ok(true),
+            Meeting::Same | Meeting::Alike(_) => Ok(false),
+        }
     }
 
     /// Compares a heap with an old one that has the same roots, by the suspects where those are known.

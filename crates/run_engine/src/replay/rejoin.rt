@@ -15,7 +15,7 @@ use crate::replay::divergence::Divergence;
 use crate::replay::progress::Progress;
 use crate::replay::revision::Revision;
 use crate::segments::blocks::Segments;
-use agreement::{Checkpoint, Meeting, patch};
+use agreement::{Meeting, patch};
 use object_heap::Heap;
 use std::alloc::{AllocError, Global};
 
@@ -27,12 +27,12 @@ pub struct Rest<'a> {
     pub end: &'a Heap,
 }
 
-/// An old checkpoint: that of the segment at an index, which begins behind so many operations.
+/// An old checkpoint: that of the segment at an index, which begins behind so many operations, and its heap.
 #[derive(Drop)]
-pub struct OldMark<'a> {
+pub struct OldMark {
     pub index: usize,
     pub at: usize,
-    pub mark: Checkpoint<'a>,
+    pub mark: Heap,
 }
 
 /// The rest of the old run from one of its checkpoints on, and its end, as they follow the replayed prefix, where its heap agrees with
@@ -74,8 +74,7 @@ pub fn rejoined_at(
         marks_from at r.0 ≡ marks_from at (drop old.now.index revision.now.segments.now))) }
     ensures known { OnOk result (IsDivergence revision.now divergence.new) }
 {
-    let old_heap = old.mark.heap(alloc)?;
-    let told = divergence.tells_apart(alloc, &progress.prefix.end, &old_heap)?;
+    let told = divergence.tells_apart(alloc, &progress.prefix.end, &old.mark)?;
     if told {
         return Ok(None);
     }
@@ -86,7 +85,7 @@ pub fn rejoined_at(
         from: old.index,
         end: revision.end,
     };
-    let found = rejoined(alloc, &progress.prefix.end, &old_heap, &rest, divergence)?;
+    let found = rejoined(alloc, &progress.prefix.end, &old.mark, &rest, divergence)?;
     Ok(found)
 }
 

@@ -15,8 +15,8 @@ use crate::replay::prefix::{NextStretch, STRIDE};
 use crate::replay::progress::Fork;
 use crate::replay::revision::Revision;
 use crate::segments::blocks::Segments;
+use crate::segments::mark::Mark;
 use crate::segments::seek::segment_at;
-use agreement::Checkpoint;
 use object_heap::Heap;
 use std::alloc::{AllocError, Global};
 use trace_types::limits::MAX_OPS;
@@ -87,12 +87,7 @@ pub fn old_stretch(
 }
 
 // Whether a checkpoint has this heap. Where that is known none is made, and none is walked.
-fn has_heap(
-    alloc: Global,
-    mark: &Checkpoint,
-    heap: &Heap,
-    is_known: bool,
-) -> Result<bool, AllocError>
+fn has_heap(alloc: Global, mark: &Mark, heap: &Heap, is_known: bool) -> Result<bool, AllocError>
     requires { IsTrue is_known → mark.now ≡ heap.now }
     ensures { IfOk result (λ is. IsTrue is → mark.now ≡ heap.now) }
 {

@@ -1,12 +1,14 @@
 //! The names of a replay's checkpoints are touched on a shelf.
-ghost use Rattle.std.specs.Prelude.{◌≡◌, ◌+◌, ◌≤◌, ◌∷◌, [], OnOk, option_to_list};
+ghost use Rattle.std.specs.Prelude.{◌≡◌, ◌+◌, ◌^◌, ◌<◌, ◌≤◌, ◌∷◌, [], OnOk, length, option_to_list};
 ghost use Rattle.std.specs.Ordering.{nat_cmp};
 ghost use Rattle.std.specs.BTreeSet.{contains};
 ghost use Rattle.run_engine.specs.GivenUp.{names_at};
-ghost use Rattle.run_engine.specs.inner.Onward.{cuts, AreAnswered};
+ghost use Rattle.run_engine.specs.Segments.{trace_of};
+ghost use Rattle.run_engine.specs.inner.Onward.{begins, cuts, AreAnswered};
 
 use crate::editing::listing::Listing;
 use crate::replay::prefix::STRIDE;
+use crate::segments::blocks::Segments;
 use crate::segments::names::add_name;
 use mark_shelf::MarkShelf;
 use std::alloc::AllocError;
@@ -29,6 +31,28 @@ pub fn touch_ahead(
     while at < to {
         touch_at(ops, at, shelf, answered)?;
         at += (to - at).min(STRIDE);
+    }
+    Ok(())
+}
+
+/// Touches the names of the inner checkpoints with which segments begin, the first of them at a position, in order, and adds those that are
+/// answered.
+pub fn touch_each(
+    ops: &Listing,
+    from: usize,
+    segments: &Segments,
+    shelf: &mut MarkShelf,
+    answered: &mut BTreeSet<u32>,
+) -> Result<(), AllocError>
+    requires { from + length (trace_of segments.now) < 2 ^ 64 }
+    ensures answered { OnOk result
+        (AreAnswered shelf.old shelf.new (names_at ops.now.ops (begins from segments.now))
+        (contains nat_cmp answered.old) (contains nat_cmp answered.new)) }
+{
+    let mut at = from;
+    for i in 0..segments.len() {
+        touch_at(ops, at, shelf, answered)?;
+        at += segments.at(i).ops().len();
     }
     Ok(())
 }

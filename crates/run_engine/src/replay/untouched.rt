@@ -1,44 +1,55 @@
 //! Old stretches that are taken over though the heaps differ.
-ghost use Rattle.std.specs.Prelude.{◌≡◌, ◌+◌, ◌<◌, ℕ, List, IfOk, IfSome, Some, length, take, drop, true};
-ghost use Rattle.ownership_model.specs.State.{nothing_held};
+ghost use Rattle.std.specs.Prelude.{◌≡◌, ◌+◌, ◌<◌, ◌≤◌, ℕ, List, IfOk, IfSome, IsTrue, OnOk, length, take, drop, true};
+ghost use Rattle.std.specs.Arc.{arc_value};
+ghost use Rattle.ownership_model.specs.State.{State, nothing_held};
 ghost use Rattle.ownership_model.specs.Step.{end_from, AreUnused};
 ghost use Rattle.op_step.specs.Chunk.{Chunk};
+ghost use Rattle.ownership_model.specs.declared.key.Key.{Key};
+ghost use Rattle.heap_difference.specs.KeySets.{is_among};
 ghost use Rattle.heap_difference.specs.Differences.{IsDifference};
-ghost use Rattle.run_engine.specs.NewMarks.{AreNeighbours};
-ghost use Rattle.run_engine.specs.inner.OldRun.{old_trace, old_marks};
+ghost use Rattle.heap_difference.specs.Layers.{IsLaidBy};
+ghost use Rattle.run_engine.specs.inner.OldRun.{old_trace};
 ghost use Rattle.run_engine.specs.inner.Placed.{IsNext};
-ghost use Rattle.run_engine.specs.Segments.{trace_of, has_mark, IsPiece};
-ghost use Rattle.run_engine.specs.Steps.{IsUntouchedStretch};
+ghost use Rattle.run_engine.specs.inner.Divergence.{IsDivergence};
+ghost use Rattle.run_engine.specs.inner.Untouched.{CanBeUnder, MayBeUnder, IsUnder, AreUnder, AreNext};
+ghost use Rattle.run_engine.specs.Segments.{trace_of, has_mark, BeginsMarked};
+ghost use Rattle.run_engine.specs.declared.replay.revision.Revision.{Revision};
 
+use crate::replay::divergence::Divergence;
 use crate::replay::origin::Origin;
 use crate::replay::prefix::NextStretch;
 use crate::replay::rejoin::OldMark;
 use crate::replay::revision::Revision;
 use crate::replay::stretch::{begins_anchored, mark_at};
 use crate::segments::blocks::Segments;
-use heap_difference::{KeySet, Numbers, passed};
+use crate::segments::segment::Segment;
+use heap_difference::{KeySet, Layer, Numbers};
 use object_heap::Heap;
 use std::alloc::{AllocError, Global};
+use std::sync::Arc;
 
-/// How many keys are laid over a checkpoint at most, from edit to edit, before its operations are stepped again.
-const MOST_LAID: usize = 24;
+/// How many keys are laid over a heap that is kept at most, from edit to edit, before its operations are stepped again.
+const MOST_LAID: usize = 64;
+
+/// How many stretches are taken over at once at most.
+const MOST_STRETCHES: usize = 256;
 
 /// How many handles are gone over at most to find the place of one in its scope.
 const NEAR: usize = 32;
 
-/// The old stretch that begins at an old checkpoint, to go on with from a heap that differs there at some keys: if it ends at the next
-/// checkpoint, and is known to touch none of these keys. A handle that differs is to be found soon in its scope, and few keys were laid
-/// over the checkpoint before.
+/// The old stretches, one behind the other, that begin at an old checkpoint, to go on with from a heap that differs there at some keys: each
+/// is one segment, ends at the next checkpoint, and is known to touch none of these keys. A handle that differs is to be found soon in its
+/// scope, and few keys lie over the first of them.
 ///
-/// Its operations and outcomes are shared. The heap behind it is the old one with the difference laid over it. Where the old run has an
-/// anchor it has one as well, and where one is due.
-pub fn untouched_stretch(
+/// Their operations and outcomes are shared. Their heaps are the old ones under one layer, with what differs: none is made but that behind the
+/// last, and it is compared with the old one there. While they may agree, half as many are tried. Old anchors stay.
+pub fn untouched_stretches(
     alloc: Global,
     revision: &Revision,
     heap: &Heap,
     old: &OldMark,
     keys: &KeySet,
-    is_due: bool,
+    divergence: &mut Divergence,
 ) -> Result<Option<NextStretch>, AllocError>
     requires within { old.now.index < length revision.now.segments.now }
     requires place { length (trace_of (take old.now.index revision.now.segments.now)) ≡ old.now.at }
@@ -48,54 +59,196 @@ pub fn untouched_stretch(
     requires unused { AreUnused heap.now
         (trace_of (drop old.now.index revision.now.segments.now)) }
     requires difference { IsDifference keys.now old.now.mark heap.now }
-    ensures gap { IfOk result
-        (λ o. IfSome o (λ p. AreNeighbours (old_marks revision.now) p.len)) }
-    ensures stretch { IfOk result (λ o. IfSome o (λ p.
-        IsUntouchedStretch (old_trace revision.now) (old_marks revision.now) heap.now
-        (trace_of (drop old.now.index revision.now.segments.now)) p.len)) }
-    ensures piece { IfOk result (λ o. IfSome o (λ p.
-        IsPiece heap.now (trace_of (drop old.now.index revision.now.segments.now))
-        p.segments p.end p.len)) }
-    ensures len { IfOk result (λ o. IfSome o (λ p.
-        length (trace_of (take (old.now.index + 1) revision.now.segments.now))
-        ≡ old.now.at + p.len)) }
+    ensures next { IfOk result (λ o. IfSome o (AreNext revision.now.segments.now
+        old.now.index heap.now)) }
     ensures difference { IfOk result (λ o. IfSome o (λ p. IsDifference keys.now
-        (end_from nothing_held (take (old.now.at + p.len) (old_trace revision.now))) p.end)) }
-    ensures next { (chunks : List (ℕ × Chunk)) →
+        (end_from nothing_held (trace_of (take (old.now.index + length p.segments)
+        revision.now.segments.now))) p.end)) }
+    ensures origin { (chunks : List (ℕ × Chunk)) →
         IfOk result (λ o. IfSome o (IsNext chunks heap.now)) }
+    ensures known { (r : Revision) → IsDivergence r divergence.old →
+        OnOk result (IsDivergence r divergence.new) }
 {
-    let segment = revision.segments.at(old.index);
+    let Some(layer) = layer_of(alloc, revision, heap, old.index, keys)? else {
+        return Ok(None);
+    };
+    let mut most = MOST_STRETCHES;
+    while most > 0 {
+        let run = stretches_under(alloc, revision, old.index, &layer, most)?;
+        let count = run.len();
+        let next = apart(alloc, revision, old.index, &layer, run, keys, divergence)?;
+        if let Some(next) = next {
+            return Ok(Some(next));
+        }
+        most = most.min(count) / 2;
+    }
+    Ok(None)
+}
+
+// What stands in a heap at some keys, and at those that lie over the heap that is kept for the old segment at an index: none where these are
+// too many, or where a handle is far from the end of its scope.
+fn layer_of(
+    alloc: Global,
+    revision: &Revision,
+    heap: &Heap,
+    index: usize,
+    keys: &KeySet,
+) -> Result<Option<Arc<Layer>>, AllocError>
+    requires { index < length revision.now.segments.now }
+    ensures from { IfOk result (λ o. IfSome o (λ l. (arc_value l).from ≡ heap.now)) }
+    ensures within { IfOk result (λ o. IfSome o (λ l. (x : Key) →
+        is_among keys.now x ≡ true → is_among (arc_value l).keys x ≡ true)) }
+    ensures laid { IfOk result (λ o. IfSome o (λ l. (old : State) →
+        IsDifference keys.now old heap.now → IsLaidBy (arc_value l) old heap.now)) }
+{
+    let all = match revision.segments.at(index).layer() {
+        None => keys.joined(alloc, &KeySet::none(alloc))?,
+        Some(layer) => keys.joined(alloc, layer.keys())?,
+    };
+    if all.len() > MOST_LAID || !are_near(heap, &all.handles) {
+        return Ok(None);
+    }
+    heap.show_sound();
+    let layer = Layer::of(alloc, heap, all)?;
+    Ok(Some(Arc::new(alloc, layer)?))
+}
+
+// The old segments from an index on as they begin under the layer, as many as may be taken over, and at most so many.
+fn stretches_under(
+    alloc: Global,
+    revision: &Revision,
+    index: usize,
+    layer: &Arc<Layer>,
+    most: usize,
+) -> Result<Segments, AllocError>
+    requires within { index < length revision.now.segments.now }
+    requires kept { has_mark revision.now.segments.now index ≡ true }
+    requires laid { IsLaidBy (arc_value layer.now)
+        (end_from nothing_held (trace_of (take index revision.now.segments.now)))
+        (arc_value layer.now).from }
+    requires unused { AreUnused (arc_value layer.now).from
+        (trace_of (drop index revision.now.segments.now)) }
+    ensures under { IfOk result (AreUnder revision.now.segments.now (arc_value layer.now)
+        index (arc_value layer.now).from) }
+    ensures few { IfOk result (λ run. length run ≤ most) }
+{
+    let end = revision.segments.len().min(index.saturating_add(most));
+    let mut run = Segments::empty(alloc);
+    for i in index..end {
+        let segment = stretch_under(revision, i, layer)?;
+        match segment {
+            None => return Ok(run),
+            Some(segment) => run = run.push(alloc, segment)?,
+        }
+    }
+    Ok(run)
+}
+
+// The old segment at an index as it begins under the layer, if it may be taken over: it has its checkpoint, and so has the next one, or it is
+// the last, and it touches no key of the layer, nor a handle just under one that is put in.
+fn stretch_under(
+    revision: &Revision,
+    i: usize,
+    layer: &Arc<Layer>,
+) -> Result<Option<Segment>, AllocError>
+    requires { MayBeUnder revision.now.segments.now (arc_value layer.now) i }
+    ensures { IfOk result (λ o. IfSome o (λ s. (new : State) →
+        CanBeUnder revision.now.segments.now (arc_value layer.now) i new →
+        IsUnder revision.now.segments.now (arc_value layer.now) i new s)) }
+{
+    let segment = revision.segments.at(i);
     let Some(touched) = segment.keys() else {
         return Ok(None);
     };
-    if segment.laid().saturating_add(keys.len()) > MOST_LAID {
+    if !is_followed(revision.segments, i + 1) {
         return Ok(None);
     }
-    let ops = segment.ops();
-    let outcomes = segment.outcomes();
-    if keys.touches_all(touched, ops, outcomes) {
+    if !layer.is_apart(touched, segment.ops(), segment.outcomes()) {
         return Ok(None);
     }
-    if !are_near(heap, &keys.handles) {
-        return Ok(None);
-    }
-    let next = old.index + 1;
-    let Some(after) = mark_at(alloc, revision.segments, revision.end, next)? else {
+    segment.under(layer)
+}
+
+// Whether the segment at an index begins with its checkpoint, or there is none.
+fn is_followed(old: &Segments, index: usize) -> bool
+    ensures { IsTrue result → BeginsMarked (drop index old.now) }
+{
+    index >= old.len() || old.at(index).is_marked()
+}
+
+// Segments that are taken over, to go on with: none if there is no segment, or if there are more than one and the heaps behind them may agree.
+fn apart(
+    alloc: Global,
+    revision: &Revision,
+    index: usize,
+    layer: &Layer,
+    run: Segments,
+    keys: &KeySet,
+    divergence: &mut Divergence,
+) -> Result<Option<NextStretch>, AllocError>
+    requires under { AreUnder revision.now.segments.now layer.now index layer.now.from run }
+    requires within { (x : Key) → is_among keys.now x ≡ true → is_among layer.now.keys x ≡ true }
+    requires difference { IsDifference keys.now
+        (end_from nothing_held (trace_of (take index revision.now.segments.now))) layer.now.from }
+    ensures next { IfOk result (λ o. IfSome o
+        (AreNext revision.now.segments.now index layer.now.from)) }
+    ensures difference { IfOk result (λ o. IfSome o (λ p. IsDifference keys.now
+        (end_from nothing_held (trace_of (take (index + length p.segments)
+        revision.now.segments.now))) p.end)) }
+    ensures origin { (chunks : List (ℕ × Chunk)) →
+        IfOk result (λ o. IfSome o (IsNext chunks layer.now.from)) }
+    ensures known { (r : Revision) → IsDivergence r divergence.old →
+        OnOk result (IsDivergence r divergence.new) }
+{
+    let count = run.len();
+    let Some(after) = heap_behind(alloc, revision, index, count)? else {
         return Ok(None);
     };
-    let Some(end) = passed(alloc, after, heap, keys, touched, ops, outcomes)? else {
+    let end = layer.laid(alloc, after.share()?)?;
+    if count > 1 {
+        let is_apart = divergence.is_apart(alloc, &end, &after, keys)?;
+        if !is_apart {
+            return Ok(None);
+        }
+    }
+    Ok(Some(next_of(revision, index, run, end)))
+}
+
+// The old heap behind some segments from an index on, where it is kept: none behind no segment.
+fn heap_behind(
+    alloc: Global,
+    revision: &Revision,
+    index: usize,
+    count: usize,
+) -> Result<Option<Heap>, AllocError>
+    requires { index + count ≤ length revision.now.segments.now }
+    ensures some { IfOk result (λ o. IfSome o (λ _. 0 < count)) }
+    ensures heap { IfOk result (λ o. IfSome o (λ h. h ≡ end_from nothing_held
+        (trace_of (take (index + count) revision.now.segments.now)))) }
+{
+    if count == 0 {
         return Ok(None);
-    };
-    let is_anchored = is_due || segment.is_anchored();
-    let begun = segment.beginning(alloc, heap, keys.len(), is_anchored)?;
-    let segments = Segments::empty(alloc).push(alloc, begun)?;
-    Ok(Some(NextStretch {
-        segments,
+    }
+    mark_at(alloc, revision.segments, revision.end, index + count)
+}
+
+// Segments that are taken over from an index on, and the heap behind them, to go on with.
+fn next_of(revision: &Revision, index: usize, run: Segments, end: Heap) -> NextStretch
+    requires { index + length run ≤ length revision.now.segments.now }
+    ensures segments { result.segments ≡ run }
+    ensures len { result.len ≡ length (trace_of run) }
+    ensures end { result.end ≡ end }
+    ensures origin { (chunks : List (ℕ × Chunk)) (start : State) → IsNext chunks start result }
+{
+    let len = run.ops_len();
+    let to_anchor = begins_anchored(revision.segments, index + run.len());
+    NextStretch {
+        segments: run,
         end,
-        len: ops.len(),
+        len,
         origin: Origin::Old,
-        to_anchor: begins_anchored(revision.segments, next),
-    }))
+        to_anchor,
+    }
 }
 
 // Whether each of the handles that the heap holds is soon put into its scope: a handle that doesn't differ stands not far under it, or few

@@ -107,7 +107,7 @@ impl Block {
     pub fn anchors(&self) -> usize {
         let mut count = 0usize;
         for segment in self.stored() {
-            if segment.anchor().is_some() {
+            if segment.is_anchored() {
                 count = count.saturating_add(1);
             }
         }

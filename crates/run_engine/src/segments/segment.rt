@@ -1,15 +1,19 @@
 //! A segment of a run.
-ghost use Rattle.std.specs.Prelude.{◌≡◌, IfOk, IfSome, None, Some, if◌then◌else◌};
+ghost use Rattle.std.specs.Prelude.{◌≡◌, IfOk, IfSome, None, Some, is_some, if◌then◌else◌};
 ghost use Rattle.std.specs.Arc.{arc_value};
-ghost use Rattle.std.specs.Option.{option_copied, option_map};
+ghost use Rattle.std.specs.Option.{option_map};
 ghost use Rattle.trace_types.specs.Trace.{place_of};
+ghost use Rattle.ownership_model.specs.State.{State};
 ghost use Rattle.ownership_model.specs.Step.{outcomes_from};
 ghost use Rattle.heap_difference.specs.Naming.{with_names};
+ghost use Rattle.run_engine.specs.inner.Layered.{standing_at, CanStand, MayStand};
 ghost use Rattle.run_engine.specs.inner.Parts.{AreBetween};
 ghost use Rattle.run_engine.specs.inner.Cleared.{last_name};
-ghost use Rattle.run_engine.specs.inner.Touching.{TouchTheSame, HasTouchedFrom};
+ghost use Rattle.run_engine.specs.inner.Touching.{HasTouchedFrom, shared_keys};
 
 use crate::segments::bounds::{Bounds, bounds_of};
+use crate::segments::kept::{Kept, is_within, layer_in, shared_layer};
+use heap_difference::Layer;
 use object_heap::Heap;
 use op_step::{ChunkRun, Replayed};
 use ownership_model::Key;
@@ -20,20 +24,20 @@ use trace_types::ops::Op;
 use trace_types::outcomes::Outcome;
 use trace_types::sequence::Sequence;
 
-/// Operations with their outcomes, and the heap where they begin, if that is kept: as a checkpoint, as an anchor, or as both. The versions
-/// of a run share all of it: one more of a segment takes a count for each.
+/// Operations with their outcomes, and the heap where they begin, if that is kept: as a checkpoint, as an anchor, or as both. It may be kept
+/// as an older one with a layer over it. The versions of a run share all of it: one more of a segment takes a count for each.
 #[derive(Drop)]
 pub struct Segment {
     mark: Option<Arc<Heap>>,
     anchor: Option<Arc<Heap>>,
+    // what is laid over both
+    layer: Option<Arc<Layer>>,
     // what the operations touch, move or copy from the checkpoint on, and neither they nor their outcomes name, if that is known: in any
     // order, and perhaps more than once
     keys: Option<Arc<Vec<Key>>>,
     body: Arc<Replayed>,
     bounds: Bounds,
     last: Option<u32>,
-    // how many keys were laid over the checkpoint since its operations were stepped
-    laid: usize,
 }
 
 impl Model for Segment {
@@ -49,10 +53,11 @@ impl Model for Segment {
     ghost use Rattle.run_engine.specs.inner.Parts.{AreBetween};
     ghost use Rattle.run_engine.specs.inner.Cleared.{last_name};
     ghost use Rattle.run_engine.specs.inner.Touching.{AreKeysOf, shared_keys};
+    ghost use Rattle.run_engine.specs.inner.Layered.{with_layers, AreLaidBelow};
 
     ghost view = { λ s. record {
-      mark = option_map arc_value s.mark;
-      anchor = option_map arc_value s.anchor;
+      mark = option_map (with_layers (option_map arc_value s.layer)) (option_map arc_value s.mark);
+      anchor = option_map (with_layers (option_map arc_value s.layer)) (option_map arc_value s.anchor);
       ops = (arc_value s.body).ops.items;
       outcomes = (arc_value s.body).outcomes;
     } };
@@ -60,8 +65,11 @@ impl Model for Segment {
     ghost invariant = { λ s.
         AreBetween s.bounds.least s.bounds.greatest (arc_value s.body).ops.items
         × (s.last ≡ last_name (arc_value s.body).ops.items)
-        × AreKeysOf (shared_keys s.keys) (option_map arc_value s.mark)
-        (arc_value s.body).ops.items (arc_value s.body).outcomes };
+        × AreKeysOf (shared_keys s.keys)
+        (option_map (with_layers (option_map arc_value s.layer)) (option_map arc_value s.mark))
+        (arc_value s.body).ops.items (arc_value s.body).outcomes
+        × AreLaidBelow (option_map arc_value s.layer) (option_map arc_value s.mark)
+        × AreLaidBelow (option_map arc_value s.layer) (option_map arc_value s.anchor) };
 }
 
 impl Segment {
@@ -81,11 +89,11 @@ impl Segment {
         Ok(Segment {
             mark: Some(mark),
             anchor,
+            layer: None,
             keys: Some(Arc::try_clone(chunk.keys())?),
             body: Arc::try_clone(chunk.replayed())?,
             bounds: bounds_of(chunk.ops()),
             last: last_id(chunk.ops()),
-            laid: 0,
         })
     }
 
@@ -108,11 +116,11 @@ impl Segment {
         Ok(Segment {
             mark: None,
             anchor,
+            layer: None,
             keys: None,
             body: Arc::new(alloc, Replayed { ops, outcomes })?,
             bounds,
             last,
-            laid: 0,
         })
     }
 
@@ -120,18 +128,14 @@ impl Segment {
     pub fn share(&self) -> Result<Self, AllocError>
         ensures { IfOk result (λ s. s ≡ self.now) }
     {
-        let keys = match &self.keys {
-            None => None,
-            Some(keys) => Some(Arc::try_clone(keys)?),
-        };
         Ok(Segment {
             mark: share_of(&self.mark)?,
             anchor: share_of(&self.anchor)?,
-            keys,
+            layer: shared_layer(&self.layer)?,
+            keys: keys_of(&self.keys)?,
             body: Arc::try_clone(&self.body)?,
             bounds: self.bounds,
             last: self.last,
-            laid: self.laid,
         })
     }
 
@@ -142,50 +146,46 @@ impl Segment {
         Ok(Segment {
             mark: None,
             anchor: share_of(&self.anchor)?,
+            layer: shared_layer(&self.layer)?,
             keys: None,
             body: Arc::try_clone(&self.body)?,
             bounds: self.bounds,
             last: self.last,
-            laid: self.laid,
         })
     }
 
-    /// The same operations and outcomes, which are shared, with a checkpoint where they touch the same as behind the one that they had, if
-    /// they had one. It is an anchor as well if that is wanted, and one that they had goes. So many more keys are laid over it.
-    pub fn beginning(
-        &self,
-        alloc: Global,
-        start: &Heap,
-        more: usize,
-        is_anchored: bool,
-    ) -> Result<Self, AllocError>
-        requires { IfSome self.now.mark (λ m. TouchTheSame m start.now self.now.ops) }
-        ensures { IfOk result
-            (λ s. s ≡ record self.now {
-              mark = Some start.now;
-              anchor = if is_anchored then Some start.now else None;
-            }) }
+    /// The same operations and outcomes where they begin with the heap that a layer makes of their own one, and touch the same as before: all
+    /// is shared, and no heap is made. None if something is laid over it already that is not among the layer's keys.
+    pub fn under(&self, layer: &Arc<Layer>) -> Result<Option<Self>, AllocError>
+        requires { MayStand (arc_value layer.now) self.now }
+        ensures { IfOk result (λ o. IfSome o (λ s. (new : State) →
+            CanStand (arc_value layer.now) self.now new → s ≡ standing_at new self.now)) }
     {
-        let keys = match &self.keys {
-            None => None,
-            Some(keys) => Some(Arc::try_clone(keys)?),
-        };
-        let mark = Arc::new(alloc, start.share()?)?;
-        let anchor = anchor_of(&mark, is_anchored)?;
-        Ok(Segment {
-            mark: Some(mark),
-            anchor,
-            keys,
+        if !is_within(&self.layer, layer) {
+            return Ok(None);
+        }
+        Ok(Some(Segment {
+            mark: share_of(&self.mark)?,
+            anchor: share_of(&self.anchor)?,
+            layer: Some(Arc::try_clone(layer)?),
+            keys: keys_of(&self.keys)?,
             body: Arc::try_clone(&self.body)?,
             bounds: self.bounds,
             last: self.last,
-            laid: self.laid.saturating_add(more),
-        })
+        }))
     }
 
-    /// How many keys were laid over the checkpoint since its operations were stepped.
-    pub fn laid(&self) -> usize {
-        self.laid
+    /// What is laid over its checkpoint and its anchor, if anything is. It is a hint.
+    pub fn layer(&self) -> Option<&Layer> {
+        layer_in(&self.layer)
+    }
+
+    /// The heap that is kept for its checkpoint, before anything is laid over it. It is a hint.
+    pub fn base(&self) -> Option<&Heap> {
+        match &self.mark {
+            None => None,
+            Some(heap) => Some(heap),
+        }
     }
 
     /// The operations, where they stand.
@@ -238,23 +238,37 @@ impl Segment {
         }
     }
 
+    /// Whether there is an anchor where it begins.
+    pub fn is_anchored(&self) -> bool
+        ensures { result ≡ is_some self.now.anchor }
+    {
+        self.anchor.is_some()
+    }
+
     /// The anchor where it begins, if there is one.
-    pub fn anchor(&self) -> Option<&Heap>
-        ensures { option_copied result ≡ self.now.anchor }
+    pub fn anchor(&self) -> Option<Kept<'_>>
+        ensures { result ≡ self.now.anchor }
     {
         match &self.anchor {
             None => None,
-            Some(heap) => Some(heap),
+            Some(heap) => Some(Kept::new(heap, layer_in(&self.layer))),
         }
     }
 
+    /// Whether there is a checkpoint where it begins.
+    pub fn is_marked(&self) -> bool
+        ensures { result ≡ is_some self.now.mark }
+    {
+        self.mark.is_some()
+    }
+
     /// The checkpoint where it begins, if that is kept.
-    pub fn mark(&self) -> Option<&Heap>
-        ensures { option_copied result ≡ self.now.mark }
+    pub fn mark(&self) -> Option<Kept<'_>>
+        ensures { result ≡ self.now.mark }
     {
         match &self.mark {
             None => None,
-            Some(heap) => Some(heap),
+            Some(heap) => Some(Kept::new(heap, layer_in(&self.layer))),
         }
     }
 }
@@ -277,6 +291,16 @@ fn share_of(heap: &Option<Arc<Heap>>) -> Result<Option<Arc<Heap>>, AllocError>
     match heap {
         None => Ok(None),
         Some(heap) => Ok(Some(Arc::try_clone(heap)?)),
+    }
+}
+
+// The keys once more, if they are known.
+fn keys_of(keys: &Option<Arc<Vec<Key>>>) -> Result<Option<Arc<Vec<Key>>>, AllocError>
+    ensures { IfOk result (λ o. shared_keys o ≡ shared_keys keys.now) }
+{
+    match keys {
+        None => Ok(None),
+        Some(keys) => Ok(Some(Arc::try_clone(keys)?)),
     }
 }
 

@@ -1,17 +1,23 @@
 //! A segment as it stands in a run.
-ghost use Rattle.std.specs.Prelude.{◌≡◌, length, is_some, [], ◌∷◌, None, Some, IfOk, IfSome, if◌then◌else◌};
+ghost use Rattle.std.specs.Prelude.{◌≡◌, length, is_some, [], ◌∷◌, IfOk, IfSome};
+ghost use Rattle.std.specs.Arc.{arc_value};
 ghost use Rattle.std.specs.Option.{option_copied};
+ghost use Rattle.ownership_model.specs.State.{State};
 ghost use Rattle.heap_difference.specs.Naming.{with_names};
 ghost use Rattle.run_engine.specs.inner.Cleared.{cleared_if, last_name};
 ghost use Rattle.run_engine.specs.inner.Blocks.{laid_over, AreSoundBelow};
-ghost use Rattle.run_engine.specs.inner.Touching.{TouchTheSame, HasTouchedFrom};
+ghost use Rattle.run_engine.specs.inner.Touching.{HasTouchedFrom};
+ghost use Rattle.run_engine.specs.inner.Layered.{standing_at, CanStand, MayStand};
 
+use crate::segments::mark::Mark;
 use crate::segments::segment::Segment;
-use agreement::{Checkpoint, Exchange};
+use agreement::Exchange;
+use heap_difference::Layer;
 use object_heap::Heap;
 use ownership_model::Key;
 use std::alloc::{AllocError, Global};
 use std::marker::Model;
+use std::sync::Arc;
 use trace_types::ops::Op;
 use trace_types::outcomes::Outcome;
 use trace_types::stretches::Stretch;
@@ -101,80 +107,62 @@ impl<'a> Standing<'a> {
         self.segment.keys()
     }
 
-    /// The same operations and outcomes, which are shared, with a checkpoint where they touch the same as behind the one that stands here,
-    /// if one does. It is an anchor as well if that is wanted, and one that stands here goes. So many more keys are laid over it.
-    pub fn beginning(
-        &self,
-        alloc: Global,
-        start: &Heap,
-        more: usize,
-        is_anchored: bool,
-    ) -> Result<Segment, AllocError>
-        requires { IfSome self.now.mark (λ m. TouchTheSame m start.now self.now.ops) }
-        ensures { IfOk result
-            (λ s. s ≡ record self.now {
-              mark = Some start.now;
-              anchor = if is_anchored then Some start.now else None;
-            }) }
+    /// The same operations and outcomes where they begin with the heap that a layer makes of their own one, and touch the same as before: all
+    /// is shared, and no heap is made. None if something is laid over it that is not among the layer's keys, or is exchanged.
+    pub fn under(&self, layer: &Arc<Layer>) -> Result<Option<Segment>, AllocError>
+        requires { MayStand (arc_value layer.now) self.now }
+        ensures { IfOk result (λ o. IfSome o (λ s. (new : State) →
+            CanStand (arc_value layer.now) self.now new → s ≡ standing_at new self.now)) }
     {
-        if self.is_given_up || self.laid.is_some() {
-            let bare = self.segment.without_mark()?;
-            return bare.beginning(alloc, start, more, is_anchored);
+        if self.is_given_up {
+            return Ok(None);
         }
-        self.segment.beginning(alloc, start, more, is_anchored)
+        match self.laid {
+            None => self.segment.under(layer),
+            Some(_) => Ok(None),
+        }
     }
 
-    /// How many keys were laid over its checkpoint since its operations were stepped.
-    pub fn laid(&self) -> usize {
-        self.segment.laid()
+    /// What is laid over its checkpoint and its anchor, if anything is. It is a hint.
+    pub fn layer(&self) -> Option<&'a Layer> {
+        self.segment.layer()
+    }
+
+    /// The heap that is kept for its checkpoint, before anything is laid over it or exchanged. It is a hint.
+    pub fn base(&self) -> Option<&'a Heap> {
+        self.segment.base()
     }
 
     /// Whether there is a checkpoint where it begins.
     pub fn is_marked(&self) -> bool
         ensures { result ≡ is_some self.now.mark }
     {
-        !self.is_given_up && self.segment.mark().is_some()
-    }
-
-    /// The heap of the checkpoint where it begins, if there is one and nothing is laid over it.
-    pub fn heap(&self) -> Option<&'a Heap>
-        ensures { IfSome result (λ h. self.now.mark ≡ Some h.now) }
-    {
-        if self.is_given_up || self.laid.is_some() {
-            return None;
-        }
-        self.segment.mark()
+        !self.is_given_up && self.segment.is_marked()
     }
 
     /// The checkpoint where it begins, if there is one.
-    pub fn mark(&self) -> Option<Checkpoint<'a>>
+    pub fn mark(&self) -> Option<Mark<'a>>
         ensures { result ≡ self.now.mark }
     {
         if self.is_given_up {
             return None;
         }
-        let heap = self.segment.mark()?;
-        match self.laid {
-            None => Some(Checkpoint::of(heap)),
-            Some(exchange) => Some(Checkpoint::under(heap, exchange)),
-        }
+        let kept = self.segment.mark()?;
+        Some(Mark::new(kept, self.laid))
     }
 
     /// Whether there is an anchor where it begins.
     pub fn is_anchored(&self) -> bool
         ensures { result ≡ is_some self.now.anchor }
     {
-        self.segment.anchor().is_some()
+        self.segment.is_anchored()
     }
 
     /// The anchor where it begins, if there is one.
-    pub fn anchor(&self) -> Option<Checkpoint<'a>>
+    pub fn anchor(&self) -> Option<Mark<'a>>
         ensures { result ≡ self.now.anchor }
     {
-        let heap = self.segment.anchor()?;
-        match self.laid {
-            None => Some(Checkpoint::of(heap)),
-            Some(exchange) => Some(Checkpoint::under(heap, exchange)),
-        }
+        let kept = self.segment.anchor()?;
+        Some(Mark::new(kept, self.laid))
     }
 }

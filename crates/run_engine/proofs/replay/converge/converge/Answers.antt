@@ -14,8 +14,8 @@ use Rattle.std.proofs.Math.Seq.{take-length}
 use Rattle.run_engine.proofs.SegmentLemmas.{length-trace_of-next, trace_of-append}
 use Rattle.run_engine.proofs.PieceLemmas.{mark-is}
 use Rattle.run_engine.proofs.PlaceLemmas.{mark-there, place-within, trace_of-prefix}
-use Rattle.run_engine.proofs.ConvergeLemmas.{IsBeside-first, IsBeside-next, least-agreeing, bounded, ShareEnd-length, IsRunFrom-back, rest-shared, distinct-back, old-unused, new-unused, AgreesAt-here, AgreesAt-there, past-within, IsSpliced, IsSpliced-rest, IsSpliced-end}
-use Rattle.run_engine.proofs.replay.converge.converge.Goals.{then-at-seam+in-Some+in_ok-progress+in_ok-found+in_default-found+in_ok-progress-2, then-at-seam+in_default, else-at-seam}
+use Rattle.run_engine.proofs.ConvergeLemmas.{IsBeside-first, IsBeside-next, least-agreeing, bounded, ShareEnd-length, IsRunFrom-back, rest-shared, distinct-back, old-unused, new-unused, AgreesAt-here, AgreesAt-there, IsPast-seam, IsSpliced, IsSpliced-rest, IsSpliced-end}
+use Rattle.run_engine.proofs.replay.converge.converge.Goals.{then-is_ahead+in-Some+in_ok-progress+in_ok-heap+in_ok-found+in_default-found+in_ok-progress-2, then-is_ahead+in_default, else-is_ahead}
 use Rattle.run_engine.proofs.MarksLemmas.{all_marks-stop, all_marks-rest, IsReached-length}
 use Rattle.run_engine.proofs.LeftLemmas.{left-at-stop, left-at-end}
 use Rattle.run_engine.proofs.DivergenceLemmas.{IsDivergence-fork}
@@ -33,8 +33,8 @@ pub advance-requires : goal.advance-requires
 advance-requires c = record {
   may = record {
     reached = c.loop-i.invariant.beside.reached;
-    order = c.loop-i.invariant.place.order;
-    within = moved-within _ _ c.args.seam.base c.args.seam.edited c.loop-i.at c.requires.shared (place-within c.args.revision.now.segments.now c.loop-i.i c.loop-i.at c.loop-i.invariant.place.place) c.if-at-seam.true;
+    order = (c.is_ahead.ensures.ahead c.if-is_ahead.true).1;
+    within = moved-within _ _ c.args.seam.base c.args.seam.edited c.loop-i.at c.requires.shared (place-within c.args.revision.now.segments.now c.loop-i.i c.loop-i.at c.loop-i.invariant.place.place) (c.is_ahead.ensures.ahead c.if-is_ahead.true).0;
   };
   fork = c.loop-i.invariant.fork;
   placed = c.loop-i.invariant.placed;
@@ -42,7 +42,7 @@ advance-requires c = record {
 
 pub overflow_add-limits : goal.overflow_add-limits
 overflow_add-limits c =
-    let le : c.loop-i.at - c.args.seam.base + c.args.seam.edited ≤ length c.args.revision.now.ops.now.ops = moved-within _ _ c.args.seam.base c.args.seam.edited c.loop-i.at c.requires.shared (place-within c.args.revision.now.segments.now c.loop-i.i c.loop-i.at c.loop-i.invariant.place.place) c.if-at-seam.true in
+    let le : c.loop-i.at - c.args.seam.base + c.args.seam.edited ≤ length c.args.revision.now.ops.now.ops = moved-within _ _ c.args.seam.base c.args.seam.edited c.loop-i.at c.requires.shared (place-within c.args.revision.now.segments.now c.loop-i.i c.loop-i.at c.loop-i.invariant.place.place) (c.is_ahead.ensures.ahead c.if-is_ahead.true).0 in
     omega (arith, c.args.revision.now.holds.trace.few)
 
 pub overflow_add-at : goal.overflow_add-at
@@ -54,38 +54,47 @@ overflow_add-at c =
 
 pub returns-in_err-progress-clause-bound : goal.returns-in_err-progress-clause-bound
 returns-in_err-progress-clause-bound c =
-    bounded _ _ _ _ _ _ _ _ _ _ _ _ _ c.loop-i.invariant.place c.requires.shared c.if-at-seam.true (omega (arith, c.loop-i.invariant.place.rise, c.advance.ensures.metered.rise))
+    bounded _ _ _ _ _ _ _ _ _ _ _ _ _ c.loop-i.invariant.place c.requires.shared (c.is_ahead.ensures.ahead c.if-is_ahead.true).0 (omega (arith, c.loop-i.invariant.place.rise, c.advance.ensures.metered.rise))
+
+pub is_ahead-requires-clause-old : goal.is_ahead-requires-clause-old
+is_ahead-requires-clause-old c = omega (arith, place-within c.args.revision.now.segments.now c.loop-i.i c.loop-i.at c.loop-i.invariant.place.place, c.args.revision.now.holds.kept.trace.few)
+
+pub returns-in_err-heap-clause-bound : goal.returns-in_err-heap-clause-bound
+returns-in_err-heap-clause-bound c =
+    bounded _ _ _ _ _ _ _ _ _ _ _ _ _ c.loop-i.invariant.place c.requires.shared (c.is_ahead.ensures.ahead c.if-is_ahead.true).0 (omega (arith, c.loop-i.invariant.place.rise, c.advance.ensures.metered.rise))
 
 pub returns-in_err-found-clause-bound : goal.returns-in_err-found-clause-bound
 returns-in_err-found-clause-bound c =
-    bounded _ _ _ _ _ _ _ _ _ _ _ _ _ c.loop-i.invariant.place c.requires.shared c.if-at-seam.true (omega (arith, c.loop-i.invariant.place.rise, c.advance.ensures.metered.rise))
+    bounded _ _ _ _ _ _ _ _ _ _ _ _ _ c.loop-i.invariant.place c.requires.shared (c.is_ahead.ensures.ahead c.if-is_ahead.true).0 (omega (arith, c.loop-i.invariant.place.rise, c.advance.ensures.metered.rise))
 
 pub returns-in_err-progress-2-clause-bound : goal.returns-in_err-progress-2-clause-bound
 returns-in_err-progress-2-clause-bound c =
-    bounded _ _ _ _ _ _ _ _ _ _ _ _ _ c.loop-i.invariant.place c.requires.shared c.if-at-seam.true (omega (arith, c.loop-i.invariant.place.rise, c.advance.ensures.metered.rise))
+    bounded _ _ _ _ _ _ _ _ _ _ _ _ _ c.loop-i.invariant.place c.requires.shared (c.is_ahead.ensures.ahead c.if-is_ahead.true).0 (omega (arith, c.loop-i.invariant.place.rise, c.advance.ensures.metered.rise))
 
 pub returns-in_err-spliced-clause-bound : goal.returns-in_err-spliced-clause-bound
 returns-in_err-spliced-clause-bound c =
-    bounded _ _ _ _ _ _ _ _ _ _ _ _ _ c.loop-i.invariant.place c.requires.shared c.if-at-seam.true (omega (arith, c.loop-i.invariant.place.rise, c.advance.ensures.metered.rise))
+    bounded _ _ _ _ _ _ _ _ _ _ _ _ _ c.loop-i.invariant.place c.requires.shared (c.is_ahead.ensures.ahead c.if-is_ahead.true).0 (omega (arith, c.loop-i.invariant.place.rise, c.advance.ensures.metered.rise))
 
 pub returns-in_err-touch_at-clause-bound : goal.returns-in_err-touch_at-clause-bound
 returns-in_err-touch_at-clause-bound c =
-    bounded _ _ _ _ _ _ _ _ _ _ _ _ _ c.loop-i.invariant.place c.requires.shared c.if-at-seam.true (omega (arith, c.loop-i.invariant.place.rise, c.advance.ensures.metered.rise))
+    bounded _ _ _ _ _ _ _ _ _ _ _ _ _ c.loop-i.invariant.place c.requires.shared (c.is_ahead.ensures.ahead c.if-is_ahead.true).0 (omega (arith, c.loop-i.invariant.place.rise, c.advance.ensures.metered.rise))
 
 pub returns-in-Some-found-clause-bound : goal.returns-in-Some-found-clause-bound
 returns-in-Some-found-clause-bound c =
-    bounded _ _ _ _ _ _ _ _ _ _ _ _ _ c.loop-i.invariant.place c.requires.shared c.if-at-seam.true (omega (arith, c.loop-i.invariant.place.rise, c.advance.ensures.metered.rise))
+    bounded _ _ _ _ _ _ _ _ _ _ _ _ _ c.loop-i.invariant.place c.requires.shared (c.is_ahead.ensures.ahead c.if-is_ahead.true).0 (omega (arith, c.loop-i.invariant.place.rise, c.advance.ensures.metered.rise))
 
 pub rejoined_at-requires-clause-place : goal.rejoined_at-requires-clause-place
 rejoined_at-requires-clause-place c = c.loop-i.invariant.place.place
 
 pub rejoined_at-requires-clause-mark : goal.rejoined_at-requires-clause-mark
 rejoined_at-requires-clause-mark c =
-    mark-is c.args.revision.now.segments.now c.loop-i.i c.at-segment.result c.in-Some.mark c.args.revision.now.holds.kept.run.replay (omega (arith, c.loop-i-test.true, c.len-i-end.ensures)) c.at-segment.ensures c.in-Some.ensures
+    c.in_ok-heap.ensures
+    ∙ mark-is c.args.revision.now.segments.now c.loop-i.i c.at-segment.result c.in-Some.mark c.args.revision.now.holds.kept.run.replay (omega (arith, c.loop-i-test.true, c.len-i-end.ensures)) c.at-segment.ensures c.in-Some.ensures
     ∙ ap (end_from nothing_held) (trace_of-prefix c.args.revision.now.segments.now c.loop-i.i c.loop-i.at c.loop-i.invariant.place.place)
 
 pub rejoined_at-requires-clause-run : goal.rejoined_at-requires-clause-run
 rejoined_at-requires-clause-run c =
+    rw c.in_ok-heap.ensures
     (IsRunFrom-back c.args.revision.now.segments.now c.args.revision.now.end.now c.in-Some.mark c.loop-i.i c.at-segment.result c.args.revision.now.holds.kept.run (omega (arith, c.loop-i-test.true, c.len-i-end.ensures)) c.at-segment.ensures c.in-Some.ensures)
 
 pub rejoined_at-requires-clause-distinct : goal.rejoined_at-requires-clause-distinct
@@ -93,6 +102,7 @@ rejoined_at-requires-clause-distinct c = (distinct-back c.args.revision.now.segm
 
 pub rejoined_at-requires-clause-old_unused : goal.rejoined_at-requires-clause-old_unused
 rejoined_at-requires-clause-old_unused c =
+    rw c.in_ok-heap.ensures
     (old-unused c.args.revision.now.segments.now c.args.revision.now.end.now c.in-Some.mark c.loop-i.i c.at-segment.result c.args.revision.now.holds.kept.run c.args.revision.now.holds.kept.trace.distinct (omega (arith, c.loop-i-test.true, c.len-i-end.ensures)) c.at-segment.ensures c.in-Some.ensures)
 
 -- the edited trace ends with the operations of the rest of the old run
@@ -102,7 +112,7 @@ back old ops a b i at x shared place behind there = rest-shared old ops a b i at
 pub rejoined_at-requires-clause-unused : goal.rejoined_at-requires-clause-unused
 rejoined_at-requires-clause-unused c =
     (new-unused c.args.revision.now.ops.now.ops c.in_ok-progress.progress.prefix.len c.in_ok-progress.progress.prefix.segments (drop c.loop-i.i c.args.revision.now.segments.now) c.in_ok-progress.progress.prefix.end c.in_ok-progress.ensures.beside.reached c.args.revision.now.holds.trace.distinct
-    (back c.args.revision.now.segments.now c.args.revision.now.ops.now.ops c.args.seam.base c.args.seam.edited c.loop-i.i c.loop-i.at c.in_ok-progress.progress.prefix.len c.requires.shared c.loop-i.invariant.place.place c.if-at-seam.true c.in_ok-progress.ensures.there))
+    (back c.args.revision.now.segments.now c.args.revision.now.ops.now.ops c.args.seam.base c.args.seam.edited c.loop-i.i c.loop-i.at c.in_ok-progress.progress.prefix.len c.requires.shared c.loop-i.invariant.place.place (c.is_ahead.ensures.ahead c.if-is_ahead.true).0 c.in_ok-progress.ensures.there))
 
 pub go_past-requires-clause-place : goal.go_past-requires-clause-place
 go_past-requires-clause-place c = c.loop-i.invariant.place.place
@@ -113,30 +123,31 @@ go_past-requires-clause-kept c =
 
 pub go_past-requires-clause-mark : goal.go_past-requires-clause-mark
 go_past-requires-clause-mark c =
-    mark-is c.args.revision.now.segments.now c.loop-i.i c.at-segment.result c.in-Some.mark c.args.revision.now.holds.kept.run.replay (omega (arith, c.loop-i-test.true, c.len-i-end.ensures)) c.at-segment.ensures c.in-Some.ensures
+    c.in_ok-heap.ensures
+    ∙ mark-is c.args.revision.now.segments.now c.loop-i.i c.at-segment.result c.in-Some.mark c.args.revision.now.holds.kept.run.replay (omega (arith, c.loop-i-test.true, c.len-i-end.ensures)) c.at-segment.ensures c.in-Some.ensures
     ∙ ap (end_from nothing_held) (trace_of-prefix c.args.revision.now.segments.now c.loop-i.i c.loop-i.at c.loop-i.invariant.place.place)
 
 pub go_past-requires-clause-shared : goal.go_past-requires-clause-shared
 go_past-requires-clause-shared c =
-    back c.args.revision.now.segments.now c.args.revision.now.ops.now.ops c.args.seam.base c.args.seam.edited c.loop-i.i c.loop-i.at c.in_ok-progress.progress.prefix.len c.requires.shared c.loop-i.invariant.place.place c.if-at-seam.true c.in_ok-progress.ensures.there
+    back c.args.revision.now.segments.now c.args.revision.now.ops.now.ops c.args.seam.base c.args.seam.edited c.loop-i.i c.loop-i.at c.in_ok-progress.progress.prefix.len c.requires.shared c.loop-i.invariant.place.place (c.is_ahead.ensures.ahead c.if-is_ahead.true).0 c.in_ok-progress.ensures.there
 
 -- where the old run goes on it has the operations that are left
-rest-is : (c : goal.Joined-divergence-14) → trace_of c.in-Some-found.rest ≡ trace_of (drop c.loop-i.i c.args.revision.now.segments.now)
+rest-is : (c : goal.Joined-divergence-17) → trace_of c.in-Some-found.rest ≡ trace_of (drop c.loop-i.i c.args.revision.now.segments.now)
 rest-is c = rw c.in-Some-found.is at c.in_ok-found.ensures.trace
 
-spliced : (c : goal.Joined-divergence-14) → IsSpliced c.args.revision.now.ops.now.ops (c.in_ok-progress.progress.prefix.segments ++ c.in-Some-found.rest) c.in-Some-found.end
+spliced : (c : goal.Joined-divergence-17) → IsSpliced c.args.revision.now.ops.now.ops (c.in_ok-progress.progress.prefix.segments ++ c.in-Some-found.rest) c.in-Some-found.end
 spliced c =
     let run : IsRunFrom c.in_ok-progress.progress.prefix.end c.in-Some-found.rest c.in-Some-found.end = rw c.in-Some-found.is at c.in_ok-found.ensures.run in
     IsSpliced-rest c.args.revision.now.ops.now.ops c.in_ok-progress.progress.prefix.len c.in_ok-progress.progress.prefix.segments c.in-Some-found.rest c.in_ok-progress.progress.prefix.end c.in-Some-found.end c.in_ok-progress.ensures.beside.reached
-    (rest-is c ∙ back c.args.revision.now.segments.now c.args.revision.now.ops.now.ops c.args.seam.base c.args.seam.edited c.loop-i.i c.loop-i.at c.in_ok-progress.progress.prefix.len c.requires.shared c.loop-i.invariant.place.place c.if-at-seam.true c.in_ok-progress.ensures.there)
+    (rest-is c ∙ back c.args.revision.now.segments.now c.args.revision.now.ops.now.ops c.args.seam.base c.args.seam.edited c.loop-i.i c.loop-i.at c.in_ok-progress.progress.prefix.len c.requires.shared c.loop-i.invariant.place.place (c.is_ahead.ensures.ahead c.if-is_ahead.true).0 c.in_ok-progress.ensures.there)
     run
 
 -- the heaps agree where the replay stops
-agreed : (c : goal.Joined-divergence-14) → AgreesAt (trace_of c.args.revision.now.segments.now) c.args.revision.now.ops.now.ops c.args.seam.base c.args.seam.edited c.loop-i.at
+agreed : (c : goal.Joined-divergence-17) → AgreesAt (trace_of c.args.revision.now.segments.now) c.args.revision.now.ops.now.ops c.args.seam.base c.args.seam.edited c.loop-i.at
 agreed c =
     let m : c.in-Some.mark ≡ end_from nothing_held (trace_of (take c.loop-i.i c.args.revision.now.segments.now)) = mark-is c.args.revision.now.segments.now c.loop-i.i c.at-segment.result c.in-Some.mark c.args.revision.now.holds.kept.run.replay (omega (arith, c.loop-i-test.true, c.len-i-end.ensures)) c.at-segment.ensures c.in-Some.ensures in
     let there : c.in_ok-progress.progress.prefix.len ≡ c.loop-i.at - c.args.seam.base + c.args.seam.edited = c.in_ok-progress.ensures.there in
-    let agree : Agree c.in_ok-progress.progress.prefix.end c.in-Some.mark = c.in_ok-found.ensures.answer.0 (ap is_some c.in-Some-found.is) in
+    let agree : Agree c.in_ok-progress.progress.prefix.end c.in-Some.mark = rw c.in_ok-heap.ensures at (c.in_ok-found.ensures.answer.0 (ap is_some c.in-Some-found.is)) in
     AgreesAt-here (trace_of c.args.revision.now.segments.now) c.args.revision.now.ops.now.ops c.args.seam.base c.args.seam.edited c.loop-i.at c.in_ok-progress.progress.prefix.end c.in-Some.mark
     (c.in_ok-progress.ensures.beside.reached.state ∙ ap (λ x. end_from nothing_held (take x c.args.revision.now.ops.now.ops)) there) (m ∙ ap (end_from nothing_held) (trace_of-prefix c.args.revision.now.segments.now c.loop-i.i c.loop-i.at c.loop-i.invariant.place.place)) agree
 
@@ -158,16 +169,16 @@ returns-in-Some-found-clause-marks c =
     trace_of-append prefix (drop c.loop-i.i old) ∙ ap (λ t. trace_of prefix ++ t) (sym (rest-is c)) ∙ sym (trace_of-append prefix c.in-Some-found.rest) ∙ (spliced c).trace in
     rw (c.in_ok-spliced.ensures.segments, c.in_ok-spliced.ensures.answered)
     (left-at-stop c.args.revision.now.guesses.now c.args.revision.now.segments.now c.args.revision.now.ops.now.ops (marks_from 0 c.args.prefix.segments) (marks_from 0 c.in_ok-progress.progress.prefix.segments) _ c.args.seam.base c.args.seam.edited c.loop-i.i c.loop-i.at c.args.prefix.len c.in_ok-progress.progress.prefix.len c.at-segment.result c.in-Some.mark _ _ _ _ _ _
-    c.args.revision.now.holds.trace.distinct (omega (arith, c.loop-i-test.true, c.len-i-end.ensures)) c.at-segment.ensures (sym c.in-Some.ensures) c.loop-i.invariant.place.place c.if-at-seam.true (agreed c) (least-agreeing _ _ _ _ _ _ _ _ _ _ _ _ c.loop-i.invariant.place) there
+    c.args.revision.now.holds.trace.distinct (omega (arith, c.loop-i-test.true, c.len-i-end.ensures)) c.at-segment.ensures (sym c.in-Some.ensures) c.loop-i.invariant.place.place (c.is_ahead.ensures.ahead c.if-is_ahead.true).0 (agreed c) (least-agreeing _ _ _ _ _ _ _ _ _ _ _ _ c.loop-i.invariant.place) there
     (GoesOn-next _ _ _ _ _ _ _ _ _ _ _ _ c.loop-i.invariant.beside c.in_ok-progress.ensures.beside).onward c.in_ok-touch_at.ensures.answered
     (alike ∙ all_marks-stop c.args.revision.now.segments.now c.in_ok-progress.progress.prefix.segments c.args.revision.now.ops.now.ops c.args.seam.base c.args.seam.edited c.loop-i.i c.loop-i.at c.at-segment.result c.args.revision.now.holds.kept.run.full c.requires.shared (omega (arith, c.loop-i-test.true, c.len-i-end.ensures)) c.at-segment.ensures c.in-Some.mark (sym c.in-Some.ensures)
-    c.loop-i.invariant.place.place c.if-at-seam.true (IsReached-length _ _ _ _ c.in_ok-progress.ensures.beside.reached ∙ there) trace))
+    c.loop-i.invariant.place.place (c.is_ahead.ensures.ahead c.if-is_ahead.true).0 (IsReached-length _ _ _ _ c.in_ok-progress.ensures.beside.reached ∙ there) trace))
 
 pub returns-in-Some-found-clause-stepped : goal.returns-in-Some-found-clause-stepped
 returns-in-Some-found-clause-stepped c =
     AreStepped-stop (record { old = trace_of c.args.revision.now.segments.now; ops = c.args.revision.now.ops.now.ops; base = c.args.seam.base; edited = c.args.seam.edited; marks = all_marks c.args.revision.now.segments.now; chunks = with_guesses c.args.revision.now.guesses.now c.args.shelf.now.chunks }) c.args.prefix.len c.in_ok-progress.progress.prefix.len c.loop-i.at c.args.meter.now _ c.in_ok-progress.ensures.there
     (mark-there c.args.revision.now.segments.now c.loop-i.i c.loop-i.at c.at-segment.result c.in-Some.mark (omega (arith, c.loop-i-test.true, c.len-i-end.ensures)) c.at-segment.ensures (sym c.in-Some.ensures) c.loop-i.invariant.place.place)
-    c.if-at-seam.true (agreed c) (GoesOn-steps _ _ _ _ _ _ _ _ _ (GoesOn-next _ _ _ _ _ _ _ _ _ _ _ _ c.loop-i.invariant.beside c.in_ok-progress.ensures.beside))
+    (c.is_ahead.ensures.ahead c.if-is_ahead.true).0 (agreed c) (GoesOn-steps _ _ _ _ _ _ _ _ _ (GoesOn-next _ _ _ _ _ _ _ _ _ _ _ _ c.loop-i.invariant.beside c.in_ok-progress.ensures.beside))
 
 place-end : (old : List SegmentView) (i at : ℕ) → length old ≤ i → i ≤ length old → length (trace_of (take i old)) ≡ at → at ≡ length (trace_of old)
 place-end old i at ge le e = let n : i ≡ length old = omega arith in sym e ∙ ap (λ j. length (trace_of (take j old))) n ∙ ap (λ ss. length (trace_of ss)) (take-length old)
@@ -219,37 +230,42 @@ returns-clause-bound c =
 pub loop-i-preserved : goal.loop-i-preserved
 loop-i-preserved c =
     let old = c.args.revision.now.segments.now in
-    elim c.if-at-seam.branch [
-      | then-at-seam+in-Some+in_ok-progress+in_ok-found+in_default-found+in_ok-progress-2 w ↦
+    elim c.if-is_ahead.branch [
+      | then-is_ahead+in-Some+in_ok-progress+in_ok-heap+in_ok-found+in_default-found+in_ok-progress-2 w ↦
           let lt : c.loop-i.i < length c.args.revision.now.segments.now = omega (arith, c.loop-i-test.true, c.len-i-end.ensures) in
           let m : w.in-Some.mark ≡ end_from nothing_held (trace_of (take c.loop-i.i c.args.revision.now.segments.now)) = mark-is c.args.revision.now.segments.now c.loop-i.i c.at-segment.result w.in-Some.mark c.args.revision.now.holds.kept.run.replay lt c.at-segment.ensures w.in-Some.ensures in
           let there : w.in_ok-progress.progress.prefix.len ≡ c.loop-i.at - c.args.seam.base + c.args.seam.edited = w.in_ok-progress.ensures.there in
           let prefix = w.in_ok-progress.ensures.beside.reached in
           let rise = w.advance.ensures.metered.rise in
           let past = w.in_ok-progress-2.ensures.beside w.advance.new.meter in
+          let behind = (c.is_ahead.ensures.ahead w.if-is_ahead.true).0 in
+          let next = length-trace_of-next c.args.revision.now.segments.now c.loop-i.i c.at-segment.result lt c.at-segment.ensures ∙ ap (λ n. n + length c.at-segment.result.ops) c.loop-i.invariant.place.place in
           rw (w.progress-is, w.meter-is, w.shelf-is, w.divergence-is, w.difference-is, c.ops.ensures)
           (record {
             place = IsBeside-next c.args.revision.now.segments.now c.args.revision.now.ops.now.ops c.args.seam.base c.args.seam.edited c.args.prefix.len c.args.meter.now c.loop-i.i c.loop-i.at c.loop-i.progress.prefix.len c.loop-i.progress.prefix.segments c.loop-i.progress.prefix.end c.loop-i.meter
                 w.in_ok-progress-2.progress.prefix.len w.in_ok-progress-2.progress.prefix.segments w.in_ok-progress-2.progress.prefix.end w.advance.new.meter c.at-segment.result c.loop-i.invariant.place lt c.at-segment.ensures past.reached
-                (past-within c.args.revision.now.segments.now c.args.seam.base c.args.seam.edited c.loop-i.i c.loop-i.at w.in_ok-progress.progress.prefix.len w.in_ok-progress-2.progress.prefix.len c.at-segment.result lt c.at-segment.ensures c.loop-i.invariant.place.place w.if-at-seam.true there w.in_ok-progress-2.ensures.order)
+                (λ p later passed agrees.
+                IsPast-seam (trace_of c.args.revision.now.segments.now) c.args.revision.now.ops.now.ops c.args.seam.base c.args.seam.edited c.loop-i.at (length (trace_of (take (c.loop-i.i + 1) c.args.revision.now.segments.now))) w.in_ok-progress.progress.prefix.len
+                w.in_ok-progress-2.progress.prefix.len p behind (omega (arith, next)) there w.in_ok-progress-2.ensures.past (omega (arith, next, later)) passed agrees)
                 (omega (arith, c.loop-i.invariant.place.rise, rise, w.in_ok-progress-2.ensures.no_less))
                 (λ marked behind agrees.
                 let agree : Agree w.in_ok-progress.progress.prefix.end w.in-Some.mark = AgreesAt-there (trace_of c.args.revision.now.segments.now) c.args.revision.now.ops.now.ops c.args.seam.base c.args.seam.edited c.loop-i.at w.in_ok-progress.progress.prefix.end w.in-Some.mark (prefix.state ∙ ap (λ x. end_from nothing_held (take x c.args.revision.now.ops.now.ops)) there) (m ∙ ap (end_from nothing_held) (trace_of-prefix c.args.revision.now.segments.now c.loop-i.i c.loop-i.at c.loop-i.invariant.place.place)) agrees in
-                let t : is_some w.in_ok-found.found ≡ true = w.in_ok-found.ensures.answer.1 agree in
+                let t : is_some w.in_ok-found.found ≡ true = w.in_ok-found.ensures.answer.1 (rw w.in_ok-heap.ensures agree) in
                 let f : is_some w.in_ok-found.found ≡ false = ap is_some w.in_default-found.is in
                 cc);
             beside = GoesOn-next _ _ _ _ _ _ _ _ _ _ _ _ (GoesOn-next _ _ _ _ _ _ _ _ _ _ _ _ c.loop-i.invariant.beside w.in_ok-progress.ensures.beside) past;
             fork = w.in_ok-progress-2.ensures.fork;
             placed = w.in_ok-progress-2.ensures.placed;
-            known = w.in_ok-found.ensures.known;
+            known = w.in_ok-progress-2.ensures.divergence;
             different = w.in_ok-progress-2.ensures.known;
             never_less = omega (arith, c.loop-i.invariant.never_less, w.advance.ensures.metered.never_less);
           })
-      | then-at-seam+in_default w ↦
+      | then-is_ahead+in_default w ↦
           rw (w.progress-is, w.meter-is, w.shelf-is, w.divergence-is, w.difference-is, c.ops.ensures)
           (record {
             place = IsBeside-next c.args.revision.now.segments.now c.args.revision.now.ops.now.ops c.args.seam.base c.args.seam.edited c.args.prefix.len c.args.meter.now c.loop-i.i c.loop-i.at c.loop-i.progress.prefix.len c.loop-i.progress.prefix.segments c.loop-i.progress.prefix.end c.loop-i.meter
-                c.loop-i.progress.prefix.len c.loop-i.progress.prefix.segments c.loop-i.progress.prefix.end c.loop-i.meter c.at-segment.result c.loop-i.invariant.place (omega (arith, c.loop-i-test.true, c.len-i-end.ensures)) c.at-segment.ensures c.loop-i.invariant.place.prefix (omega (arith, c.loop-i.invariant.place.order)) c.loop-i.invariant.place.rise
+                c.loop-i.progress.prefix.len c.loop-i.progress.prefix.segments c.loop-i.progress.prefix.end c.loop-i.meter c.at-segment.result c.loop-i.invariant.place (omega (arith, c.loop-i-test.true, c.len-i-end.ensures)) c.at-segment.ensures c.loop-i.invariant.place.prefix
+                (λ p later passed agrees. c.loop-i.invariant.place.ahead p (omega (arith, later)) passed agrees) c.loop-i.invariant.place.rise
                 (λ marked behind agrees. let f : is_some c.at-segment.result.mark ≡ false = ap is_some (sym w.in_default.ensures) in cc);
             beside = c.loop-i.invariant.beside;
             fork = c.loop-i.invariant.fork;
@@ -258,12 +274,13 @@ loop-i-preserved c =
             different = c.loop-i.invariant.different;
             never_less = c.loop-i.invariant.never_less;
           })
-      | else-at-seam w ↦
+      | else-is_ahead w ↦
           rw (w.progress-is, w.meter-is, w.shelf-is, w.divergence-is, w.difference-is, c.ops.ensures)
           (record {
             place = IsBeside-next c.args.revision.now.segments.now c.args.revision.now.ops.now.ops c.args.seam.base c.args.seam.edited c.args.prefix.len c.args.meter.now c.loop-i.i c.loop-i.at c.loop-i.progress.prefix.len c.loop-i.progress.prefix.segments c.loop-i.progress.prefix.end c.loop-i.meter
-                c.loop-i.progress.prefix.len c.loop-i.progress.prefix.segments c.loop-i.progress.prefix.end c.loop-i.meter c.at-segment.result c.loop-i.invariant.place (omega (arith, c.loop-i-test.true, c.len-i-end.ensures)) c.at-segment.ensures c.loop-i.invariant.place.prefix (omega (arith, c.loop-i.invariant.place.order)) c.loop-i.invariant.place.rise
-                (λ marked behind agrees. let lt : c.loop-i.at < c.args.seam.base = w.if-at-seam.false in omega arith);
+                c.loop-i.progress.prefix.len c.loop-i.progress.prefix.segments c.loop-i.progress.prefix.end c.loop-i.meter c.at-segment.result c.loop-i.invariant.place (omega (arith, c.loop-i-test.true, c.len-i-end.ensures)) c.at-segment.ensures c.loop-i.invariant.place.prefix
+                (λ p later passed agrees. c.loop-i.invariant.place.ahead p (omega (arith, later)) passed agrees) c.loop-i.invariant.place.rise
+                (λ marked behind agrees. c.loop-i.invariant.place.ahead c.loop-i.at (omega arith) (c.is_ahead.ensures.behind w.if-is_ahead.false behind) agrees);
             beside = c.loop-i.invariant.beside;
             fork = c.loop-i.invariant.fork;
             placed = c.loop-i.invariant.placed;
