@@ -27,7 +27,7 @@ trace_of-cleared named before (s ∷ segments) =
     ∙ ap (λ ops. ops_of s ++ ops) (trace_of-cleared named (last_name (ops_of s)) segments)
 
 IsSegmentFrom-cleared_if : (m : State) (goes : Bool) (s : SegmentView) → IsSegmentFrom m s → IsSegmentFrom m (cleared_if goes s)
-IsSegmentFrom-cleared_if m true s h = record { mark = tt; anchor = h.anchor; outcomes = h.outcomes }
+IsSegmentFrom-cleared_if m true s h = record { mark = tt; anchor = h.anchor; keys = h.keys; outcomes = h.outcomes }
 IsSegmentFrom-cleared_if m false s h = h
 
 AreReplayFrom-cleared : (named : ℕ → Bool) (before : Option ℕ) (m : State) (segments : List SegmentView) → AreReplayFrom m segments → AreReplayFrom m (cleared named before segments)

@@ -1,6 +1,6 @@
 -- A replay that goes on beside an old one.
-use Rattle.std.proofs.Common.{◌≡◌, ℕ, ◌+◌, ◌-◌, ◌<◌, ◌≤◌, List, [], ◌∷◌, ◌++◌, length, take, drop, get_or, true, ap, sym, subst, ◌∙◌, arith, append_assoc, length-append, length-drop, take-append-drop}
-use Rattle.std.specs.Prelude.{Some, is_some, IsTrue, Contains}
+use Rattle.std.proofs.Common.{◌≡◌, ℕ, ◌+◌, ◌-◌, ◌<◌, ◌≤◌, suc, zero, List, [], ◌∷◌, ◌++◌, length, take, drop, get_or, true, false, refl, ap, sym, subst, ◌∙◌, arith, append_assoc, length-append, length-drop, take-append-drop}
+use Rattle.std.specs.Prelude.{Some, None, Option, is_some, IsTrue, Contains}
 use mathlib.Core.Logic.{⊎_elim}
 use Rattle.std.proofs.lemmas.List.{drop-drop}
 use Rattle.std.proofs.lemmas.List.Elements.{Contains-append_cases}
@@ -10,8 +10,8 @@ use Rattle.trace_types.specs.Operation.{Operation}
 use Rattle.run_engine.specs.SegmentView.{SegmentView}
 use Rattle.trace_types.specs.Trace.{has_distinct_numbers}
 use Rattle.ownership_model.specs.Step.{end_from, AreUnused}
-use Rattle.run_engine.specs.Segments.{trace_of, mark_here, marks_from, AreReplayFrom, AreFull, BeginsMarked, IsRunFrom, IsRun, IsReached, IsPiece, all_marks}
-use Rattle.run_engine.specs.inner.Untouched.{IsPast}
+use Rattle.run_engine.specs.Segments.{ops_of, trace_of, mark_here, marks_from, AreReplayFrom, AreFull, BeginsMarked, IsRunFrom, IsRun, IsReached, IsPiece, all_marks}
+use Rattle.run_engine.specs.inner.Untouched.{IsPast, IsPastMarks, PassesNone}
 use Rattle.run_engine.specs.HeadAndTail.{ShareEnd}
 use Rattle.run_engine.specs.Bounds.{AgreesAt, StepsAtMost}
 use Rattle.ownership_model.proofs.LawsHold.{appends, soundness, agreement_stays}
@@ -24,23 +24,23 @@ use Rattle.run_engine.specs.inner.Difference.{DifferAt}
 use Rattle.run_engine.proofs.SegmentLemmas.{trace_of-append, marks_from-append, AreReplayFrom-append, AreReplayFrom-back, length-trace_of-next}
 use Rattle.run_engine.proofs.ListingLemmas.{around}
 use Rattle.run_engine.proofs.PieceLemmas.{AreFull-append, AreFull-prefix, AreFull-back, BeginsMarked-append, IsReached-next, mark-is, take-rest, unused-behind}
-use Rattle.run_engine.proofs.PlaceLemmas.{Contains-one, mark_here-place, mark_here-some, marks_from-least, trace_of-parted, trace_of-back, place-within, marks_from-below}
+use Rattle.run_engine.proofs.PlaceLemmas.{Contains-one, mark-there, mark_here-place, mark_here-some, marks_from-least, trace_of-parted, trace_of-back, place-within, marks_from-below}
 
 pub ShareEnd-length : (old ops : List Operation) (a b : ℕ) → ShareEnd old ops a b → length old - a ≡ length ops - b
 ShareEnd-length old ops a b h = sym (length-drop a old) ∙ ap length h.same ∙ length-drop b ops
 
 -- a loop over the old segments: it stands at the one at i, which begins at `at`; the replay of the edited trace stands at x. Where it has passed
--- `at`, the states agree nowhere up to there
+-- `at`, the states agree at no old checkpoint up to there
 pub record IsBeside (old : List SegmentView) (ops : List Operation) (a b r before i at x : ℕ) (segments : List SegmentView) (heap : State) (count : ℕ) : Type 0 where
   pub place : length (trace_of (take i old)) ≡ at
   pub prefix : IsReached ops x segments heap
-  pub ahead : (p : ℕ) → at ≤ p → p - a + b < x → AgreesAt (trace_of old) ops a b p → ⊥
+  pub ahead : (p : ℕ) → Contains (all_marks old) p → at ≤ p → p - a + b < x → AgreesAt (trace_of old) ops a b p → ⊥
   pub rise : count + r ≤ before + x
   pub later : (p : ℕ) → Contains (all_marks old) p → a ≤ p → AgreesAt (trace_of old) ops a b p → Contains (marks_from at (drop i old) ++ length (trace_of old) ∷ []) p
 
 pub IsBeside-next : (old : List SegmentView) (ops : List Operation) (a b r before i at x : ℕ) (segments : List SegmentView) (heap : State) (count y : ℕ) (next : List SegmentView) (then : State) (counted : ℕ) (s : SegmentView)
     → IsBeside old ops a b r before i at x segments heap count → i < length old → s ≡ get_or old i s
-    → IsReached ops y next then → ((p : ℕ) → at + length s.ops ≤ p → p - a + b < y → AgreesAt (trace_of old) ops a b p → ⊥) → counted + r ≤ before + y
+    → IsReached ops y next then → ((p : ℕ) → Contains (all_marks old) p → at + length s.ops ≤ p → p - a + b < y → AgreesAt (trace_of old) ops a b p → ⊥) → counted + r ≤ before + y
     → (is_some s.mark ≡ true → a ≤ at → AgreesAt (trace_of old) ops a b at → ⊥)
     → IsBeside old ops a b r before (i + 1) (at + length s.ops) y next then counted
 IsBeside-next old ops a b r before i at x segments heap count y next then counted s h lt is prefix ahead rise differs =
@@ -60,6 +60,12 @@ IsBeside-next old ops a b r before i at x segments heap count y next then counte
           (λ later. later)
           (Contains-append_cases (mark_here at s.mark) rest p (subst (λ ps. Contains ps p) list (h.later p mark behind agrees)));
     }
+
+-- the replay stays where it stands
+pub IsBeside-stays : (old : List SegmentView) (ops : List Operation) (a b r before i at x : ℕ) (segments : List SegmentView) (heap : State) (count : ℕ) (s : SegmentView) → IsBeside old ops a b r before i at x segments heap count
+    → i < length old → s ≡ get_or old i s → (is_some s.mark ≡ true → a ≤ at → AgreesAt (trace_of old) ops a b at → ⊥) → IsBeside old ops a b r before (i + 1) (at + length s.ops) x segments heap count
+IsBeside-stays old ops a b r before i at x segments heap count s h lt is differs =
+    IsBeside-next old ops a b r before i at x segments heap count x segments heap count s h lt is h.prefix (λ p mark later passed agrees. h.ahead p mark (omega (arith, later)) passed agrees) h.rise differs
 
 -- no checkpoint that agrees stands before the loop
 pub least-agreeing : (old : List SegmentView) (ops : List Operation) (a b r before i at x : ℕ) (segments : List SegmentView) (heap : State) (count : ℕ)
@@ -166,7 +172,7 @@ IsBeside-first old ops a b r before i at segments heap full within place early h
     record {
       place = place;
       prefix = h;
-      ahead = λ p there passed agrees. absurd (omega arith);
+      ahead = λ p mark there passed agrees. absurd (omega arith);
       rise = omega arith;
       later = λ p mark behind agrees. ⊎_elim
           (λ prefix.
@@ -223,10 +229,14 @@ IsPast-apart old ops at next from len order distinct distinct_too shared apart p
     apart (subst (λ q. Agree (end_from nothing_held (take (from + len) ops)) (end_from nothing_held (take q old))) old_whole (subst (λ q. Agree (end_from nothing_held (take q ops)) (end_from nothing_held (take (p + n) old))) whole behind))
 
 -- the same from the seam
-pub IsPast-seam : (old ops : List Operation) (a b at next from to p : ℕ) → a ≤ at → at ≤ next → from ≡ at - a + b → IsPast old ops at next from to → next ≤ p → p - a + b < to → AgreesAt old ops a b p → ⊥
-IsPast-seam old ops a b at next from to p behind order there past le passed agrees =
+pub IsPast-seam : (old ops : List Operation) (marks : List ℕ) (a b at next from to p : ℕ) → a ≤ at → at ≤ next → from ≡ at - a + b → IsPastMarks old ops marks at next from to → Contains marks p → next ≤ p → p - a + b < to → AgreesAt old ops a b p → ⊥
+IsPast-seam old ops marks a b at next from to p behind order there past mark le passed agrees =
     let same : p - at + from ≡ p - a + b = omega (arith, there) in
-    past p le (omega (arith, same)) (subst (λ q. Agree (end_from nothing_held (take q ops)) (end_from nothing_held (take p old))) (sym same) agrees)
+    past p mark le (omega (arith, same)) (subst (λ q. Agree (end_from nothing_held (take q ops)) (end_from nothing_held (take p old))) (sym same) agrees)
+
+-- where no old checkpoint is passed the states agree at none
+pub IsPastMarks-none : (old ops : List Operation) (marks : List ℕ) (at next from to : ℕ) → at < next → PassesNone marks at from to → IsPastMarks old ops marks at next from to
+IsPastMarks-none old ops marks at next from to rise none p mark le passed agrees = none p mark (omega (arith, rise, le)) passed
 
 -- behind one segment more there are no fewer operations
 pub trace_of-more : (segments : List SegmentView) (i : ℕ) → length (trace_of (take i segments)) ≤ length (trace_of (take (i + 1) segments))
@@ -234,6 +244,26 @@ trace_of-more segments i =
     let more : trace_of (take (i + 1) segments) ≡ trace_of (take i segments) ++ trace_of (take 1 (drop i segments)) =
     ap trace_of (take-add i 1 segments) ∙ trace_of-append (take i segments) (take 1 (drop i segments)) in
     omega (arith, ap length more, length-append (trace_of (take i segments)) (trace_of (take 1 (drop i segments))))
+
+-- nor are there as many, where that segment isn't empty
+pub trace_of-rises : (segments : List SegmentView) (i : ℕ) → AreFull segments → i < length segments → length (trace_of (take i segments)) < length (trace_of (take (i + 1) segments))
+trace_of-rises [] i full lt = absurd (omega arith)
+trace_of-rises (s ∷ segments) zero full lt = let some = full.0 in omega (arith, length-append (ops_of s) (trace_of []))
+trace_of-rises (s ∷ segments) (suc i) full lt =
+    let h : length (trace_of (take i segments)) < length (trace_of (take (i + 1) segments)) = trace_of-rises segments i full.1 (omega arith) in
+    let more : suc i + 1 ≡ suc (i + 1) = omega arith in
+    let here : length (trace_of (take (suc i) (s ∷ segments))) ≡ length (ops_of s) + length (trace_of (take i segments)) = length-append (ops_of s) (trace_of (take i segments)) in
+    let behind : length (trace_of (take (suc i + 1) (s ∷ segments))) ≡ length (ops_of s) + length (trace_of (take (i + 1) segments)) =
+    ap (λ n. length (trace_of (take n (s ∷ segments)))) more ∙ length-append (ops_of s) (trace_of (take (i + 1) segments)) in
+    omega arith
+
+-- where a segment has its checkpoint, there is one
+pub marked-there : (old : List SegmentView) (i at : ℕ) (s : SegmentView) → i < length old → s ≡ get_or old i s → is_some s.mark ≡ true → length (trace_of (take i old)) ≡ at → Contains (all_marks old) at
+marked-there old i at s lt is marked place = by s.mark refl
+  where
+    by : (o : Option State) → s.mark ≡ o → Contains (all_marks old) at
+    by None e = absurd (let f : is_some s.mark ≡ false = ap is_some e in cc)
+    by (Some m) e = mark-there old i at s m lt is e place
 
 -- ---- operations that are taken over from a position on, and others behind them
 pub over-few : (ops more rest : List Operation) (from : ℕ) → from ≤ length ops → drop from ops ≡ more ++ rest → from + length more ≤ length ops

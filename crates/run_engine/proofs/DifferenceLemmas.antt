@@ -1,6 +1,6 @@
 -- The keys at which a replay and the old run beside it differ.
 use Rattle.std.proofs.Common.{◌≡◌, ℕ, ◌+◌, ◌<◌, ◌≤◌, List, [], ◌∷◌, ◌++◌, length, take, drop, get_or, Bool, true, false, refl, ap, sym, subst, ◌∙◌, arith, append_assoc, append-nil, take-append-drop}
-use Rattle.std.specs.Prelude.{◌||◌, Option, Some, None, IfSome, IsTrue}
+use Rattle.std.specs.Prelude.{◌||◌, Some, IsTrue}
 use Rattle.std.proofs.Math.Seq.{take-length}
 use Rattle.std.proofs.lemmas.List.{length-take}
 use Rattle.trace_types.specs.Operation.{Operation}
@@ -9,18 +9,20 @@ use Rattle.ownership_model.specs.declared.key.Key.{Key}
 use Rattle.ownership_model.specs.declared.key.Key.TheVariants.{Handle, Cell, Object, Scope}
 use Rattle.ownership_model.specs.State.{State, nothing_held, IsSound}
 use Rattle.ownership_model.specs.Step.{step, end_from, AreUnused}
-use Rattle.ownership_model.specs.Alike.{AreWithin}
+use Rattle.ownership_model.specs.Alike.{AreWithin, Covers}
 use Rattle.ownership_model.specs.Footprint.{footprint, moved, footprints_from, moved_from}
 use Rattle.ownership_model.proofs.LawsHold.{appends, soundness}
 use Rattle.heap_difference.specs.declared.key_set.KeySet.{KeySet}
 use Rattle.heap_difference.specs.KeySets.{nothing, is_among, set_of, Has}
 use Rattle.heap_difference.specs.Differences.{IsDifference, HasDifference}
+use Rattle.trace_types.specs.declared.outcomes.Outcome.{Outcome}
+use Rattle.op_step.specs.Told.{replay_keys}
+use Rattle.heap_difference.specs.Naming.{with_names}
 use Rattle.heap_difference.specs.Laws.{HasTouched}
-use Rattle.heap_difference.proofs.KeyLemmas.{among_append, among_set_of}
+use Rattle.heap_difference.proofs.KeyLemmas.{among_append, among_set_of, Has-set_of}
 use Rattle.heap_difference.proofs.LawLemmas.{differences_hold}
 use Rattle.run_engine.specs.SegmentView.{SegmentView}
-use Rattle.run_engine.specs.Segments.{trace_of, AreReplayFrom, IsReached}
-use Rattle.run_engine.specs.inner.Touching.{HasTouchedFrom}
+use Rattle.run_engine.specs.Segments.{trace_of, AreReplayFrom, IsReached, AreKeysFrom}
 use Rattle.run_engine.specs.inner.Difference.{HasGathered}
 use Rattle.run_engine.proofs.ListingLemmas.{take-shorter}
 use Rattle.run_engine.proofs.SegmentLemmas.{trace_of-next}
@@ -28,27 +30,27 @@ use Rattle.run_engine.proofs.PieceLemmas.{segment-at, unused-behind}
 use Rattle.run_engine.proofs.PlaceLemmas.{trace_of-prefix, place-within}
 
 -- ---- what operations in turn touch
-footprints-append : (m : State) (ops more : List Operation) → footprints_from m (ops ++ more) ≡ footprints_from m ops ++ footprints_from (end_from m ops) more
+pub footprints-append : (m : State) (ops more : List Operation) → footprints_from m (ops ++ more) ≡ footprints_from m ops ++ footprints_from (end_from m ops) more
 footprints-append m [] more = refl
 footprints-append m (op ∷ ops) more =
     let s : State = (step m op).state in
     ap (λ ks. footprint m op ++ ks) (footprints-append s ops more) ∙ sym (append_assoc (footprint m op) (footprints_from s ops) (footprints_from (end_from s ops) more))
 
-moved-append : (m : State) (ops more : List Operation) → moved_from m (ops ++ more) ≡ moved_from m ops ++ moved_from (end_from m ops) more
+pub moved-append : (m : State) (ops more : List Operation) → moved_from m (ops ++ more) ≡ moved_from m ops ++ moved_from (end_from m ops) more
 moved-append m [] more = refl
 moved-append m (op ∷ ops) more =
     let s : State = (step m op).state in
     ap (λ ks. moved m op ++ ks) (moved-append s ops more) ∙ sym (append_assoc (moved m op) (moved_from s ops) (moved_from (end_from s ops) more))
 
-within-prefix : (k : Key → Bool) (a b : List Key) → AreWithin k (a ++ b) → AreWithin k a
+pub within-prefix : (k : Key → Bool) (a b : List Key) → AreWithin k (a ++ b) → AreWithin k a
 within-prefix k [] b h = tt
 within-prefix k (x ∷ a) b h = (h.0, within-prefix k a b h.1)
 
-within-back : (k : Key → Bool) (a b : List Key) → AreWithin k (a ++ b) → AreWithin k b
+pub within-back : (k : Key → Bool) (a b : List Key) → AreWithin k (a ++ b) → AreWithin k b
 within-back k [] b h = h
 within-back k (x ∷ a) b h = within-back k a b h.1
 
-within-both : (k : Key → Bool) (a b : List Key) → AreWithin k a → AreWithin k b → AreWithin k (a ++ b)
+pub within-both : (k : Key → Bool) (a b : List Key) → AreWithin k a → AreWithin k b → AreWithin k (a ++ b)
 within-both k [] b h l = l
 within-both k (x ∷ a) b h l = (h.0, within-both k a b h.1 l)
 
@@ -87,9 +89,17 @@ none-among (Object q) h = absurd cc
 none-among (Scope q) h = absurd cc
 
 -- ---- gathering over segments
-touched-there : (keys : List Key) (mark : Option State) (m : State) (ops : List Operation) → HasTouchedFrom keys mark ops → IfSome mark (λ n. n ≡ m) → HasTouched (set_of keys) m ops
-touched-there keys None m ops h is = absurd h
-touched-there keys (Some n) m ops h is = subst (λ s. HasTouched (set_of keys) s ops) is h
+-- keys that were told of operations from a state have all that they touch
+pub told-touched : (told before : List Key) (m : State) (ops : List Operation) (outcomes : List Outcome) → Covers (with_names told ops outcomes) (before ++ replay_keys m ops) → AreKeysFrom m (Some told) ops outcomes
+told-touched told before m ops outcomes cover =
+    let keys : List Key = with_names told ops outcomes in
+    within-back (is_among (set_of keys)) before (replay_keys m ops) (cover (is_among (set_of keys)) (Has-set_of keys).all)
+
+-- what is known of a segment of a replay
+pub touched-there : (segments : List SegmentView) (i : ℕ) (s : SegmentView) (keys : List Key) → AreReplayFrom nothing_held segments → i < length segments → s ≡ get_or segments i s → Some keys ≡ s.keys
+    → HasTouched (set_of (with_names keys s.ops s.outcomes)) (end_from nothing_held (trace_of (take i segments))) s.ops
+touched-there segments i s keys replay lt is known =
+    subst (λ o. AreKeysFrom (end_from nothing_held (trace_of (take i segments))) o s.ops s.outcomes) (sym known) (segment-at nothing_held segments i s replay lt is).keys
 
 -- where a segment begins at the position
 pub HasGathered-none : (segments : List SegmentView) (first at from : ℕ) (told : List Key) → length (trace_of (take first segments)) ≡ at → at ≡ from → told ≡ [] → HasGathered segments from first nothing (set_of told)
@@ -106,7 +116,7 @@ HasGathered-none segments first at from told place e none =
 
 -- behind one more segment
 pub HasGathered-next : (segments : List SegmentView) (from i : ℕ) (s : SegmentView) (told touched all : List Key) → AreReplayFrom nothing_held segments → i < length segments → s ≡ get_or segments i s
-    → HasTouchedFrom touched s.mark s.ops → all ≡ told ++ touched → HasGathered segments from i nothing (set_of told) → HasGathered segments from (i + 1) nothing (set_of all)
+    → HasTouched (set_of touched) (end_from nothing_held (trace_of (take i segments))) s.ops → all ≡ told ++ touched → HasGathered segments from i nothing (set_of told) → HasGathered segments from (i + 1) nothing (set_of all)
 HasGathered-next segments from i s told touched all replay lt is has_told all_is h =
     let m : State = end_from nothing_held (take from (trace_of segments)) in
     let here : State = end_from nothing_held (trace_of (take i segments)) in
@@ -114,7 +124,7 @@ HasGathered-next segments from i s told touched all replay lt is has_told all_is
     let both : (x : Key) → is_among (set_of all) x ≡ (is_among (set_of told) x || is_among (set_of touched) x) = λ x. ap (λ keys. is_among (set_of keys) x) all_is ∙ among_append told touched x in
     let left : (x : Key) → is_among (set_of told) x ≡ true → is_among (set_of all) x ≡ true = λ x e. both x ∙ among-left (is_among (set_of told) x) (is_among (set_of touched) x) e in
     let right : (x : Key) → is_among (set_of touched) x ≡ true → is_among (set_of all) x ≡ true = λ x e. both x ∙ among-right (is_among (set_of told) x) (is_among (set_of touched) x) e in
-    let new : HasTouched (set_of all) here s.ops = HasTouched-more (set_of touched) (set_of all) here s.ops right (touched-there touched s.mark here s.ops has_told (segment-at nothing_held segments i s replay lt is).mark) in
+    let new : HasTouched (set_of all) here s.ops = HasTouched-more (set_of touched) (set_of all) here s.ops right has_told in
     record {
       ops = h.ops ++ s.ops;
       within = h.within;

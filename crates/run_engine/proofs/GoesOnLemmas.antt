@@ -1,5 +1,5 @@
 -- A replay that goes on from a place.
-use Rattle.std.proofs.Common.{ℕ, ◌-◌, List}
+use Rattle.std.proofs.Common.{ℕ, List}
 use Rattle.std.specs.Ordering.{nat_cmp}
 use Rattle.std.specs.BTreeSet.{contains}
 use Rattle.trace_types.specs.Operation.{Operation}

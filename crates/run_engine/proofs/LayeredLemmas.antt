@@ -1,8 +1,6 @@
 -- Segments whose heaps are kept as older ones, over which a layer lies.
-use Rattle.std.proofs.Common.{◌≡◌, List, [], ap, refl, subst, sym, Bool, true}
+use Rattle.std.proofs.Common.{◌≡◌, [], ap, refl, subst, sym, ◌∙◌, Bool, true}
 use Rattle.std.specs.Prelude.{◌||◌, Option, Some, None, IfSome, option_map}
-use Rattle.trace_types.specs.Operation.{Operation}
-use Rattle.trace_types.specs.declared.outcomes.Outcome.{Outcome}
 use Rattle.ownership_model.specs.declared.key.Key.{Key}
 use Rattle.ownership_model.specs.State.{State, IsSound}
 use Rattle.ownership_model.specs.Reach.{has}
@@ -13,9 +11,8 @@ use Rattle.heap_difference.specs.Puts.{ArePuts}
 use Rattle.heap_difference.specs.Laid.{IsLaid}
 use Rattle.heap_difference.specs.Layers.{LayerView, with_layer, IsLaidBy}
 use Rattle.heap_difference.proofs.LayerLemmas.{layers_hold}
-use Rattle.run_engine.specs.inner.Layered.{with_layers, Makes, IsLaidBelow, AreLaidBelow, IsWithin}
-use Rattle.run_engine.specs.inner.Touching.{TouchTheSame, AreKeysOf}
-use Rattle.run_engine.proofs.TouchingLemmas.{AreKeysOf-begun}
+use Rattle.run_engine.specs.SegmentView.{SegmentView}
+use Rattle.run_engine.specs.inner.Layered.{with_layers, Makes, IsLaidBelow, AreLaidBelow, IsWithin, standing_at}
 
 -- what the layer makes of a state under another one, whose keys it has, it makes of the state that is kept
 makes-below : (own : Option LayerView) (l : LayerView) (m new : State) → IsWithin own l → IsLaidBelow own m → Makes l new (with_layers own m) → Makes l new m
@@ -53,9 +50,8 @@ pub none-laid : (kept : Option State) → AreLaidBelow None kept
 none-laid None = tt
 none-laid (Some m) = tt
 
--- the keys of a segment are those where it stands
-pub keys-standing : (keys : Option (List Key)) (mark : Option State) (new : State) (ops : List Operation) (outs : List Outcome) → AreKeysOf keys mark ops outs → IfSome mark (λ m. TouchTheSame m new ops)
-    → AreKeysOf keys (option_map (λ (m : State). new) mark) ops outs
-keys-standing None mark new ops outs h same = tt
-keys-standing (Some k) None new ops outs h same = absurd h
-keys-standing (Some k) (Some m) new ops outs h same = AreKeysOf-begun (Some k) (Some m) new ops outs h same
+-- a segment with no heap stands as it is at each state
+pub stands-bare : (new : State) (s : SegmentView) → s.mark ≡ None → s.anchor ≡ None → s ≡ standing_at new s
+stands-bare new s mark anchor =
+    let same : (o : Option State) → o ≡ None → o ≡ option_map (λ (m : State). new) o = λ o e. e ∙ sym (ap (option_map (λ (m : State). new)) e) in
+    λ i. record s { mark = same s.mark mark i; anchor = same s.anchor anchor i }

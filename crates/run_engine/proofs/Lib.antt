@@ -37,6 +37,6 @@ mod LeftLemmas
 mod DivergenceLemmas
 mod DifferenceLemmas
 mod UntouchedLemmas
-mod TouchingLemmas
 mod LayeredLemmas
 mod OverLemmas
+mod PassedLemmas

@@ -10,7 +10,7 @@ use Rattle.ownership_model.specs.Step.{end_from}
 use Rattle.trace_types.specs.Operation.{Operation}
 use Rattle.op_step.specs.Meter.{raised}
 use Rattle.run_engine.specs.SegmentView.{SegmentView}
-use Rattle.run_engine.specs.Segments.{trace_of, marks_from, bare_segment, IsReached, IsPiece}
+use Rattle.run_engine.specs.Segments.{trace_of, marks_from, HasBare, IsReached, IsPiece}
 use Rattle.run_engine.specs.Marks.{multiples_below}
 use Rattle.run_engine.specs.inner.Loaded.{is_given_up, kept_below}
 use Rattle.run_engine.proofs.PieceLemmas.{IsReached-next, IsReached-bare, marks_from-bare, marks_from-piece}
@@ -81,17 +81,17 @@ IsLoaded-kept ops gone before at to len count segments more heap end h lt there 
 -- it goes on with no checkpoint
 pub IsLoaded-gone : (ops next : List Operation) (gone : List Bool) (before at to count : ℕ) (segments : List SegmentView) (heap : State) (anchor : Option State)
     → IsLoaded ops gone before at segments heap count → at < length ops → to ≡ at + min (length ops - at) 64 → IfSome anchor (λ n. n ≡ heap) → next ≡ slice_range ops at to → is_given_up gone at ≡ true
-    → IsLoaded ops gone before (at + length next) (segments ++ bare_segment anchor heap next ∷ []) (end_from heap next) (raised count (length next))
-IsLoaded-gone ops next gone before at to count segments heap anchor h lt there same is goes =
+    → (more : List SegmentView) → HasBare segments anchor heap next more → IsLoaded ops gone before (at + length next) more (end_from heap next) (raised count (length next))
+IsLoaded-gone ops next gone before at to count segments heap anchor h lt there same is goes more has =
     let counted = h.count_is in
     let within = h.prefix.within in
     let long : length next ≡ to - at = ap length is ∙ omega (arith, length-take (to - at) (drop at ops), length-drop at ops) in
     let cut : to ≡ at + length next = omega arith in
     let pos : 0 < length next = omega arith in
     record {
-      prefix = IsReached-bare ops next at segments heap anchor h.prefix (gone-behind gone at goes) (omega arith) pos same (is ∙ ap (slice_range ops at) cut);
+      prefix = IsReached-bare ops next at segments heap anchor h.prefix (gone-behind gone at goes) (omega arith) pos same (is ∙ ap (slice_range ops at) cut) more has;
       aligned = λ lt2. let z : at % 64 ≡ 0 = h.aligned lt in let c : length next ≡ 64 = omega arith in omega arith;
-      marks = marks_from-bare 0 segments heap anchor next ∙ h.marks
+      marks = marks_from-bare 0 segments more heap anchor next has ∙ h.marks
           ∙ sym (kept-next gone at (at + length next) true (multiples_below-next at (length next) (h.aligned lt) pos (omega arith)) goes ∙ append-nil (kept_below gone at));
       count_is = omega arith;
     }

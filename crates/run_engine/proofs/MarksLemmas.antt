@@ -57,7 +57,7 @@ marks_from-moved a b at (s ∷ segments) le =
     here-moved a b at (Some m) rest = refl
 
 -- the checkpoints from a position on
-after-least : (at n : ℕ) (segments : List SegmentView) (p : ℕ) → at ≤ n → Contains (marks_from at segments ++ n ∷ []) p → at ≤ p
+pub after-least : (at n : ℕ) (segments : List SegmentView) (p : ℕ) → at ≤ n → Contains (marks_from at segments ++ n ∷ []) p → at ≤ p
 after-least at n segments p fits h =
     ⊎_elim (λ x. marks_from-least at segments p x) (λ x. let e : n ≡ p = Contains-one n p x in omega arith) (Contains-append_cases (marks_from at segments) (n ∷ []) p h)
 
@@ -170,11 +170,11 @@ below-restart segments i at full stands =
     ∙ append-nil (marks_from 0 (take i segments))
 
 -- where segments that begin at `at` have their first checkpoint, or where they end, at n
-record HasNext (at : ℕ) (segments : List SegmentView) (n : ℕ) : Type 0 where
-  gap : ℕ
-  after : List ℕ
-  is : marks_from at segments ++ n ∷ [] ≡ (at + gap) ∷ after
-  first : BeginsMarked segments → gap ≡ 0
+pub record HasNext (at : ℕ) (segments : List SegmentView) (n : ℕ) : Type 0 where
+  pub gap : ℕ
+  pub after : List ℕ
+  pub is : marks_from at segments ++ n ∷ [] ≡ (at + gap) ∷ after
+  pub first : BeginsMarked segments → gap ≡ 0
 
 next-behind : (at n : ℕ) (s : SegmentView) (segments : List SegmentView) (o : Option State) → s.mark ≡ o → HasNext (at + length (ops_of s)) segments n → HasNext at (s ∷ segments) n
 next-behind at n s segments None e h =
@@ -192,7 +192,7 @@ next-behind at n s segments (Some m) e h = record {
   first = λ begins. refl;
 }
 
-has-next : (at n : ℕ) (segments : List SegmentView) → n ≡ at + length (trace_of segments) → HasNext at segments n
+pub has-next : (at n : ℕ) (segments : List SegmentView) → n ≡ at + length (trace_of segments) → HasNext at segments n
 has-next at n [] e = record { gap = 0; after = []; is = ap (λ p. p ∷ []) e; first = λ begins. refl }
 has-next at n (s ∷ segments) e =
     let later : n ≡ at + length (ops_of s) + length (trace_of segments) = omega (arith, e, length-append (ops_of s) (trace_of segments)) in

@@ -16,9 +16,9 @@ use Rattle.run_engine.specs.declared.replay.prefix.Prefix.{Prefix}
 use Rattle.run_engine.specs.SegmentView.{SegmentView}
 use Rattle.agreement.specs.Agreement.{Agree}
 use Rattle.run_engine.specs.declared.replay.prefix.NextStretch.{NextStretch}
-use Rattle.run_engine.specs.Segments.{ops_of, trace_of, marks_from, IsReached, IsKept}
+use Rattle.run_engine.specs.Segments.{ops_of, trace_of, marks_from, IsReached, IsKept, IsPiece}
 use Rattle.run_engine.specs.GivenUp.{names_at}
-use Rattle.run_engine.specs.NewMarks.{IsGap}
+use Rattle.run_engine.specs.NewMarks.{IsFirstPart, IsPart, IsGap}
 use Rattle.run_engine.specs.Steps.{IsUntouchedStretch, AreTaken, HaveSteppedOn}
 use Rattle.run_engine.specs.Guesses.{Reusable, with_guesses}
 use Rattle.run_engine.specs.inner.GoesOn.{GoesOn}
@@ -29,6 +29,15 @@ use Rattle.run_engine.proofs.PieceLemmas.{take-rest, marks_from-piece}
 use Rattle.run_engine.proofs.PlaceLemmas.{trace_of-prefix, trace_of-back}
 use Rattle.run_engine.proofs.ConvergeLemmas.{IsReached-rest, trace_of-more, IsPast-apart, over-end, over-far}
 use Rattle.run_engine.proofs.SteppedLemmas.{HaveStepped-next}
+
+-- a part of an old stretch is as long as a first part of it
+part-gap : (marks : List ℕ) (at len : ℕ) → IsPart marks at len → IsFirstPart marks len
+part-gap marks at len h = record {
+  long = h.long;
+  neighbours = h.neighbours;
+  within = let b = h.begins in let e = h.ends in omega arith;
+  enough = h.enough;
+}
 
 -- a replay that stood behind some segments went on by others, whose names are touched: no operation is stepped
 record IsOver (old ops : List Operation) (known : Reusable) (at : ℕ) (segments more : List SegmentView) (heap : State) : Type 0 where
@@ -47,15 +56,19 @@ over-none old ops known at segments heap reached =
       stepped = λ chunks count. subst (λ n. HaveSteppedOn old ops known.marks chunks at n count count) here (λ r start all h some. h);
     }
 
--- one stretch
-over-one : (old ops : List Operation) (known : Reusable) (at : ℕ) (segments : List SegmentView) (heap : State) (s : SegmentView) → IsTrue (has_distinct_numbers ops) → IsReached ops at segments heap
-    → IsTakenOver old known.marks heap (drop at ops) s → (chunks : List (ℕ × Chunk)) (count : ℕ) → HaveSteppedOn old ops known.marks chunks at (at + length (ops_of s)) count count
-over-one old ops known at segments heap s distinct reached taken chunks count =
+-- one stretch, or a part of one
+over-part : (old ops : List Operation) (known : Reusable) (at len : ℕ) (heap : State) → heap ≡ end_from nothing_held (take at ops) → len ≤ length (drop at ops) → IsUntouchedStretch old known.marks heap (drop at ops) len
+    → (chunks : List (ℕ × Chunk)) (count : ℕ) → HaveSteppedOn old ops known.marks chunks at (at + len) count count
+over-part old ops known at len heap here fits stretch chunks count =
     let all : slice_range ops at (length ops) ≡ drop at ops = take-rest at ops in
-    let long : length (ops_of s) ≤ length ops - at = omega (arith, taken.piece.fits, length-drop at ops) in
-    let known_so : AreTaken old known.marks chunks heap (slice_range ops at (length ops)) (length (ops_of s)) count count =
-    inl (inl (inr (subst (λ os. IsUntouchedStretch old known.marks heap os (length (ops_of s))) (sym all) taken.stretch)), refl) in
-    λ r start more h some. HaveStepped-next old ops known.marks chunks more heap r at (length ops) (length (ops_of s)) start count count reached.state long some known_so h
+    let long : len ≤ length ops - at = omega (arith, fits, length-drop at ops) in
+    let known_so : AreTaken old known.marks chunks heap (slice_range ops at (length ops)) len count count =
+    inl (inl (inr (subst (λ os. IsUntouchedStretch old known.marks heap os len) (sym all) stretch)), refl) in
+    λ r start more h some. HaveStepped-next old ops known.marks chunks more heap r at (length ops) len start count count here long some known_so h
+
+over-one : (old ops : List Operation) (known : Reusable) (at : ℕ) (segments : List SegmentView) (heap : State) (s : SegmentView) → IsReached ops at segments heap → IsTakenOver old known.marks heap (drop at ops) s
+    → (chunks : List (ℕ × Chunk)) (count : ℕ) → HaveSteppedOn old ops known.marks chunks at (at + length (ops_of s)) count count
+over-one old ops known at segments heap s reached taken chunks count = over-part old ops known at (length (ops_of s)) heap reached.state taken.piece.fits taken.stretch chunks count
 
 over-next : (old ops : List Operation) (known : Reusable) (at : ℕ) (segments more : List SegmentView) (heap : State) (s : SegmentView) → IsTrue (has_distinct_numbers ops) → IsReached ops at segments heap
     → IsTakenOver old known.marks heap (drop at ops) s → IsOver old ops known (at + length (ops_of s)) (segments ++ s ∷ []) more (end_from heap (ops_of s)) → IsOver old ops known at segments (s ∷ more) heap
@@ -64,7 +77,7 @@ over-next old ops known at segments more heap s distinct reached taken rest =
     let there : mid + length (trace_of more) ≡ at + length (trace_of (s ∷ more)) = omega (arith, length-append (ops_of s) (trace_of more)) in
     let parts : (segments ++ s ∷ []) ++ more ≡ segments ++ s ∷ more = append_assoc segments (s ∷ []) more in
     let end : end_from (end_from heap (ops_of s)) (trace_of more) ≡ end_from heap (trace_of (s ∷ more)) = sym (appends.end heap (ops_of s) (trace_of more)) in
-    let gap : IsGap known (length (ops_of s)) = record { some = taken.piece.some; small = inr (inl (record { long = length (ops_of s); neighbours = taken.stretch.place; within = omega arith; enough = inl refl })) } in
+    let gap : IsGap known (length (ops_of s)) = record { some = taken.piece.some; small = inr (inl (part-gap known.marks taken.stretch.at (length (ops_of s)) taken.stretch.place)) } in
     let marks : marks_from 0 (segments ++ s ∷ []) ≡ marks_from 0 segments ++ at ∷ [] = marks_from-piece ops (drop at ops) at (length (ops_of s)) segments (s ∷ []) heap (end_from heap (ops_of s)) reached taken.piece in
     record {
       reached = subst (λ n. IsReached ops n (segments ++ s ∷ more) (end_from heap (trace_of (s ∷ more)))) there
@@ -74,7 +87,7 @@ over-next old ops known at segments more heap s distinct reached taken rest =
           (IsWay-next ops known at mid (mid + length (trace_of more)) (at ∷ []) (begins mid more) (marks_from 0 segments) (marks_from 0 (segments ++ s ∷ [])) (marks_from 0 ((segments ++ s ∷ []) ++ more)) gone gone (λ id t. t)
           (IsWay-marked ops known at (length (ops_of s)) (marks_from 0 segments) (marks_from 0 (segments ++ s ∷ [])) gone distinct gap marks) (rest.way gone)));
       stepped = λ chunks count. subst (λ n. HaveSteppedOn old ops known.marks chunks at n count count) there
-          (λ r start all h some. rest.stepped chunks count r start all (over-one old ops known at segments heap s distinct reached taken chunks count r start all h some) some);
+          (λ r start all h some. rest.stepped chunks count r start all (over-one old ops known at segments heap s reached taken chunks count r start all h some) some);
     }
 
 over : (old ops : List Operation) (known : Reusable) (at : ℕ) (segments more : List SegmentView) (heap : State) → IsTrue (has_distinct_numbers ops) → IsReached ops at segments heap → AreTakenOver old known.marks heap (drop at ops) more
@@ -97,6 +110,25 @@ GoesOn-over old ops known prefix next more shelf after count distinct reached ta
       reached = rw (segments_are, end_is, len_is) whole.reached;
       onward = rw (segments_are, len_is) (record { more = begins prefix.len more; way = whole.way (contains nat_cmp next.answered); answered = answered });
       stepped = rw len_is (whole.stepped (with_guesses known.guesses shelf.chunks) count);
+    }
+
+-- the same of a part of an old stretch
+pub GoesOn-part : (old ops : List Operation) (known : Reusable) (prefix next : Prefix) (more : NextStretch) (shelf after : Shelf) (count : ℕ) → IsTrue (has_distinct_numbers ops)
+    → IsReached ops prefix.len prefix.segments prefix.end → IsUntouchedStretch old known.marks prefix.end (drop prefix.len ops) more.len → IsPiece prefix.end (drop prefix.len ops) more.segments more.end more.len
+    → AreAnswered shelf after (names_at ops (prefix.len ∷ [])) (contains nat_cmp prefix.answered) (contains nat_cmp next.answered)
+    → next.segments ≡ prefix.segments ++ more.segments → next.end ≡ more.end → next.len ≡ prefix.len + more.len → GoesOn old ops known prefix next shelf after count count
+GoesOn-part old ops known prefix next more shelf after count distinct reached stretch piece answered segments_are end_is len_is =
+    let gap : IsGap known more.len = record { some = piece.some; small = inr (inl (part-gap known.marks stretch.at more.len stretch.place)) } in
+    let marks : marks_from 0 (prefix.segments ++ more.segments) ≡ marks_from 0 prefix.segments ++ prefix.len ∷ [] = marks_from-piece ops (drop prefix.len ops) prefix.len more.len prefix.segments more.segments prefix.end more.end reached piece in
+    record {
+      reached = rw (segments_are, end_is, len_is) (IsReached-rest ops prefix.len more.len prefix.segments more.segments prefix.end more.end reached piece);
+      onward = rw (segments_are, len_is)
+          (record {
+            more = prefix.len ∷ [];
+            way = IsWay-marked ops known prefix.len more.len (marks_from 0 prefix.segments) (marks_from 0 (prefix.segments ++ more.segments)) (contains nat_cmp next.answered) distinct gap marks;
+            answered = answered;
+          });
+      stepped = rw len_is (over-part old ops known prefix.len more.len prefix.end reached.state piece.fits stretch (with_guesses known.guesses shelf.chunks) count);
     }
 
 -- it agrees with the old run at no checkpoint between

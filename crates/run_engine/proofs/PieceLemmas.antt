@@ -9,7 +9,8 @@ use Rattle.trace_types.specs.Operation.{Operation}
 use Rattle.run_engine.specs.SegmentView.{SegmentView}
 use Rattle.trace_types.specs.declared.outcomes.Outcome.{Outcome}
 use Rattle.ownership_model.specs.Step.{end_from, outcomes_from, AreUnused}
-use Rattle.run_engine.specs.Segments.{ops_of, trace_of, mark_here, marks_from, bare_segment, IsSegmentFrom, AreReplayFrom, AreFull, BeginsMarked, IsRun, IsReached, IsPiece}
+use Rattle.ownership_model.specs.declared.key.Key.{Key}
+use Rattle.run_engine.specs.Segments.{ops_of, trace_of, mark_here, marks_from, bare_segment, HasBare, AreKeysFrom, IsSegmentFrom, AreReplayFrom, AreFull, BeginsMarked, IsRun, IsReached, IsPiece}
 use Rattle.trace_types.specs.Trace.{has_distinct_numbers}
 use Rattle.ownership_model.proofs.LawsHold.{appends, soundness}
 use Rattle.run_engine.proofs.ListingLemmas.{around, take-shorter}
@@ -189,15 +190,15 @@ take-next ops next at l to len is whole le within =
     take-shorter len (to - at) (drop at ops) (omega (arith, long)) ∙ ap (λ n. take n (drop at ops)) long ∙ sym next_is
 
 -- one segment is a piece
-pub IsPiece-one : (start end : State) (anchor : Option State) (ops : List Operation) (outcomes : List Outcome) → 0 < length ops → IfSome anchor (λ n. n ≡ start) → outcomes ≡ outcomes_from start ops → end ≡ end_from start ops
-    → IsPiece start ops (record { mark = Some start; anchor = anchor; ops = ops; outcomes = outcomes } ∷ []) end (length ops)
-IsPiece-one start end anchor ops outcomes some same out is =
+pub IsPiece-one : (start end : State) (anchor : Option State) (keys : Option (List Key)) (ops : List Operation) (outcomes : List Outcome) → 0 < length ops → IfSome anchor (λ n. n ≡ start) → AreKeysFrom start keys ops outcomes
+    → outcomes ≡ outcomes_from start ops → end ≡ end_from start ops → IsPiece start ops (record { mark = Some start; anchor = anchor; keys = keys; ops = ops; outcomes = outcomes } ∷ []) end (length ops)
+IsPiece-one start end anchor keys ops outcomes some same told out is =
     let whole : take (length ops) ops ≡ ops = take-length ops in
     record {
       some = some;
       fits = omega arith;
       trace = append-nil ops ∙ sym whole;
-      replay = (record { mark = refl; anchor = same; outcomes = out }, tt);
+      replay = (record { mark = refl; anchor = same; keys = told; outcomes = out }, tt);
       full = (some, tt);
       begins = refl;
       state = is ∙ ap (end_from start) (sym whole);
@@ -211,29 +212,30 @@ anchored start false = tt
 
 -- behind some operations a replay goes on by a segment with no checkpoint
 pub IsReached-bare : (ops next : List Operation) (at : ℕ) (segments : List SegmentView) (heap : State) (anchor : Option State) → IsReached ops at segments heap → 0 < at → at + length next ≤ length ops → 0 < length next
-    → IfSome anchor (λ n. n ≡ heap) → next ≡ slice_range ops at (at + length next) → IsReached ops (at + length next) (segments ++ bare_segment anchor heap next ∷ []) (end_from heap next)
-IsReached-bare ops next at segments heap anchor h pos within some same is =
+    → IfSome anchor (λ n. n ≡ heap) → next ≡ slice_range ops at (at + length next) → (more : List SegmentView) → HasBare segments anchor heap next more → IsReached ops (at + length next) more (end_from heap next)
+IsReached-bare ops next at segments heap anchor h pos within some same is more has =
     let cut : at + length next - at ≡ length next = omega arith in
     let part : next ≡ take (length next) (drop at ops) = is ∙ ap (λ n. take n (drop at ops)) cut in
     let here : heap ≡ end_from nothing_held (trace_of segments) = h.state ∙ ap (end_from nothing_held) (sym h.trace) in
-    let bare : SegmentView = bare_segment anchor heap next in
+    let bare : SegmentView = bare_segment anchor heap has.keys next in
     let whole : take at ops ++ next ≡ take (at + length next) ops = ap (λ xs. take at ops ++ xs) part ∙ sym (take-add at (length next) ops) in
-    record {
+    subst (λ ss. IsReached ops (at + length next) ss (end_from heap next)) (sym has.segments_are) (record {
       within = within;
       trace = trace_of-append segments (bare ∷ []) ∙ ap (λ xs. trace_of segments ++ xs) (append-nil next) ∙ ap (λ xs. xs ++ next) h.trace ∙ whole;
-      replay = AreReplayFrom-append nothing_held segments (bare ∷ []) h.replay (subst (λ m. AreReplayFrom m (bare ∷ [])) here (record { mark = tt; anchor = same; outcomes = refl }, tt));
+      replay = AreReplayFrom-append nothing_held segments (bare ∷ []) h.replay (subst (λ m. AreReplayFrom m (bare ∷ [])) here (record { mark = tt; anchor = same; keys = has.touched; outcomes = refl }, tt));
       full = AreFull-append segments (bare ∷ []) h.full (some, tt);
       begins = begins segments (ap length h.trace ∙ omega (arith, length-take at ops)) h.begins;
       state = ap (λ m. end_from m next) h.state ∙ sym (appends.end nothing_held (take at ops) next) ∙ ap (end_from nothing_held) whole;
-    }
+    })
   where
-    begins : (ss : List SegmentView) → length (trace_of ss) ≡ at → BeginsMarked ss → BeginsMarked (ss ++ bare_segment anchor heap next ∷ [])
+    begins : (ss : List SegmentView) → length (trace_of ss) ≡ at → BeginsMarked ss → BeginsMarked (ss ++ bare_segment anchor heap has.keys next ∷ [])
     begins [] e b = absurd (omega arith)
     begins (s ∷ ss) e b = b
 
 -- it has the checkpoints of before
-pub marks_from-bare : (at : ℕ) (segments : List SegmentView) (heap : State) (anchor : Option State) (next : List Operation) → marks_from at (segments ++ bare_segment anchor heap next ∷ []) ≡ marks_from at segments
-marks_from-bare at segments heap anchor next = marks_from-append at segments (bare_segment anchor heap next ∷ []) ∙ append-nil (marks_from at segments)
+pub marks_from-bare : (at : ℕ) (segments more : List SegmentView) (heap : State) (anchor : Option State) (next : List Operation) → HasBare segments anchor heap next more → marks_from at more ≡ marks_from at segments
+marks_from-bare at segments more heap anchor next has =
+    ap (marks_from at) has.segments_are ∙ marks_from-append at segments (bare_segment anchor heap has.keys next ∷ []) ∙ append-nil (marks_from at segments)
 
 -- a piece has one more checkpoint, where it begins
 pub marks_from-piece : (ops rest : List Operation) (at len : ℕ) (segments more : List SegmentView) (heap end : State) → IsReached ops at segments heap → IsPiece heap rest more end len

@@ -94,6 +94,7 @@ replay-behind new old x p (s ∷ later) h replay =
       record {
         mark = patched-mark x (end_from new p) (end_from old p) s.mark here.state replay.0.mark;
         anchor = patched-mark x (end_from new p) (end_from old p) s.anchor here.state replay.0.anchor;
+        keys = tt;
         outcomes = replay.0.outcomes ∙ sym stop.outcomes;
       },
       subst (λ m. AreReplayFrom m (map (exchanged x) later)) (appends.end new p (ops_of s))

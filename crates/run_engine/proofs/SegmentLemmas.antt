@@ -63,7 +63,7 @@ trace_of-without_mark (s ∷ segments) (suc i) = ap (λ ops. ops_of s ++ ops) (t
 
 pub AreReplayFrom-without_mark : (m : State) (segments : List SegmentView) (i : ℕ) → AreReplayFrom m segments → AreReplayFrom m (without_mark segments i)
 AreReplayFrom-without_mark m [] i h = tt
-AreReplayFrom-without_mark m (s ∷ segments) zero h = (record { mark = tt; anchor = h.0.anchor; outcomes = h.0.outcomes }, h.1)
+AreReplayFrom-without_mark m (s ∷ segments) zero h = (record { mark = tt; anchor = h.0.anchor; keys = h.0.keys; outcomes = h.0.outcomes }, h.1)
 AreReplayFrom-without_mark m (s ∷ segments) (suc i) h = (h.0, AreReplayFrom-without_mark (end_from m (ops_of s)) segments i h.1)
 
 pub without_mark-set : (segments : List SegmentView) (i : ℕ) (s : SegmentView) → i < length segments → s ≡ get_or segments i s → set segments i (record s { mark = None }) ≡ without_mark segments i

@@ -72,8 +72,9 @@ wider-untouched : (old : List Operation) (marks : List ℕ) (start heap : State)
     → IsUntouchedStretch old marks heap (slice_range ops at to) len → IsUntouchedStretch old marks start (drop at ops) len
 wider-untouched old marks start heap ops at to len is le h =
     let same : take len (slice_range ops at to) ≡ take len (drop at ops) = take-shorter len (to - at) (drop at ops) le in
-    let m : State = end_from nothing_held (take h.place.at old) in
+    let m : State = end_from nothing_held (take h.at old) in
     record {
+      at = h.at;
       place = h.place;
       ops_are = h.ops_are ∙ same;
       keys = h.keys;

@@ -3,9 +3,11 @@ use Rattle.std.proofs.Common.{◌≡◌, ℕ, ◌+◌, ◌<◌, ◌≤◌, zero,
 use Rattle.std.specs.Prelude.{◌||◌, Option, Some, None, is_some, IfSome, IsTrue, option_map}
 use Rattle.std.proofs.lemmas.List.{append-nil, append_assoc, drop-drop}
 use Rattle.std.specs.List.{list_any}
+use mathlib.Core.Logic.{inl}
 use Rattle.std.proofs.Math.Seq.{take-append_seam, drop-append_seam}
 use Rattle.trace_types.specs.Operation.{Operation}
 use Rattle.trace_types.specs.Trace.{has_distinct_numbers}
+use Rattle.trace_types.specs.declared.outcomes.Outcome.{Outcome}
 use Rattle.ownership_model.specs.declared.key.Key.{Key}
 use Rattle.ownership_model.specs.State.{State, IsSound, nothing_held}
 use Rattle.ownership_model.specs.Step.{end_from, outcomes_from, AreUnused}
@@ -16,6 +18,7 @@ use Rattle.heap_difference.specs.declared.key_set.KeySet.{KeySet}
 use Rattle.heap_difference.specs.KeySets.{is_among, meet, set_of}
 use Rattle.heap_difference.specs.Differences.{outside, IsDifference}
 use Rattle.heap_difference.specs.Laws.{HasTouched, IsPassed}
+use Rattle.heap_difference.specs.Naming.{with_names}
 use Rattle.heap_difference.specs.Puts.{AreUndersApart}
 use Rattle.heap_difference.specs.Layers.{LayerView, with_layer, IsLaidBy}
 use Rattle.heap_difference.proofs.KeyLemmas.{meet_listed}
@@ -24,46 +27,49 @@ use Rattle.heap_difference.proofs.LayerLemmas.{layers_hold}
 use Rattle.agreement.specs.Agreement.{Agree}
 use Rattle.run_engine.specs.declared.replay.prefix.NextStretch.{NextStretch}
 use Rattle.run_engine.specs.SegmentView.{SegmentView}
-use Rattle.run_engine.specs.Segments.{ops_of, trace_of, mark_here, all_marks, has_mark, AreReplayFrom, AreFull, BeginsMarked, IsKept, IsPiece}
+use Rattle.run_engine.specs.Segments.{ops_of, trace_of, mark_here, all_marks, has_mark, AreKeysFrom, IsSegmentFrom, AreReplayFrom, AreFull, BeginsMarked, IsKept, IsPiece}
 use Rattle.run_engine.specs.Steps.{IsUntouchedStretch}
-use Rattle.run_engine.specs.inner.Touching.{TouchTheSame, HasTouchedFrom}
-use Rattle.run_engine.specs.inner.Layered.{Makes, CanStand, standing_at}
-use Rattle.run_engine.specs.inner.Untouched.{IsTakenOver, AreTakenOver, AreAmong, CanBeUnder, IsUnder, AreUnder, AreNext}
+use Rattle.run_engine.specs.inner.Touching.{TouchTheSame}
+use Rattle.run_engine.specs.inner.Layered.{Makes, CanStand, standing_at, started_at}
+use Rattle.run_engine.specs.inner.Untouched.{IsTakenOver, AreTakenOver, AreAmong, CanBeUnder, IsClear, IsUnder, AreUnder, AreNext, IsPassedOver}
 use Rattle.run_engine.proofs.ListingLemmas.{around}
 use Rattle.run_engine.proofs.SegmentLemmas.{trace_of-next, trace_of-append}
-use Rattle.run_engine.proofs.PieceLemmas.{AreFull-back, mark-at, segment-at, unused-behind}
+use Rattle.run_engine.proofs.DifferenceLemmas.{touched-there}
+use Rattle.run_engine.proofs.PieceLemmas.{AreFull-back, segment-at, unused-behind}
 use Rattle.run_engine.proofs.PlaceLemmas.{trace_of-prefix, trace_of-back, trace_of-parted}
 use Rattle.run_engine.proofs.ConvergeLemmas.{distinct-back}
 use Rattle.run_engine.proofs.MarksLemmas.{IsFollowed, segment-followed}
 
--- the segment at i of an old run begins with its checkpoint
-pub record IsMarkedAt (old : List SegmentView) (i : ℕ) (m : State) (s : SegmentView) : Type 0 where
+-- a segment of an old run, and the state where it begins
+pub record IsAt (old : List SegmentView) (i : ℕ) (m : State) (s : SegmentView) : Type 0 where
   pub within : i < length old
   pub is : s ≡ get_or old i s
-  pub mark : s.mark ≡ Some m
   pub here : m ≡ end_from nothing_held (trace_of (take i old))
 
--- so it does where it is known what it touches
-IsMarkedAt-touched : (old : List SegmentView) (i : ℕ) (s : SegmentView) (keys : List Key) → AreReplayFrom nothing_held old → i < length old → s ≡ get_or old i s → HasTouchedFrom keys s.mark (ops_of s)
-    → IsMarkedAt old i (end_from nothing_held (trace_of (take i old))) s
-IsMarkedAt-touched old i s keys replay lt is touched =
-    record { within = lt; is = is; mark = at s.mark touched (mark-at nothing_held old i s replay lt is); here = refl }
-  where
-    at : (o : Option State) → HasTouchedFrom keys o (ops_of s) → IfSome o (λ n. n ≡ end_from nothing_held (trace_of (take i old))) → o ≡ Some (end_from nothing_held (trace_of (take i old)))
-    at None h e = absurd h
-    at (Some n) h e = ap Some e
-
 -- the operations from there on are those of the segment, and then others
-rest-here : (old : List SegmentView) (i : ℕ) (m : State) (s : SegmentView) → IsMarkedAt old i m s → trace_of (drop i old) ≡ ops_of s ++ trace_of (drop (i + 1) old)
+rest-here : (old : List SegmentView) (i : ℕ) (m : State) (s : SegmentView) → IsAt old i m s → trace_of (drop i old) ≡ ops_of s ++ trace_of (drop (i + 1) old)
 rest-here old i m s h = ap trace_of (around old i s h.within h.is)
 
-first-here : (old : List SegmentView) (i : ℕ) (m : State) (s : SegmentView) → IsMarkedAt old i m s → take (length (ops_of s)) (trace_of (drop i old)) ≡ ops_of s
+first-here : (old : List SegmentView) (i : ℕ) (m : State) (s : SegmentView) → IsAt old i m s → take (length (ops_of s)) (trace_of (drop i old)) ≡ ops_of s
 first-here old i m s h = ap (take (length (ops_of s))) (rest-here old i m s h) ∙ take-append_seam (ops_of s) (trace_of (drop (i + 1) old))
 
 -- where the replay of the segment ends
-end-here : (old : List SegmentView) (i : ℕ) (m : State) (s : SegmentView) → IsMarkedAt old i m s → end_from nothing_held (trace_of (take (i + 1) old)) ≡ end_from m (ops_of s)
+end-here : (old : List SegmentView) (i : ℕ) (m : State) (s : SegmentView) → IsAt old i m s → end_from nothing_held (trace_of (take (i + 1) old)) ≡ end_from m (ops_of s)
 end-here old i m s h =
     ap (end_from nothing_held) (trace_of-next old i s h.within h.is) ∙ appends.end nothing_held (trace_of (take i old)) (ops_of s) ∙ ap (λ n. end_from n (ops_of s)) (sym h.here)
+
+-- it is a segment from there
+from-here : (old : List SegmentView) (i : ℕ) (m : State) (s : SegmentView) → IsAt old i m s → AreReplayFrom nothing_held old → IsSegmentFrom m s
+from-here old i m s h replay = subst (λ n. IsSegmentFrom n s) (sym h.here) (segment-at nothing_held old i s replay h.within h.is)
+
+-- no segment is empty
+full-here : (old : List SegmentView) (i : ℕ) (m : State) (s : SegmentView) → IsAt old i m s → AreFull old → 0 < length (ops_of s)
+full-here old i m s h full = (subst AreFull (around old i s h.within h.is) (AreFull-back (take i old) (drop i old) (subst AreFull (sym (take-append-drop i old)) full))).0
+
+-- a checkpoint that is there is the state
+marked-here : (o : Option State) (m : State) → is_some o ≡ true → IfSome o (λ n. n ≡ m) → o ≡ Some m
+marked-here None m t is = absurd cc
+marked-here (Some n) m t is = ap Some is
 
 -- there are no more segments than operations
 pub full-few : (segments : List SegmentView) → AreFull segments → length segments ≤ length (trace_of segments)
@@ -88,8 +94,8 @@ less-apart : (d : KeySet) (l : LayerView) (keys : List Key) → AreAmong d l →
 less-apart d l keys among none = sym (meet_listed d keys) ∙ none-listed (is_among d) (is_among l.keys) among keys (meet_listed l.keys keys ∙ none)
 
 -- what is known where the segment may begin with a new state that a layer makes of the old one: its operations touch none of the layer's keys
-record IsClear (old : List SegmentView) (i : ℕ) (m new : State) (s : SegmentView) (l : LayerView) (keys : List Key) : Type 0 where
-  marked : IsMarkedAt old i m s
+record IsUnderHere (old : List SegmentView) (i : ℕ) (m new : State) (s : SegmentView) (l : LayerView) (keys : List Key) : Type 0 where
+  at : IsAt old i m s
   sound : IsSound m []
   laid : IsLaidBy l m new
   unused : AreUnused new (trace_of (drop i old))
@@ -102,21 +108,21 @@ record IsClear (old : List SegmentView) (i : ℕ) (m new : State) (s : SegmentVi
   unders : AreUndersApart (set_of keys) l.puts
 
 -- an old state is sound
-sound-at : (old : List SegmentView) (i : ℕ) → IsTrue (has_distinct_numbers (trace_of old)) → IsSound (end_from nothing_held (trace_of (take i old))) []
+pub sound-at : (old : List SegmentView) (i : ℕ) → IsTrue (has_distinct_numbers (trace_of old)) → IsSound (end_from nothing_held (trace_of (take i old))) []
 sound-at old i distinct =
     let prefix : List Operation = trace_of (take i old) in
     let whole : IsTrue (has_distinct_numbers (prefix ++ trace_of (drop i old))) = subst (λ ops. IsTrue (has_distinct_numbers ops)) (sym (trace_of-parted old i)) distinct in
     (soundness.replays nothing_held prefix soundness.start (appends.distinct_front prefix (trace_of (drop i old)) whole) (soundness.unused prefix)).1
 
-clear-here : (old : List SegmentView) (i : ℕ) (m new : State) (s : SegmentView) (l : LayerView) (keys : List Key) → IsMarkedAt old i m s → IsTrue (has_distinct_numbers (trace_of old)) → IsLaidBy l m new → AreUnused new (trace_of (drop i old))
-    → HasTouchedFrom keys s.mark (ops_of s) → (meet l.keys (set_of keys) ≡ false) × AreUndersApart (set_of keys) l.puts → IsClear old i m new s l keys
+clear-here : (old : List SegmentView) (i : ℕ) (m new : State) (s : SegmentView) (l : LayerView) (keys : List Key) → IsAt old i m s → IsTrue (has_distinct_numbers (trace_of old)) → IsLaidBy l m new → AreUnused new (trace_of (drop i old))
+    → HasTouched (set_of keys) m (ops_of s) → (meet l.keys (set_of keys) ≡ false) × AreUndersApart (set_of keys) l.puts → IsUnderHere old i m new s l keys
 clear-here old i m new s l keys h distinct laid unused touched apart =
     let prefix : List Operation = trace_of (take i old) in
     let rest : List Operation = trace_of (drop (i + 1) old) in
     let whole : IsTrue (has_distinct_numbers (prefix ++ trace_of (drop i old))) = subst (λ ops. IsTrue (has_distinct_numbers ops)) (sym (trace_of-parted old i)) distinct in
     let behind : IsTrue (has_distinct_numbers (trace_of (drop i old))) = distinct-back old i distinct in
     record {
-      marked = h;
+      at = h;
       sound = subst (λ n. IsSound n []) (sym h.here) (sound-at old i distinct);
       laid = laid;
       unused = unused;
@@ -124,102 +130,217 @@ clear-here old i m new s l keys h distinct laid unused touched apart =
       old_unused = appends.unused_front m (ops_of s) rest (subst (AreUnused m) (rest-here old i m s h) (subst (λ n. AreUnused n (trace_of (drop i old))) (sym h.here) (unused-behind prefix (trace_of (drop i old)) whole)));
       distinct = behind;
       distinct_here = appends.distinct_front (ops_of s) rest (subst (λ ops. IsTrue (has_distinct_numbers ops)) (rest-here old i m s h) behind);
-      touched = subst (λ o. HasTouchedFrom keys o (ops_of s)) h.mark touched;
+      touched = touched;
       apart = apart.0;
       unders = apart.1;
     }
 
+-- so it is at an old segment whose keys are known and apart from those of the layer
+clear-at : (old : List SegmentView) (last : State) (i : ℕ) (new : State) (s : SegmentView) (l : LayerView) → IsKept old last → i < length old → s ≡ get_or old i s → (clear : IsClear s l)
+    → IsLaidBy l (end_from nothing_held (trace_of (take i old))) new → AreUnused new (trace_of (drop i old))
+    → IsUnderHere old i (end_from nothing_held (trace_of (take i old))) new s l (with_names clear.told s.ops s.outcomes)
+clear-at old last i new s l kept lt is clear laid unused =
+    clear-here old i (end_from nothing_held (trace_of (take i old))) new s l (with_names clear.told s.ops s.outcomes) (record { within = lt; is = is; here = refl }) kept.trace.distinct laid unused
+    (touched-there old i s clear.told kept.run.replay lt is clear.known) (clear.apart, clear.unders)
+
 -- they do the same in both states
-passes : (old : List SegmentView) (i : ℕ) (m new : State) (s : SegmentView) (l : LayerView) (keys : List Key) → IsClear old i m new s l keys → IsPassed l.keys m new (ops_of s)
+passes : (old : List SegmentView) (i : ℕ) (m new : State) (s : SegmentView) (l : LayerView) (keys : List Key) → IsUnderHere old i m new s l keys → IsPassed l.keys m new (ops_of s)
 passes old i m new s l keys c = stretches_pass l.keys (set_of keys) m new (ops_of s) c.laid.difference c.touched c.apart c.sound c.laid.sound c.distinct_here c.old_unused c.unused_here
 
 -- the segment may begin with the new state
-stand-here : (old : List SegmentView) (i : ℕ) (m new : State) (s : SegmentView) (l : LayerView) (keys : List Key) → IsClear old i m new s l keys → IfSome s.anchor (λ n. n ≡ m) → CanStand l s new
-stand-here old i m new s l keys c anchor =
+stand-here : (old : List SegmentView) (i : ℕ) (m new : State) (s : SegmentView) (l : LayerView) (keys : List Key) → IsUnderHere old i m new s l keys → IsSegmentFrom m s → CanStand l s new
+stand-here old i m new s l keys c from =
     let makes : Makes l new m = record { sound = c.sound; laid = c.laid } in
-    let passed : IsPassed l.keys m new (ops_of s) = passes old i m new s l keys c in
-    let same : TouchTheSame m new (ops_of s) = record { footprints = passed.footprints; moved = passed.moved } in
-    record {
-      mark = subst (λ o. IfSome o (Makes l new)) (sym c.marked.mark) makes;
-      anchor = anchor-made s.anchor anchor makes;
-      touch = subst (λ o. IfSome o (λ n. TouchTheSame n new (ops_of s))) (sym c.marked.mark) same;
-    }
+    record { mark = made s.mark from.mark makes; anchor = made s.anchor from.anchor makes }
   where
-    anchor-made : (o : Option State) → IfSome o (λ n. n ≡ m) → Makes l new m → IfSome o (Makes l new)
-    anchor-made None is makes = tt
-    anchor-made (Some n) is makes = subst (Makes l new) (sym is) makes
+    made : (o : Option State) → IfSome o (λ n. n ≡ m) → Makes l new m → IfSome o (Makes l new)
+    made None is makes = tt
+    made (Some n) is makes = subst (Makes l new) (sym is) makes
+
+-- keys of operations are theirs from each state from which they touch the same
+keys-from : (keys : Option (List Key)) (m n : State) (ops : List Operation) (outcomes : List Outcome) → AreKeysFrom m keys ops outcomes → TouchTheSame m n ops → AreKeysFrom n keys ops outcomes
+keys-from None m n ops outcomes h same = tt
+keys-from (Some k) m n ops outcomes h same =
+    subst (AreWithin (is_among (set_of (with_names k ops outcomes)))) (ap (λ touched. touched ++ moved_from m ops) same.footprints ∙ ap (λ more. footprints_from n ops ++ more) same.moved) h
+
+all-are : (new : State) (o : Option State) → IfSome (option_map (λ (n : State). new) o) (λ n. n ≡ new)
+all-are new None = tt
+all-are new (Some n) = refl
+
+-- the outcomes and the keys are those from the new state
+same-outcomes : (old : List SegmentView) (i : ℕ) (m new : State) (s : SegmentView) (l : LayerView) (keys : List Key) → IsUnderHere old i m new s l keys → IsSegmentFrom m s → s.outcomes ≡ outcomes_from new (ops_of s)
+same-outcomes old i m new s l keys c from = from.outcomes ∙ (passes old i m new s l keys c).outcomes
+
+same-keys : (old : List SegmentView) (i : ℕ) (m new : State) (s : SegmentView) (l : LayerView) (keys : List Key) → IsUnderHere old i m new s l keys → IsSegmentFrom m s → AreKeysFrom new s.keys (ops_of s) s.outcomes
+same-keys old i m new s l keys c from =
+    let passed : IsPassed l.keys m new (ops_of s) = passes old i m new s l keys c in
+    keys-from s.keys m new (ops_of s) s.outcomes from.keys (record { footprints = passed.footprints; moved = passed.moved })
+
+-- it is a segment from the new state
+standing-from : (old : List SegmentView) (i : ℕ) (m new : State) (s : SegmentView) (l : LayerView) (keys : List Key) → IsUnderHere old i m new s l keys → IsSegmentFrom m s → IsSegmentFrom new (standing_at new s)
+standing-from old i m new s l keys c from = record {
+  mark = all-are new s.mark;
+  anchor = all-are new s.anchor;
+  keys = same-keys old i m new s l keys c from;
+  outcomes = same-outcomes old i m new s l keys c from;
+}
+
+started-from : (old : List SegmentView) (i : ℕ) (m new : State) (s : SegmentView) (l : LayerView) (keys : List Key) → IsUnderHere old i m new s l keys → IsSegmentFrom m s → IsSegmentFrom new (started_at new s)
+started-from old i m new s l keys c from = record {
+  mark = refl;
+  anchor = all-are new s.anchor;
+  keys = same-keys old i m new s l keys c from;
+  outcomes = same-outcomes old i m new s l keys c from;
+}
 
 within-more : (j k : Key → Bool) (keys : List Key) → ((x : Key) → j x ≡ true → k x ≡ true) → AreWithin j keys → AreWithin k keys
 within-more j k [] more h = tt
 within-more j k (x ∷ keys) more h = (more x h.0, within-more j k keys more h.1)
 
-IsPiece-here : (old : List SegmentView) (i : ℕ) (m new : State) (s : SegmentView) (l : LayerView) (keys : List Key) → IsClear old i m new s l keys → AreReplayFrom nothing_held old → AreFull old
+-- none of the keys that it touches is one of the layer's
+touches-none : (old : List SegmentView) (i : ℕ) (m new : State) (s : SegmentView) (l : LayerView) (keys : List Key) → IsUnderHere old i m new s l keys
+    → AreWithin (outside l.keys) (footprints_from m (ops_of s) ++ moved_from m (ops_of s))
+touches-none old i m new s l keys c =
+    within-more (is_among (set_of keys)) (outside l.keys) (footprints_from m (ops_of s) ++ moved_from m (ops_of s)) (meet_none l.keys (set_of keys) c.apart) c.touched
+
+IsPiece-here : (old : List SegmentView) (i : ℕ) (m new : State) (s : SegmentView) (l : LayerView) (keys : List Key) → IsUnderHere old i m new s l keys → IsSegmentFrom m s → s.mark ≡ Some m → AreFull old
     → IsPiece new (trace_of (drop i old)) (standing_at new s ∷ []) (end_from new (ops_of s)) (length (ops_of s))
-IsPiece-here old i m new s l keys c replay full =
-    let h : IsMarkedAt old i m s = c.marked in
-    let passed : IsPassed l.keys m new (ops_of s) = passes old i m new s l keys c in
-    let first : take (length (ops_of s)) (trace_of (drop i old)) ≡ ops_of s = first-here old i m s h in
-    let back : AreFull (s ∷ drop (i + 1) old) = subst AreFull (around old i s h.within h.is) (AreFull-back (take i old) (drop i old) (subst AreFull (sym (take-append-drop i old)) full)) in
-    let mark : option_map (λ (n : State). new) s.mark ≡ Some new = ap (option_map (λ (n : State). new)) h.mark in
+IsPiece-here old i m new s l keys c from marked full =
+    let first : take (length (ops_of s)) (trace_of (drop i old)) ≡ ops_of s = first-here old i m s c.at in
+    let some : 0 < length (ops_of s) = full-here old i m s c.at full in
+    let mark : option_map (λ (n : State). new) s.mark ≡ Some new = ap (option_map (λ (n : State). new)) marked in
     record {
-      some = back.0;
-      fits = omega (arith, ap length (rest-here old i m s h), length-append (ops_of s) (trace_of (drop (i + 1) old)));
+      some = some;
+      fits = omega (arith, ap length (rest-here old i m s c.at), length-append (ops_of s) (trace_of (drop (i + 1) old)));
       trace = append-nil (ops_of s) ∙ sym first;
-      replay = (record { mark = all-are s.mark; anchor = all-are s.anchor; outcomes = (segment-at nothing_held old i s replay h.within h.is).outcomes ∙ ap (λ n. outcomes_from n (ops_of s)) (sym h.here) ∙ passed.outcomes }, tt);
-      full = (back.0, tt);
+      replay = (standing-from old i m new s l keys c from, tt);
+      full = (some, tt);
       begins = ap is_some mark;
       state = ap (end_from new) (sym first);
       marks = λ at. ap (λ o. mark_here at o ++ []) mark;
     }
-  where
-    all-are : (o : Option State) → IfSome (option_map (λ (n : State). new) o) (λ n. n ≡ new)
-    all-are None = tt
-    all-are (Some n) = refl
 
 -- it is an old stretch between neighbouring checkpoints, and differs from the other heap in none that its operations touch
-IsUntouchedStretch-here : (old : List SegmentView) (i at : ℕ) (m heap : State) (s : SegmentView) (d : KeySet) (keys : List Key) → IsMarkedAt old i m s → length (trace_of (take i old)) ≡ at → BeginsMarked (drop (i + 1) old)
-    → IsDifference d m heap → HasTouchedFrom keys s.mark (ops_of s) → meet d (set_of keys) ≡ false → IsUntouchedStretch (trace_of old) (all_marks old) heap (trace_of (drop i old)) (length (ops_of s))
-IsUntouchedStretch-here old i at m heap s d keys h place begins difference touched apart =
+IsUntouchedStretch-here : (old : List SegmentView) (i at : ℕ) (m heap : State) (s : SegmentView) (l : LayerView) (keys : List Key) → IsUnderHere old i m heap s l keys → s.mark ≡ Some m → length (trace_of (take i old)) ≡ at
+    → BeginsMarked (drop (i + 1) old) → IsUntouchedStretch (trace_of old) (all_marks old) heap (trace_of (drop i old)) (length (ops_of s))
+IsUntouchedStretch-here old i at m heap s l keys c marked place begins =
+    let h : IsAt old i m s = c.at in
     let len : ℕ = length (ops_of s) in
-    let next : IsFollowed (all_marks old) at (length (ops_of s)) (drop (i + 1) old) = segment-followed old i at s m h.within h.is h.mark place in
+    let next : IsFollowed (all_marks old) at (length (ops_of s)) (drop (i + 1) old) = segment-followed old i at s m h.within h.is marked place in
     let none : next.gap ≡ 0 = next.first begins in
     let whole : length (ops_of s) + next.gap ≡ length (ops_of s) = omega (arith, none) in
     let ops : List Operation = take (length (ops_of s)) (trace_of (drop i old)) in
     let there : m ≡ end_from nothing_held (take at (trace_of old)) = h.here ∙ ap (end_from nothing_held) (trace_of-prefix old i at place) in
-    let all : HasTouched (set_of keys) m ops = subst (HasTouched (set_of keys) m) (sym (first-here old i m s h)) (subst (λ o. HasTouchedFrom keys o (ops_of s)) h.mark touched) in
-    let within : AreWithin (outside d) (footprints_from m ops ++ moved_from m ops) = within-more (is_among (set_of keys)) (outside d) (footprints_from m ops ++ moved_from m ops) (meet_none d (set_of keys) apart) all in
+    let within : AreWithin (outside l.keys) (footprints_from m ops ++ moved_from m ops) =
+    subst (λ os. AreWithin (outside l.keys) (footprints_from m os ++ moved_from m os)) (sym (first-here old i m s h)) (touches-none old i m heap s l keys c) in
     record {
-      place = record { before = next.before; after = next.after; at = at; marks_are = next.marks_are ∙ ap (λ n. next.before ++ at ∷ (at + n) ∷ next.after) whole };
+      at = at;
+      place = record {
+        long = len;
+        neighbours = record { before = next.before; after = next.after; at = at; marks_are = next.marks_are ∙ ap (λ n. next.before ++ at ∷ (at + n) ∷ next.after) whole };
+        begins = omega arith;
+        ends = omega arith;
+        enough = inl refl;
+      };
       ops_are = ap (take len) (sym (trace_of-back old i at place));
-      keys = outside d;
-      alike = subst (λ n. AreAlike (outside d) n heap) there difference;
-      within = subst (λ n. AreWithin (outside d) (footprints_from n ops ++ moved_from n ops)) there within;
+      keys = outside l.keys;
+      alike = subst (λ n. AreAlike (outside l.keys) n heap) there c.laid.difference;
+      within = subst (λ n. AreWithin (outside l.keys) (footprints_from n ops ++ moved_from n ops)) there within;
     }
 
+-- behind it the layer makes the new state
+laid-behind : (old : List SegmentView) (i : ℕ) (m new : State) (s : SegmentView) (l : LayerView) (keys : List Key) → IsUnderHere old i m new s l keys
+    → IsLaidBy l (end_from nothing_held (trace_of (take (i + 1) old))) (end_from new (ops_of s))
+laid-behind old i m new s l keys c =
+    subst (λ n. IsLaidBy l n (end_from new (ops_of s))) (sym (end-here old i m s c.at))
+    (layers_hold.on l.keys (set_of keys) l.from m new l.puts (ops_of s) c.laid c.touched c.apart c.unders c.sound c.distinct_here c.old_unused c.unused_here)
+
+-- a difference among its keys stays
+differs-behind : (old : List SegmentView) (i : ℕ) (m new : State) (s : SegmentView) (l : LayerView) (keys : List Key) → IsUnderHere old i m new s l keys → (d : KeySet) → AreAmong d l → IsDifference d m new
+    → IsDifference d (end_from nothing_held (trace_of (take (i + 1) old))) (end_from new (ops_of s))
+differs-behind old i m new s l keys c d among differ =
+    subst (λ n. IsDifference d n (end_from new (ops_of s))) (sym (end-here old i m s c.at))
+    (stretches_pass d (set_of keys) m new (ops_of s) differ c.touched (less-apart d l keys among c.apart) c.sound c.laid.sound c.distinct_here c.old_unused c.unused_here).difference
+
+unused-next : (old : List SegmentView) (i : ℕ) (m new : State) (s : SegmentView) (l : LayerView) (keys : List Key) → IsUnderHere old i m new s l keys → AreUnused (end_from new (ops_of s)) (trace_of (drop (i + 1) old))
+unused-next old i m new s l keys c =
+    let rest : trace_of (drop i old) ≡ ops_of s ++ trace_of (drop (i + 1) old) = rest-here old i m s c.at in
+    appends.unused_rest new (ops_of s) (trace_of (drop (i + 1) old)) c.laid.sound (subst (λ ops. IsTrue (has_distinct_numbers ops)) rest c.distinct) (subst (AreUnused new) rest c.unused)
+
 -- the segment at i is taken over where a layer makes the state there new
-pub under-here : (old : List SegmentView) (last : State) (i : ℕ) (new : State) (s : SegmentView) (l : LayerView) (keys : List Key) → IsKept old last → i < length old → s ≡ get_or old i s → BeginsMarked (drop (i + 1) old)
-    → IsLaidBy l (end_from nothing_held (trace_of (take i old))) new → AreUnused new (trace_of (drop i old)) → HasTouchedFrom keys s.mark (ops_of s) → (meet l.keys (set_of keys) ≡ false) × AreUndersApart (set_of keys) l.puts
+pub under-here : (old : List SegmentView) (last : State) (i : ℕ) (new : State) (s : SegmentView) (l : LayerView) → IsKept old last → i < length old → s ≡ get_or old i s → is_some s.mark ≡ true → BeginsMarked (drop (i + 1) old)
+    → IsLaidBy l (end_from nothing_held (trace_of (take i old))) new → AreUnused new (trace_of (drop i old)) → IsClear s l
     → CanStand l s new × IsUnder old l i new (standing_at new s)
-under-here old last i new s l keys kept lt is begins laid unused touched apart =
+under-here old last i new s l kept lt is marked begins laid unused clear =
     let m : State = end_from nothing_held (trace_of (take i old)) in
-    let h : IsMarkedAt old i m s = IsMarkedAt-touched old i s keys kept.run.replay lt is touched in
-    let c : IsClear old i m new s l keys = clear-here old i m new s l keys h kept.trace.distinct laid unused touched apart in
-    let rest : trace_of (drop i old) ≡ ops_of s ++ trace_of (drop (i + 1) old) = rest-here old i m s h in (
-      stand-here old i m new s l keys c (segment-at nothing_held old i s kept.run.replay lt is).anchor,
+    let keys : List Key = with_names clear.told s.ops s.outcomes in
+    let c : IsUnderHere old i m new s l keys = clear-at old last i new s l kept lt is clear laid unused in
+    let from : IsSegmentFrom m s = from-here old i m s c.at kept.run.replay in
+    let mark : s.mark ≡ Some m = marked-here s.mark m marked from.mark in (
+      stand-here old i m new s l keys c from,
       record {
         begins = begins;
         taken = record {
-          stretch = IsUntouchedStretch-here old i (length (trace_of (take i old))) m new s l.keys keys h refl begins laid.difference touched apart.0;
-          piece = IsPiece-here old i m new s l keys c kept.run.replay kept.run.full;
+          stretch = IsUntouchedStretch-here old i (length (trace_of (take i old))) m new s l keys c mark refl begins;
+          piece = IsPiece-here old i m new s l keys c from mark kept.run.full;
         };
-        trace = rest;
-        laid = subst (λ n. IsLaidBy l n (end_from new (ops_of s))) (sym (end-here old i m s h))
-            (layers_hold.on l.keys (set_of keys) l.from m new l.puts (ops_of s) laid c.touched c.apart c.unders c.sound c.distinct_here c.old_unused c.unused_here);
-        differs = λ d among differ. subst (λ n. IsDifference d n (end_from new (ops_of s))) (sym (end-here old i m s h))
-            (stretches_pass d (set_of keys) m new (ops_of s) differ c.touched (less-apart d l keys among c.apart) c.sound laid.sound c.distinct_here c.old_unused c.unused_here).difference;
-        unused = appends.unused_rest new (ops_of s) (trace_of (drop (i + 1) old)) laid.sound (subst (λ ops. IsTrue (has_distinct_numbers ops)) rest c.distinct) (subst (AreUnused new) rest unused);
+        trace = rest-here old i m s c.at;
+        laid = laid-behind old i m new s l keys c;
+        differs = differs-behind old i m new s l keys c;
+        unused = unused-next old i m new s l keys c;
       },
     )
+
+-- what is known of a segment that is passed over, with a checkpoint or without
+passed-over : (old : List SegmentView) (i : ℕ) (new : State) (s : SegmentView) (l : LayerView) (keys : List Key) (mark anchor : Option State) → IsUnderHere old i (end_from nothing_held (trace_of (take i old))) new s l keys → AreFull old
+    → IsSegmentFrom new (record s { mark = mark; anchor = anchor }) → IsPassedOver old l i new (is_some mark) (record s { mark = mark; anchor = anchor })
+passed-over old i new s l keys mark anchor c full from =
+    let m : State = end_from nothing_held (trace_of (take i old)) in
+    record {
+      mark = refl;
+      segment = from;
+      full = full-here old i m s c.at full;
+      trace = rest-here old i m s c.at;
+      end_is = end-here old i m s c.at;
+      touched = touches-none old i m new s l keys c;
+      laid = laid-behind old i m new s l keys c;
+      differs = differs-behind old i m new s l keys c;
+      unused = unused-next old i m new s l keys c;
+    }
+
+-- the first segment of a part gets a checkpoint
+pub first-over : (old : List SegmentView) (last : State) (i : ℕ) (new : State) (s : SegmentView) (l : LayerView) → IsKept old last → i < length old → s ≡ get_or old i s
+    → IsLaidBy l (end_from nothing_held (trace_of (take i old))) new → AreUnused new (trace_of (drop i old)) → IsClear s l
+    → IsPassedOver old l i new true (started_at new s)
+first-over old last i new s l kept lt is laid unused clear =
+    let m : State = end_from nothing_held (trace_of (take i old)) in
+    let keys : List Key = with_names clear.told s.ops s.outcomes in
+    let c : IsUnderHere old i m new s l keys = clear-at old last i new s l kept lt is clear laid unused in
+    passed-over old i new s l keys (Some new) (option_map (λ (n : State). new) s.anchor) c kept.run.full (started-from old i m new s l keys c (from-here old i m s c.at kept.run.replay))
+
+-- another one has none
+pub bare-over : (old : List SegmentView) (last : State) (i : ℕ) (new : State) (s : SegmentView) (l : LayerView) → IsKept old last → i < length old → s ≡ get_or old i s → is_some s.mark ≡ false
+    → IsLaidBy l (end_from nothing_held (trace_of (take i old))) new → AreUnused new (trace_of (drop i old)) → IsClear s l
+    → CanStand l s new × IsPassedOver old l i new false (standing_at new s)
+bare-over old last i new s l kept lt is bare laid unused clear =
+    let m : State = end_from nothing_held (trace_of (take i old)) in
+    let keys : List Key = with_names clear.told s.ops s.outcomes in
+    let c : IsUnderHere old i m new s l keys = clear-at old last i new s l kept lt is clear laid unused in
+    let from : IsSegmentFrom m s = from-here old i m s c.at kept.run.replay in (
+      stand-here old i m new s l keys c from,
+      subst (λ b. IsPassedOver old l i new b (standing_at new s)) (still-none s.mark bare)
+          (passed-over old i new s l keys (option_map (λ (n : State). new) s.mark) (option_map (λ (n : State). new) s.anchor) c kept.run.full (standing-from old i m new s l keys c from)),
+    )
+  where
+    still-none : (o : Option State) → is_some o ≡ false → is_some (option_map (λ (n : State). new) o) ≡ false
+    still-none None e = refl
+    still-none (Some n) e = absurd cc
+
+-- where a segment stands at a new state, what is known of that holds of what a layer makes of it
+pub stands : (l : LayerView) (s : SegmentView) (Can : State → Type 0) (Is : State → SegmentView → Type 0) (o : Option SegmentView) → ((new : State) → Can new → CanStand l s new × Is new (standing_at new s))
+    → IfSome o (λ t. (new : State) → CanStand l s new → t ≡ standing_at new s) → IfSome o (λ t. (new : State) → Can new → Is new t)
+stands l s Can Is None here h = tt
+stands l s Can Is (Some t) here h = λ new can. let both = here new can in subst (Is new) (sym (h new both.0)) both.1
 
 -- ---- one behind the other
 taken-snoc : (old : List Operation) (marks : List ℕ) (start : State) (ops : List Operation) (segments : List SegmentView) (s : SegmentView) → AreTakenOver old marks start ops segments

@@ -22,6 +22,14 @@ pub record IsFirstPart (marks : List ℕ) (g : ℕ) : Type 0 where
   pub within : g ≤ long
   pub enough : (g ≡ long) ⊎ (64 ≤ g)
 
+-- the operations from `at` on, `len` of them, are an old stretch between neighbouring checkpoints, or a part of one, if these are at least 64
+pub record IsPart (marks : List ℕ) (at len : ℕ) : Type 0 where
+  pub long : ℕ
+  pub neighbours : AreNeighbours marks long
+  pub begins : neighbours.at ≤ at
+  pub ends : at + len ≤ neighbours.at + long
+  pub enough : (len ≡ long) ⊎ (64 ≤ len)
+
 -- how far a new checkpoint is behind the one before it: up to 64, or as far as an old stretch serves, or as a guess is long
 pub record IsGap (old : Reusable) (g : ℕ) : Type 0 where
   pub some : 0 < g

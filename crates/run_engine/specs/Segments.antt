@@ -8,6 +8,10 @@ use Rattle.trace_types.specs.declared.outcomes.Outcome.{Outcome}
 use Rattle.run_engine.specs.SegmentView.{SegmentView}
 use Rattle.run_engine.specs.Marks.{IsGreatest}
 use Rattle.ownership_model.specs.Step.{end_from, outcomes_from}
+use Rattle.ownership_model.specs.declared.key.Key.{Key}
+use Rattle.heap_difference.specs.KeySets.{set_of}
+use Rattle.heap_difference.specs.Laws.{HasTouched}
+use Rattle.heap_difference.specs.Naming.{with_names}
 
 -- the operations of a segment
 abbrev pub ops_of : SegmentView → List Operation
@@ -28,10 +32,16 @@ abbrev pub marks_from : ℕ → List SegmentView → List ℕ
 marks_from at [] = []
 marks_from at (s ∷ segments) = mark_here at s.mark ++ marks_from (at + length (ops_of s)) segments
 
--- the segment's checkpoint, if it is kept, is the state m, and so is its anchor, and its outcomes are those from there
+-- with what operations and their outcomes name, keys that were told of them have all that the operations touch, move or copy from a state
+abbrev pub AreKeysFrom : State → Option (List Key) → List Operation → List Outcome → Type 0
+AreKeysFrom m keys ops outcomes = IfSome keys (λ k. HasTouched (set_of (with_names k ops outcomes)) m ops)
+
+-- the segment's checkpoint, if it is kept, is the state m, and so is its anchor, its outcomes are those from there, and its keys, if they are
+-- known, have all that its operations touch from there
 pub record IsSegmentFrom (m : State) (s : SegmentView) : Type 0 where
   pub mark : IfSome s.mark (λ n. n ≡ m)
   pub anchor : IfSome s.anchor (λ n. n ≡ m)
+  pub keys : AreKeysFrom m s.keys (ops_of s) s.outcomes
   pub outcomes : s.outcomes ≡ outcomes_from m (ops_of s)
 
 -- the segments are a replay from m
@@ -90,9 +100,15 @@ pub record IsPiece (start : State) (ops : List Operation) (segments : List Segme
   pub state : end ≡ end_from start (take len ops)
   pub marks : (at : ℕ) → marks_from at segments ≡ at ∷ []
 
--- operations that go on from a state, with no checkpoint where they begin, but maybe an anchor
-abbrev pub bare_segment : Option State → State → List Operation → SegmentView
-bare_segment anchor start ops = record { mark = None; anchor = anchor; ops = ops; outcomes = outcomes_from start ops }
+-- operations that go on from a state, with no checkpoint where they begin, but maybe an anchor, and with keys that were told of them
+abbrev pub bare_segment : Option State → State → List Key → List Operation → SegmentView
+bare_segment anchor start keys ops = record { mark = None; anchor = anchor; keys = Some keys; ops = ops; outcomes = outcomes_from start ops }
+
+-- the segments are others, and such a one behind them
+pub record HasBare (segments : List SegmentView) (anchor : Option State) (start : State) (ops : List Operation) (more : List SegmentView) : Type 0 where
+  pub keys : List Key
+  pub touched : AreKeysFrom start (Some keys) ops (outcomes_from start ops)
+  pub segments_are : more ≡ segments ++ bare_segment anchor start keys ops ∷ []
 
 -- the positions of all checkpoints: the end is one
 abbrev pub all_marks : List SegmentView → List ℕ

@@ -12,7 +12,7 @@ use Rattle.run_engine.specs.HeadAndTail.{AreShared}
 use Rattle.run_engine.specs.Marks.{IsGreatest}
 use Rattle.run_engine.specs.Bounds.{AgreesAt}
 use Rattle.op_step.specs.Chunk.{Chunk}
-use Rattle.run_engine.specs.NewMarks.{AreNeighbours, IsFirstPart}
+use Rattle.run_engine.specs.NewMarks.{IsFirstPart, IsPart}
 use Rattle.run_engine.specs.Memo.{IsAmong, AreSome}
 
 -- an old stretch between neighbouring checkpoints begins with the state and has the first `len` of the operations: all of them are its
@@ -22,14 +22,15 @@ pub record IsOldStretch (old : List Operation) (marks : List ℕ) (start : State
   pub start_is : start ≡ end_from nothing_held (take place.neighbours.at old)
   pub ops_are : take len (drop place.neighbours.at old) ≡ take len ops
 
--- an old stretch between neighbouring checkpoints has the first `len` of the operations, and begins with a state that differs from this one
--- only in what they don't touch, move or copy
+-- an old stretch between neighbouring checkpoints, or a part of one, has the first `len` of the operations, and begins with a state that differs
+-- from this one only in what they don't touch, move or copy
 pub record IsUntouchedStretch (old : List Operation) (marks : List ℕ) (start : State) (ops : List Operation) (len : ℕ) : Type 0 where
-  pub place : AreNeighbours marks len
-  pub ops_are : take len (drop place.at old) ≡ take len ops
+  pub at : ℕ
+  pub place : IsPart marks at len
+  pub ops_are : take len (drop at old) ≡ take len ops
   pub keys : Key → Bool
-  pub alike : AreAlike keys (end_from nothing_held (take place.at old)) start
-  pub within : AreWithin keys (footprints_from (end_from nothing_held (take place.at old)) (take len ops) ++ moved_from (end_from nothing_held (take place.at old)) (take len ops))
+  pub alike : AreAlike keys (end_from nothing_held (take at old)) start
+  pub within : AreWithin keys (footprints_from (end_from nothing_held (take at old)) (take len ops) ++ moved_from (end_from nothing_held (take at old)) (take len ops))
 
 -- an old stretch begins with the state and has the first `len` of the operations, or it differs where it begins only in what they don't
 -- touch, or one of the chunks begins so and has them

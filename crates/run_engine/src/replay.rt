@@ -8,6 +8,8 @@ pub mod fresh;
 pub mod guess;
 pub mod loading;
 pub mod origin;
+pub mod parts;
+pub mod passing;
 pub mod prefix;
 pub mod progress;
 pub mod rejoin;

@@ -5,7 +5,6 @@ use Rattle.ownership_model.specs.State.{State, IsSound}
 use Rattle.heap_difference.specs.KeySets.{is_among}
 use Rattle.heap_difference.specs.Layers.{LayerView, with_layer, IsLaidBy}
 use Rattle.run_engine.specs.SegmentView.{SegmentView}
-use Rattle.run_engine.specs.inner.Touching.{TouchTheSame}
 
 -- the state that is meant: the layer is laid over it, if there is one
 abbrev pub with_layers : Option LayerView → State → State
@@ -31,11 +30,10 @@ abbrev pub IsWithin : Option LayerView → LayerView → Type 0
 IsWithin None other = Unit {0}
 IsWithin (Some l) other = (x : Key) → is_among l.keys x ≡ true → is_among other.keys x ≡ true
 
--- the layer makes the new state of the segment's checkpoint and anchor, if they are kept, and its operations touch the same in both
+-- the layer makes the new state of the segment's checkpoint and anchor, if they are kept
 pub record CanStand (l : LayerView) (s : SegmentView) (new : State) : Type 0 where
   pub mark : IfSome s.mark (Makes l new)
   pub anchor : IfSome s.anchor (Makes l new)
-  pub touch : IfSome s.mark (λ m. TouchTheSame m new s.ops)
 
 -- there is such a state
 pub record MayStand (l : LayerView) (s : SegmentView) : Type 0 where
@@ -45,3 +43,7 @@ pub record MayStand (l : LayerView) (s : SegmentView) : Type 0 where
 -- the segment, which begins with the new state
 abbrev pub standing_at : State → SegmentView → SegmentView
 standing_at new s = record s { mark = option_map (λ m. new) s.mark; anchor = option_map (λ m. new) s.anchor }
+
+-- the same with its checkpoint there in any case
+abbrev pub started_at : State → SegmentView → SegmentView
+started_at new s = record s { mark = Some new; anchor = option_map (λ m. new) s.anchor }

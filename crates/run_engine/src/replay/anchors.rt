@@ -8,56 +8,75 @@ use object_heap::Heap;
 const SHORT: usize = 65_536;
 
 /// How many anchors a run has about, where it is loaded.
-const LOADED: usize = 32;
+const LOADED: usize = 112;
 
 /// How many it has about where all of it is stepped for an edit. After an anchor all nodes that change are copied once, so these are fewer.
-const STEPPED: usize = 8;
+const STEPPED: usize = 80;
 
-/// An edit of a run that has more of them makes none. One edit makes at most one for each of the 64 places of a batch, and some ten more, so no run
-/// has more than 256.
-const ENOUGH: usize = 176;
+/// An edit of a run that has as many or more makes none. One of another run makes at most as many as are lacking, where the old run has none, and at
+/// each of the 64 places of a batch maybe one beside the old one there: so no run has more than 256.
+const MOST: usize = 192;
 
-/// From which position on an anchor is due, and how far behind one the next is.
+/// From which position on an anchor is due, how far behind one the next is, and how many may be made yet where the old run has none.
 #[derive(Clone, Copy, Debug, PartialEq, Eq)]
 pub struct Anchoring {
     due: usize,
     apart: usize,
+    left: usize,
+    // whether the old run has one where the next is due
+    is_old: bool,
 }
 
 impl Anchoring {
     /// Of a run of so many operations that is loaded. It begins at a checkpoint.
     pub fn loaded(len: usize) -> Self {
         let apart = apart_of(len, LOADED);
-        Anchoring { due: apart, apart }
+        Anchoring {
+            due: apart,
+            apart,
+            left: MOST,
+            is_old: false,
+        }
     }
 
     /// Of a run of so many operations that is edited: a replay goes on at a position that the old run has an anchor at, or maybe not.
     pub fn edited(old: &Segments, len: usize, at: usize, is_anchored: bool) -> Self {
-        let apart = apart_of(len, STEPPED);
-        if apart == usize::MAX || old.anchors() > ENOUGH {
-            return Anchoring {
-                due: usize::MAX,
-                apart: usize::MAX,
-            };
-        }
-        let due = at.saturating_add(apart);
-        Anchoring { due, apart }.anew(at, is_anchored)
+        let left = MOST.saturating_sub(old.anchors());
+        let apart = if left == 0 {
+            usize::MAX
+        } else {
+            apart_of(len, STEPPED)
+        };
+        let anchoring = Anchoring {
+            due: at.saturating_add(apart),
+            apart,
+            left,
+            is_old: false,
+        };
+        anchoring.anew(at, is_anchored)
     }
 
-    /// Whether one is due at a position.
+    /// Whether one is due at a position, and may be made.
     pub fn is_due(self, at: usize) -> bool {
-        self.due <= at
+        self.due <= at && (self.is_old || self.left > 0)
     }
 
     /// The same behind a position, where one is made if it is due.
     pub fn behind(self, at: usize) -> Self {
-        if self.is_due(at) {
-            return Anchoring {
-                due: at.saturating_add(self.apart),
-                apart: self.apart,
-            };
+        if !self.is_due(at) {
+            return self;
         }
-        self
+        let left = if self.is_old {
+            self.left
+        } else {
+            self.left.saturating_sub(1)
+        };
+        Anchoring {
+            due: at.saturating_add(self.apart),
+            apart: self.apart,
+            left,
+            is_old: false,
+        }
     }
 
     /// The same where a replay goes on at a position. Where the old run has an anchor there, one is due again.
@@ -66,6 +85,8 @@ impl Anchoring {
             return Anchoring {
                 due: at,
                 apart: self.apart,
+                left: self.left,
+                is_old: true,
             };
         }
         self

@@ -5,7 +5,7 @@ ghost use Rattle.std.specs.BTreeSet.{contains};
 ghost use Rattle.ownership_model.specs.State.{nothing_held};
 ghost use Rattle.ownership_model.specs.Step.{end_from};
 ghost use Rattle.op_step.specs.Chunk.{Chunk};
-ghost use Rattle.run_engine.specs.Segments.{trace_of, marks_from, all_marks, has_mark, IsRun, IsReached, IsPiece};
+ghost use Rattle.run_engine.specs.Segments.{trace_of, marks_from, all_marks, IsRun, IsPiece};
 ghost use Rattle.run_engine.specs.Guesses.{with_guesses};
 ghost use Rattle.run_engine.specs.inner.OldRun.{old_trace, old_marks, new_trace, reusable};
 ghost use Rattle.run_engine.specs.HeadAndTail.{ShareEnd};
@@ -13,26 +13,26 @@ ghost use Rattle.run_engine.specs.Bounds.{StepsAtMost};
 ghost use Rattle.run_engine.specs.NewMarks.{IsGap};
 ghost use Rattle.run_engine.specs.inner.Onward.{AreMarksLeft};
 ghost use Rattle.run_engine.specs.Memo.{IsSearched};
-ghost use Rattle.run_engine.specs.Steps.{AreTaken, AreStepped};
+ghost use Rattle.run_engine.specs.Steps.{IsOldStretch, AreTaken, AreStepped};
 ghost use Rattle.run_engine.specs.inner.GoesOn.{MayGoOn, GoesOnBeside};
 ghost use Rattle.run_engine.specs.inner.Placed.{IsPlaced, IsNext};
-ghost use Rattle.run_engine.specs.inner.Divergence.{IsFork, IsDivergence};
+ghost use Rattle.run_engine.specs.inner.Divergence.{IsFork};
 ghost use Rattle.run_engine.specs.inner.Difference.{AreDiffering};
 ghost use Rattle.run_engine.specs.inner.Metered.{IsMetered};
-ghost use Rattle.run_engine.specs.inner.Untouched.{AreNext, IsPast};
+ghost use Rattle.run_engine.specs.inner.Untouched.{PassesNone};
 
 use crate::replay::ahead::go_ahead;
 use crate::replay::difference::Difference;
 use crate::replay::divergence::Divergence;
 use crate::replay::guess::{guessed, may_guess};
 use crate::replay::origin::Behind;
+use crate::replay::passing::{pass, pass_part};
 use crate::replay::prefix::{NextStretch, Prefix, STRIDE, found, joined, stepped};
 use crate::replay::progress::{Fork, Progress};
 use crate::replay::rejoin::{OldMark, rejoined_at};
 use crate::replay::revision::Revision;
 use crate::replay::stretch::{may_begin, old_stretch};
-use crate::replay::touching::{touch_at, touch_each};
-use crate::replay::untouched::untouched_stretches;
+use crate::replay::touching::touch_at;
 use crate::segments::blocks::Segments;
 use mark_shelf::MarkShelf;
 use object_heap::Heap;
@@ -54,8 +54,41 @@ struct Limits {
     open: usize,
 }
 
-// What a replay goes on with: a guess, a chunk that the shelf has of the operations up to the next cut, an old stretch, or else those
-// operations, which are stepped; and the last place that is known then where the replay has the old run's heap.
+// An old stretch that begins where a replay stands, to go on with, and the place behind it, where the replay has the old run's heap.
+fn next_stretch(
+    alloc: Global,
+    revision: &Revision,
+    progress: &Progress,
+    to: usize,
+) -> Result<Option<(NextStretch, Fork)>, AllocError>
+    requires may { MayGoOn (new_trace revision.now) progress.now.prefix to }
+    requires some { progress.now.prefix.len < to }
+    requires fork { IsFork revision.now progress.now.fork }
+    ensures piece { IfOk result (λ o. IfSome o (λ p.
+        IsPiece progress.now.prefix.end
+        (slice_range (new_trace revision.now) progress.now.prefix.len to)
+        p.0.segments p.0.end p.0.len)) }
+    ensures fork { IfOk result (λ o. IfSome o (λ p. IsFork revision.now p.1)) }
+    ensures gap { IfOk result (λ o. IfSome o (λ p. IsGap (reusable revision.now) p.0.len)) }
+    ensures stretch { IfOk result (λ o. IfSome o (λ p.
+        IsOldStretch (old_trace revision.now) (old_marks revision.now) progress.now.prefix.end
+        (slice_range (new_trace revision.now) progress.now.prefix.len to) p.0.len)) }
+    ensures next { (chunks : List (ℕ × Chunk)) →
+        IfOk result (λ o. IfSome o (λ p. IsNext chunks progress.now.prefix.end p.0)) }
+{
+    let prefix = &progress.prefix;
+    let fork = progress.fork;
+    let stretch = old_stretch(alloc, revision, &prefix.end, prefix.len, to, fork)?;
+    let Some((piece, base)) = stretch else {
+        return Ok(None);
+    };
+    let edited = prefix.len + piece.len;
+    Ok(Some((piece, Fork { edited, base })))
+}
+
+// What a replay goes on with: a guess, an old stretch if the replay stands where both runs are known to have one heap, a chunk that the shelf has of
+// the operations up to the next cut, another old stretch, or else those operations, which are stepped; and the last place that is known then where
+// the replay has the old run's heap.
 fn next_piece(
     alloc: Global,
     revision: &Revision,
@@ -89,6 +122,12 @@ fn next_piece(
     if let Some(piece) = guess {
         return Ok((piece, fork));
     }
+    if fork.edited == prefix.len {
+        let same = next_stretch(alloc, revision, progress, to)?;
+        if let Some(next) = same {
+            return Ok(next);
+        }
+    }
     let len = (to - prefix.len).min(STRIDE);
     let next = revision.ops.copies(alloc, prefix.len, prefix.len + len)?;
     let is_anchored = prefix.anchoring.is_due(prefix.len);
@@ -103,10 +142,9 @@ fn next_piece(
     if let Some(piece) = known {
         return Ok((piece, fork));
     }
-    let stretch = old_stretch(alloc, revision, &prefix.end, prefix.len, to, fork)?;
-    if let Some((piece, base)) = stretch {
-        let edited = prefix.len + piece.len;
-        return Ok((piece, Fork { edited, base }));
+    let stretch = next_stretch(alloc, revision, progress, to)?;
+    if let Some(stretch) = stretch {
+        return Ok(stretch);
     }
     let piece = stepped(alloc, &prefix.end, next, is_anchored, meter)?;
     Ok((piece, fork))
@@ -222,130 +260,44 @@ fn advance(
     Ok(Progress { prefix, fork })
 }
 
-// The old stretches that begin at an old checkpoint, where the replay stands beside it, if they are known to touch nothing at which the heaps
-// differ.
-fn next_untouched(
-    alloc: Global,
-    revision: &Revision,
-    progress: &Progress,
-    old: &OldMark,
-    difference: &mut Difference,
-    divergence: &mut Divergence,
-) -> Result<Option<NextStretch>, AllocError>
-    requires prefix { IsReached (new_trace revision.now)
-        progress.now.prefix.len progress.now.prefix.segments progress.now.prefix.end }
-    requires fork { IsFork revision.now progress.now.fork }
-    requires within { old.now.index < length revision.now.segments.now }
-    requires place { length (trace_of (take old.now.index revision.now.segments.now)) ≡ old.now.at }
-    requires kept { has_mark revision.now.segments.now old.now.index ≡ true }
-    requires mark { old.now.mark
-        ≡ end_from nothing_held (take old.now.at (old_trace revision.now)) }
-    requires shared { trace_of (drop old.now.index revision.now.segments.now)
-        ≡ drop progress.now.prefix.len (new_trace revision.now) }
-    requires known { AreDiffering revision.now difference.old }
-    requires divergence { IsDivergence revision.now divergence.old }
-    ensures next { IfOk result (λ o. IfSome o (AreNext revision.now.segments.now
-        old.now.index progress.now.prefix.end)) }
-    ensures origin { (chunks : List (ℕ × Chunk)) →
-        IfOk result (λ o. IfSome o (IsNext chunks progress.now.prefix.end)) }
-    ensures known { OnOk result (AreDiffering revision.now difference.new) }
-    ensures divergence { OnOk result (IsDivergence revision.now divergence.new) }
-{
-    let did_look = difference.look(alloc, revision, progress, old)?;
-    if !did_look {
-        return Ok(None);
-    }
-    let Some(keys) = difference.keys() else {
-        return Ok(None);
-    };
-    let heap = &progress.prefix.end;
-    let next = untouched_stretches(alloc, revision, heap, old, keys, divergence)?;
-    match &next {
-        None => difference.miss(),
-        Some(piece) => difference.pass(piece.len),
-    }
-    Ok(next)
-}
-
-// Goes on with the replay by stretches: the names of the checkpoints where they begin are touched.
-fn taken(
+// Goes on with the replay to an old anchor, where one of the new run is due, and over the part of an old stretch from there on, if that is known to
+// touch nothing at which the heaps differ. It passes no old checkpoint.
+fn pass_anchor(
     alloc: Global,
     revision: &Revision,
     progress: Progress,
-    index: usize,
-    next: NextStretch,
-    shelf: &mut MarkShelf,
-) -> Result<Progress, AllocError>
-    requires prefix { IsReached (new_trace revision.now)
-        progress.prefix.len progress.prefix.segments progress.prefix.end }
-    requires fork { IsFork revision.now progress.fork }
-    requires placed { IsPlaced shelf.old.chunks progress.prefix }
-    requires shared { trace_of (drop index revision.now.segments.now)
-        ≡ drop progress.prefix.len (new_trace revision.now) }
-    requires next { AreNext revision.now.segments.now index progress.prefix.end next }
-    requires origin { (chunks : List (ℕ × Chunk)) → IsNext chunks progress.prefix.end next }
-    ensures beside { (count : ℕ) → IfOk result (λ p.
-        GoesOnBeside revision.now progress.prefix p.prefix shelf.old shelf.new count count) }
-    ensures fork { IfOk result (λ p. IsFork revision.now p.fork) }
-    ensures placed { IfOk result (λ p. IsPlaced shelf.new.chunks p.prefix) }
-    ensures len { IfOk result (λ p. p.prefix.len ≡ progress.prefix.len + next.len) }
-    ensures end { IfOk result (λ p. p.prefix.end ≡ next.end) }
-{
-    let mut prefix = progress.prefix;
-    touch_each(
-        revision.ops,
-        prefix.len,
-        &next.segments,
-        shelf,
-        &mut prefix.answered,
-    )?;
-    let prefix = joined(alloc, prefix, next)?;
-    Ok(Progress {
-        prefix,
-        fork: progress.fork,
-    })
-}
-
-// Goes on with the replay over the old stretches that begin at an old checkpoint, if they are known to touch nothing at which the heaps differ.
-// At no old checkpoint that it passes do the heaps agree. Else the replay stays where it stands.
-fn go_past(
-    alloc: Global,
-    revision: &Revision,
-    progress: Progress,
+    limits: Limits,
     old: &OldMark,
     difference: &mut Difference,
-    divergence: &mut Divergence,
     shelf: &mut MarkShelf,
+    meter: &mut Meter,
 ) -> Result<Progress, AllocError>
-    requires prefix { IsReached (new_trace revision.now)
-        progress.prefix.len progress.prefix.segments progress.prefix.end }
+    requires may { MayGoOn (new_trace revision.now) progress.prefix limits.to }
     requires fork { IsFork revision.now progress.fork }
     requires placed { IsPlaced shelf.old.chunks progress.prefix }
     requires within { old.now.index < length revision.now.segments.now }
     requires place { length (trace_of (take old.now.index revision.now.segments.now)) ≡ old.now.at }
-    requires kept { has_mark revision.now.segments.now old.now.index ≡ true }
     requires mark { old.now.mark
         ≡ end_from nothing_held (take old.now.at (old_trace revision.now)) }
     requires shared { trace_of (drop old.now.index revision.now.segments.now)
-        ≡ drop progress.prefix.len (new_trace revision.now) }
+        ≡ drop limits.to (new_trace revision.now) }
     requires known { AreDiffering revision.now difference.old }
-    requires divergence { IsDivergence revision.now divergence.old }
-    ensures beside { (count : ℕ) → IfOk result (λ p.
-        GoesOnBeside revision.now progress.prefix p.prefix shelf.old shelf.new count count) }
+    ensures beside { IfOk result (λ p.
+        GoesOnBeside revision.now progress.prefix p.prefix shelf.old shelf.new
+        meter.old meter.new) }
     ensures fork { IfOk result (λ p. IsFork revision.now p.fork) }
     ensures placed { IfOk result (λ p. IsPlaced shelf.new.chunks p.prefix) }
-    ensures no_less { IfOk result (λ p. progress.prefix.len ≤ p.prefix.len) }
-    ensures past { IfOk result (λ p. IsPast (old_trace revision.now) (new_trace revision.now)
-        old.now.at (length (trace_of (take (old.now.index + 1) revision.now.segments.now)))
-        progress.prefix.len p.prefix.len) }
+    ensures no_less { IfOk result (λ p. limits.to ≤ p.prefix.len) }
+    ensures past { IfOk result (λ p. PassesNone (old_marks revision.now) old.now.at
+        limits.to p.prefix.len) }
     ensures known { OnOk result (AreDiffering revision.now difference.new) }
-    ensures divergence { OnOk result (IsDivergence revision.now divergence.new) }
+    ensures metered { IsMetered meter.old meter.new progress.prefix.len limits.to }
 {
-    let next = next_untouched(alloc, revision, &progress, old, difference, divergence)?;
-    match next {
-        None => Ok(progress),
-        Some(piece) => taken(alloc, revision, progress, old.index, piece, shelf),
-    }
+    let mut progress = advance(alloc, revision, progress, limits, shelf, meter)?;
+    let len = progress.prefix.len;
+    progress.prefix.anchoring = progress.prefix.anchoring.anew(len, true);
+    let progress = pass_part(alloc, revision, progress, old, difference, shelf)?;
+    Ok(progress)
 }
 
 // Whether the replay comes to an old position yet, at or behind the seam: it may have passed it.
@@ -386,8 +338,8 @@ fn spliced(
 
 /// Goes on with the replay to its end, or to the first old checkpoint at or behind the seam where the heaps agree.
 ///
-/// From the seam on an old stretch could begin at an old checkpoint alone, and at each that is passed the heap is another: one serves only
-/// if it touches nothing at which the heaps differ.
+/// From the seam on the heap is another at each old checkpoint that is passed, and at an old anchor nobody asks: an old stretch, or a part of one, serves
+/// only if it touches nothing at which the heaps are known to differ.
 pub fn converge(
     alloc: Global,
     revision: &Revision,
@@ -466,7 +418,7 @@ pub fn converge(
                     let len = revision.ops.len();
                     return Ok(spliced(alloc, prefix, rest, end, len)?);
                 }
-                progress = go_past(
+                progress = pass(
                     alloc,
                     revision,
                     progress,
@@ -475,6 +427,28 @@ pub fn converge(
                     &mut divergence,
                     shelf,
                 )?;
+            } else if difference.is_followed() {
+                if let Some(anchor) = segment.anchor() {
+                    let limits = Limits {
+                        to: at - seam.base + seam.edited,
+                        open: seam.edited,
+                    };
+                    let old_mark = OldMark {
+                        index: i,
+                        at,
+                        mark: anchor.heap(alloc)?,
+                    };
+                    progress = pass_anchor(
+                        alloc,
+                        revision,
+                        progress,
+                        limits,
+                        &old_mark,
+                        &mut difference,
+                        shelf,
+                        meter,
+                    )?;
+                }
             }
         }
         at += segment.ops().len();

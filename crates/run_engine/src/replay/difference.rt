@@ -14,7 +14,7 @@ use crate::replay::progress::{Fork, Progress};
 use crate::replay::rejoin::OldMark;
 use crate::replay::revision::Revision;
 use crate::segments::blocks::Segments;
-use heap_difference::{KeySet, add_all, found};
+use heap_difference::{KeySet, Numbers, add_all, found};
 use object_heap::Heap;
 use ownership_model::Key;
 use std::alloc::{AllocError, Global};
@@ -25,14 +25,17 @@ use trace_types::outcomes::Outcome;
 /// How many keys of a kind are followed at most. To lay more of them over a heap takes as long as to step a stretch.
 const MOST_KEYS: usize = 16;
 
-/// How many keys of a kind are looked up at most. A handle may pass all others that are looked up in its scope.
-const MOST_TOUCHED: usize = 512;
+/// How many keys of a kind are looked up at most.
+const MOST_TOUCHED: usize = 65_536;
+
+/// How many times at most a handle that is looked up passes another one under it in its scope: it does so where numbers fall.
+const MOST_PASSED: usize = 131_072;
 
 /// How many keys are gathered at most. One that segments tell again counts again.
-const MOST_TOLD: usize = 32768;
+const MOST_TOLD: usize = 1_048_576;
 
-/// How many segments are gone over at most to find what differs behind them.
-const MOST_SEGMENTS: usize = 64;
+/// How many segments are gone over at most to find what differs behind them: as many as may lie between two anchors of a long run, and more.
+const MOST_SEGMENTS: usize = 1024;
 
 /// How many keys of a stretch, and how many of its outcomes, are tried before all are looked up.
 const FIRST_KEYS: usize = 32;
@@ -46,15 +49,15 @@ const FIRST_OPS: usize = 16;
 /// The keys at which the heap of a replay and that of the old run beside it differ, if they are known: each stands behind so many
 /// operations of its trace.
 ///
-/// While looks are in vain, because each stretch touches what differs, checkpoints are passed before the next look, and at last there is
-/// none any more until both have one heap again.
+/// While looks are in vain, because each stretch touches what differs, checkpoints and anchors are passed before the next look, and at last there
+/// is none any more until both have one heap again.
 #[derive(Drop)]
 pub struct Difference {
     keys: Option<KeySet>,
     // how many operations of the edited trace, and of the old one
     pub edited: usize,
     pub base: usize,
-    // how many looks were in vain since the last stretch that was taken over, and how many checkpoints are passed before the next look
+    // how many looks were in vain since the last stretch that was taken over, and how many checkpoints and anchors are passed before the next look
     vain: usize,
     wait: usize,
 }
@@ -83,7 +86,12 @@ impl Difference {
         }
     }
 
-    /// Looks for the keys at which the heaps differ where a replay and an old checkpoint stand, and tells whether it did: while stretches
+    /// Whether the keys are known.
+    pub fn is_followed(&self) -> bool {
+        self.keys.is_some()
+    }
+
+    /// Looks for the keys at which the heaps differ where a replay and an old checkpoint or anchor stand, and tells whether it did: while stretches
     /// touch what differs, it does so more and more seldom. Where the next stretch soon touches what differs, that look is in vain, too.
     ///
     /// They are looked for among those that differed where it looked last, and all that the segments since then touch. From where on a
@@ -145,7 +153,7 @@ impl Difference {
         self.base = fork.base;
     }
 
-    // The keys at which the heaps differ where a replay and an old checkpoint stand, among those that differed before and all that the
+    // The keys at which the heaps differ where a replay and an old checkpoint or anchor stand, among those that differed before and all that the
     // segments since then touch.
     fn keys_at(
         &self,
@@ -175,6 +183,9 @@ impl Difference {
         let Some(all) = gathered(alloc, &of_new, revision.segments, self.base, old.index)? else {
             return Ok(None);
         };
+        if are_slow(&progress.prefix.end, &all.handles) {
+            return Ok(None);
+        }
         let keys = found(alloc, &old.mark, &progress.prefix.end, &all)?;
         if are_more(&keys, MOST_KEYS) {
             return Ok(None);
@@ -195,7 +206,7 @@ impl Difference {
         self.vain = 0;
     }
 
-    /// A look was in vain. From the fourth in a row on one checkpoint is passed before the next look. After too many in a row the keys are
+    /// A look was in vain. From the fourth in a row on one checkpoint or anchor is passed before the next look. After too many in a row the keys are
     /// followed no further.
     pub fn miss(&mut self)
         ensures { (r : Revision) → AreDiffering r self.old → AreDiffering r self.new }
@@ -317,6 +328,36 @@ fn gathered(
         return Ok(None);
     }
     Ok(Some(keys))
+}
+
+// Whether handles pass too many others on the way to the first one under each that doesn't differ. They are looked up by rising numbers, so those
+// are passed that have greater ones.
+fn are_slow(heap: &Heap, handles: &Numbers) -> bool {
+    let mut left = MOST_PASSED;
+    for handle in handles.as_slice() {
+        left = left.saturating_sub(passed_under(heap, handles, *handle, left));
+        if left == 0 {
+            return true;
+        }
+    }
+    false
+}
+
+// How many of the handles stand right under one in its scope that have greater numbers, up to so many.
+fn passed_under(heap: &Heap, handles: &Numbers, handle: u32, most: usize) -> usize {
+    let mut at = handle;
+    let mut passed = 0usize;
+    for _ in 0..most {
+        let Some(under) = heap.earlier(at) else {
+            return passed;
+        };
+        if under < handle || !handles.has(under) {
+            return passed;
+        }
+        passed = passed.saturating_add(1);
+        at = under;
+    }
+    passed
 }
 
 // Whether there are more keys of a kind than so many.

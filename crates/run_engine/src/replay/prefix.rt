@@ -7,7 +7,7 @@ ghost use Rattle.op_step.specs.Meter.{raised};
 ghost use Rattle.op_step.specs.Chunk.{Chunk};
 ghost use Rattle.mark_shelf.specs.Joints.{EndsWith};
 ghost use Rattle.mark_shelf.specs.Shelf.{name_of, name_eq};
-ghost use Rattle.run_engine.specs.Segments.{bare_segment, IsPiece};
+ghost use Rattle.run_engine.specs.Segments.{HasBare, IsPiece};
 ghost use Rattle.run_engine.specs.Memo.{IsAmong, IsSearched};
 ghost use Rattle.run_engine.specs.inner.Origins.{stepped_chunk, behind_of, shelf_number};
 ghost use Rattle.run_engine.specs.inner.Placed.{IsPlaced, IsNext};
@@ -21,7 +21,7 @@ use crate::segments::blocks::Segments;
 use crate::segments::segment::Segment;
 use mark_shelf::{MarkShelf, finds_what_was_there};
 use object_heap::Heap;
-use op_step::{ChunkRun, Meter, replay_from, run_of};
+use op_step::{ChunkRun, Meter, replay_told, run_of};
 use std::alloc::{AllocError, Global};
 use std::collections::BTreeSet;
 use trace_types::ops::Op;
@@ -173,7 +173,7 @@ pub fn replayed_on(
     requires distinct { IsTrue (has_distinct_numbers ops.items) }
     requires unused { AreUnused prefix.end ops.items }
     ensures segments { IfOk result
-        (λ p. p.segments ≡ prefix.segments ++ bare_segment anchor prefix.end ops.items ∷ []) }
+        (λ p. HasBare prefix.segments anchor prefix.end ops.items p.segments) }
     ensures end { IfOk result (λ p. p.end ≡ end_from prefix.end ops.items) }
     ensures len { IfOk result (λ p. p.len ≡ prefix.len + length ops.items) }
     ensures answered { IfOk result (λ p. p.answered ≡ prefix.answered) }
@@ -184,8 +184,9 @@ pub fn replayed_on(
     let len = prefix.len + ops.len();
     let anchoring = prefix.anchoring.behind(prefix.len);
     prefix.end.show_sound();
-    let (outcomes, end) = replay_from(alloc, prefix.end, &ops, meter)?;
-    let bare = Segment::bare(alloc, anchor, ops, outcomes)?;
+    let mut told = Vec::new(alloc);
+    let (outcomes, end) = replay_told(alloc, prefix.end, &ops, meter, &mut told)?;
+    let bare = Segment::bare(alloc, anchor, ops, outcomes, told)?;
     let segments = prefix.segments.push(alloc, bare)?;
     Ok(Prefix {
         segments,

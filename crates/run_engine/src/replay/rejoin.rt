@@ -27,7 +27,7 @@ pub struct Rest<'a> {
     pub end: &'a Heap,
 }
 
-/// An old checkpoint: that of the segment at an index, which begins behind so many operations, and its heap.
+/// An old checkpoint or anchor: the heap where the segment at an index begins, behind so many operations.
 #[derive(Drop)]
 pub struct OldMark {
     pub index: usize,

@@ -170,8 +170,8 @@ pub fn mark_at(
     }
 }
 
-// The heap where the segment at j begins, or the end, if it is kept, as a checkpoint or as an anchor.
-fn heap_at(
+/// The heap where the segment at j begins, or the end, if it is kept, as a checkpoint or as an anchor.
+pub fn heap_at(
     alloc: Global,
     segments: &Segments,
     end: &Heap,

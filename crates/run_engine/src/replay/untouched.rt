@@ -1,5 +1,5 @@
 //! Old stretches that are taken over though the heaps differ.
-ghost use Rattle.std.specs.Prelude.{◌≡◌, ◌+◌, ◌<◌, ◌≤◌, ℕ, List, IfOk, IfSome, IsTrue, OnOk, length, take, drop, true};
+ghost use Rattle.std.specs.Prelude.{◌≡◌, ◌+◌, ◌<◌, ◌≤◌, ℕ, List, IfOk, IfSome, IsTrue, OnOk, length, take, drop, true, false};
 ghost use Rattle.std.specs.Arc.{arc_value};
 ghost use Rattle.ownership_model.specs.State.{State, nothing_held};
 ghost use Rattle.ownership_model.specs.Step.{end_from, AreUnused};
@@ -11,7 +11,7 @@ ghost use Rattle.heap_difference.specs.Layers.{IsLaidBy};
 ghost use Rattle.run_engine.specs.inner.OldRun.{old_trace};
 ghost use Rattle.run_engine.specs.inner.Placed.{IsNext};
 ghost use Rattle.run_engine.specs.inner.Divergence.{IsDivergence};
-ghost use Rattle.run_engine.specs.inner.Untouched.{CanBeUnder, MayBeUnder, IsUnder, AreUnder, AreNext};
+ghost use Rattle.run_engine.specs.inner.Untouched.{CanBeUnder, MayBeUnder, IsUnder, AreUnder, AreNext, IsClear};
 ghost use Rattle.run_engine.specs.Segments.{trace_of, has_mark, BeginsMarked};
 ghost use Rattle.run_engine.specs.declared.replay.revision.Revision.{Revision};
 
@@ -23,6 +23,7 @@ use crate::replay::revision::Revision;
 use crate::replay::stretch::{begins_anchored, mark_at};
 use crate::segments::blocks::Segments;
 use crate::segments::segment::Segment;
+use crate::segments::standing::Standing;
 use heap_difference::{KeySet, Layer, Numbers};
 use object_heap::Heap;
 use std::alloc::{AllocError, Global};
@@ -85,9 +86,9 @@ pub fn untouched_stretches(
     Ok(None)
 }
 
-// What stands in a heap at some keys, and at those that lie over the heap that is kept for the old segment at an index: none where these are
-// too many, or where a handle is far from the end of its scope.
-fn layer_of(
+/// What stands in a heap at some keys, and at those that lie over the heap that is kept for the old segment at an index: none where these are
+/// too many, or where a handle is far from the end of its scope.
+pub fn layer_of(
     alloc: Global,
     revision: &Revision,
     heap: &Heap,
@@ -157,20 +158,30 @@ fn stretch_under(
         IsUnder revision.now.segments.now (arc_value layer.now) i new s)) }
 {
     let segment = revision.segments.at(i);
-    let Some(touched) = segment.keys() else {
+    if !segment.is_marked() {
         return Ok(None);
-    };
+    }
     if !is_followed(revision.segments, i + 1) {
         return Ok(None);
     }
-    if !layer.is_apart(touched, segment.ops(), segment.outcomes()) {
+    if !is_clear(&segment, layer) {
         return Ok(None);
     }
     segment.under(layer)
 }
 
-// Whether the segment at an index begins with its checkpoint, or there is none.
-fn is_followed(old: &Segments, index: usize) -> bool
+/// Whether it is known that a segment touches no key of the layer, nor a handle just under one that is put in.
+pub fn is_clear(segment: &Standing, layer: &Layer) -> bool
+    ensures { IsTrue result → IsClear segment.now layer.now }
+{
+    let Some(touched) = segment.keys() else {
+        return false;
+    };
+    layer.is_apart(touched, segment.ops(), segment.outcomes())
+}
+
+/// Whether the segment at an index begins with its checkpoint, or there is none.
+pub fn is_followed(old: &Segments, index: usize) -> bool
     ensures { IsTrue result → BeginsMarked (drop index old.now) }
 {
     index >= old.len() || old.at(index).is_marked()
@@ -232,8 +243,8 @@ fn heap_behind(
     mark_at(alloc, revision.segments, revision.end, index + count)
 }
 
-// Segments that are taken over from an index on, and the heap behind them, to go on with.
-fn next_of(revision: &Revision, index: usize, run: Segments, end: Heap) -> NextStretch
+/// Segments that are taken over from an index on, and the heap behind them, to go on with.
+pub fn next_of(revision: &Revision, index: usize, run: Segments, end: Heap) -> NextStretch
     requires { index + length run ≤ length revision.now.segments.now }
     ensures segments { result.segments ≡ run }
     ensures len { result.len ≡ length (trace_of run) }

@@ -1,15 +1,15 @@
 //! A segment of a run.
-ghost use Rattle.std.specs.Prelude.{◌≡◌, IfOk, IfSome, None, Some, is_some, if◌then◌else◌};
+ghost use Rattle.std.specs.Prelude.{◌≡◌, false, IfOk, IfSome, IsTrue, None, Some, is_some, if◌then◌else◌};
 ghost use Rattle.std.specs.Arc.{arc_value};
-ghost use Rattle.std.specs.Option.{option_map};
+ghost use Rattle.std.specs.Option.{option_map, option_copied};
 ghost use Rattle.trace_types.specs.Trace.{place_of};
 ghost use Rattle.ownership_model.specs.State.{State};
 ghost use Rattle.ownership_model.specs.Step.{outcomes_from};
-ghost use Rattle.heap_difference.specs.Naming.{with_names};
-ghost use Rattle.run_engine.specs.inner.Layered.{standing_at, CanStand, MayStand};
+ghost use Rattle.run_engine.specs.Segments.{AreKeysFrom};
+ghost use Rattle.run_engine.specs.inner.Layered.{standing_at, started_at, CanStand, MayStand};
 ghost use Rattle.run_engine.specs.inner.Parts.{AreBetween};
 ghost use Rattle.run_engine.specs.inner.Cleared.{last_name};
-ghost use Rattle.run_engine.specs.inner.Touching.{HasTouchedFrom, shared_keys};
+ghost use Rattle.run_engine.specs.inner.Touching.{shared_keys};
 
 use crate::segments::bounds::{Bounds, bounds_of};
 use crate::segments::kept::{Kept, is_within, layer_in, shared_layer};
@@ -32,7 +32,7 @@ pub struct Segment {
     anchor: Option<Arc<Heap>>,
     // what is laid over both
     layer: Option<Arc<Layer>>,
-    // what the operations touch, move or copy from the checkpoint on, and neither they nor their outcomes name, if that is known: in any
+    // what was told of the operations that they touch, move or copy, and neither they nor their outcomes name, if that is known: in any
     // order, and perhaps more than once
     keys: Option<Arc<Vec<Key>>>,
     body: Arc<Replayed>,
@@ -52,12 +52,13 @@ impl Model for Segment {
 
     ghost use Rattle.run_engine.specs.inner.Parts.{AreBetween};
     ghost use Rattle.run_engine.specs.inner.Cleared.{last_name};
-    ghost use Rattle.run_engine.specs.inner.Touching.{AreKeysOf, shared_keys};
+    ghost use Rattle.run_engine.specs.inner.Touching.{shared_keys};
     ghost use Rattle.run_engine.specs.inner.Layered.{with_layers, AreLaidBelow};
 
     ghost view = { λ s. record {
       mark = option_map (with_layers (option_map arc_value s.layer)) (option_map arc_value s.mark);
       anchor = option_map (with_layers (option_map arc_value s.layer)) (option_map arc_value s.anchor);
+      keys = shared_keys s.keys;
       ops = (arc_value s.body).ops.items;
       outcomes = (arc_value s.body).outcomes;
     } };
@@ -65,9 +66,6 @@ impl Model for Segment {
     ghost invariant = { λ s.
         AreBetween s.bounds.least s.bounds.greatest (arc_value s.body).ops.items
         × (s.last ≡ last_name (arc_value s.body).ops.items)
-        × AreKeysOf (shared_keys s.keys)
-        (option_map (with_layers (option_map arc_value s.layer)) (option_map arc_value s.mark))
-        (arc_value s.body).ops.items (arc_value s.body).outcomes
         × AreLaidBelow (option_map arc_value s.layer) (option_map arc_value s.mark)
         × AreLaidBelow (option_map arc_value s.layer) (option_map arc_value s.anchor) };
 }
@@ -76,13 +74,17 @@ impl Segment {
     /// The segment of a chunk that was replayed, with a checkpoint where it begins, which is an anchor as well if that is wanted. It shares
     /// the operations and outcomes.
     pub fn of(alloc: Global, chunk: &ChunkRun, is_anchored: bool) -> Result<Self, AllocError>
-        ensures { IfOk result
+        ensures value { IfOk result
             (λ s. s ≡ record {
               mark = Some chunk.now.start;
               anchor = if is_anchored then Some chunk.now.start else None;
+              keys = s.keys;
               ops = chunk.now.ops;
               outcomes = outcomes_from chunk.now.start chunk.now.ops;
             }) }
+        ensures keys { IfOk result (λ s. AreKeysFrom chunk.now.start s.keys chunk.now.ops
+            (outcomes_from chunk.now.start chunk.now.ops)) }
+        ensures known { IfOk result (λ s. IsTrue (is_some s.keys)) }
     {
         let mark = Arc::new(alloc, chunk.start().share()?)?;
         let anchor = anchor_of(&mark, is_anchored)?;
@@ -97,15 +99,23 @@ impl Segment {
         })
     }
 
-    /// The segment of operations with these outcomes, with no checkpoint, but with an anchor if one is given.
+    /// The segment of operations with these outcomes, and with the keys that were told of them, with no checkpoint, but with an anchor if one is
+    /// given.
     pub fn bare(
         alloc: Global,
         anchor: Option<Heap>,
         ops: Vec<Op>,
         outcomes: Sequence<Outcome>,
+        told: Vec<Key>,
     ) -> Result<Self, AllocError>
         ensures { IfOk result
-            (λ s. s ≡ record { mark = None; anchor = anchor; ops = ops.items; outcomes = outcomes }) }
+            (λ s. s ≡ record {
+              mark = None;
+              anchor = anchor;
+              keys = Some told.items;
+              ops = ops.items;
+              outcomes = outcomes;
+            }) }
     {
         let anchor = match anchor {
             None => None,
@@ -117,7 +127,7 @@ impl Segment {
             mark: None,
             anchor,
             layer: None,
-            keys: None,
+            keys: Some(Arc::new(alloc, told)?),
             body: Arc::new(alloc, Replayed { ops, outcomes })?,
             bounds,
             last,
@@ -139,7 +149,7 @@ impl Segment {
         })
     }
 
-    /// The same segment again, all of which is shared, with no checkpoint: an anchor stays.
+    /// The same segment again, all of which is shared, with no checkpoint: an anchor stays, and so does what is told of its operations.
     pub fn without_mark(&self) -> Result<Self, AllocError>
         ensures { IfOk result (λ s. s ≡ record self.now { mark = None }) }
     {
@@ -147,20 +157,24 @@ impl Segment {
             mark: None,
             anchor: share_of(&self.anchor)?,
             layer: shared_layer(&self.layer)?,
-            keys: None,
+            keys: keys_of(&self.keys)?,
             body: Arc::try_clone(&self.body)?,
             bounds: self.bounds,
             last: self.last,
         })
     }
 
-    /// The same operations and outcomes where they begin with the heap that a layer makes of their own one, and touch the same as before: all
-    /// is shared, and no heap is made. None if something is laid over it already that is not among the layer's keys.
+    /// The same operations and outcomes where they begin with the heap that a layer makes of their own one: all
+    /// is shared, and no heap is made. Where no heap is kept it is the same segment. None if something is laid over it already that is not among the
+    /// layer's keys.
     pub fn under(&self, layer: &Arc<Layer>) -> Result<Option<Self>, AllocError>
         requires { MayStand (arc_value layer.now) self.now }
         ensures { IfOk result (λ o. IfSome o (λ s. (new : State) →
             CanStand (arc_value layer.now) self.now new → s ≡ standing_at new self.now)) }
     {
+        if !self.has_heap() {
+            return Ok(Some(self.share()?));
+        }
         if !is_within(&self.layer, layer) {
             return Ok(None);
         }
@@ -173,6 +187,31 @@ impl Segment {
             bounds: self.bounds,
             last: self.last,
         }))
+    }
+
+    /// The same operations and outcomes where they begin with another heap, which is kept as their checkpoint, and as their anchor if they have
+    /// one: nothing is laid over it.
+    pub fn started(&self, alloc: Global, heap: Heap) -> Result<Self, AllocError>
+        ensures { IfOk result (λ s. s ≡ started_at heap self.now) }
+    {
+        let mark = Arc::new(alloc, heap)?;
+        let anchor = anchor_of(&mark, self.anchor.is_some())?;
+        Ok(Segment {
+            mark: Some(mark),
+            anchor,
+            layer: None,
+            keys: keys_of(&self.keys)?,
+            body: Arc::try_clone(&self.body)?,
+            bounds: self.bounds,
+            last: self.last,
+        })
+    }
+
+    // Whether a heap is kept where it begins.
+    fn has_heap(&self) -> bool
+        ensures { result ≡ false → (self.now.mark ≡ None) × (self.now.anchor ≡ None) }
+    {
+        self.mark.is_some() || self.anchor.is_some()
     }
 
     /// What is laid over its checkpoint and its anchor, if anything is. It is a hint.
@@ -226,11 +265,10 @@ impl Segment {
         self.body.outcomes.as_slice()
     }
 
-    /// What the operations touch, move or copy from the checkpoint on, if that is known: all of it with what they and their outcomes name. The
-    /// keys come in any order, and perhaps more than once.
+    /// The keys that were told of the operations, if they are known. With what these and their outcomes name they are all that the operations
+    /// touch, move or copy in the run that the segment is of. They come in any order, and perhaps more than once.
     pub fn keys(&self) -> Option<&[Key]>
-        ensures { IfSome result (λ k. HasTouchedFrom
-            (with_names k.now self.now.ops self.now.outcomes) self.now.mark self.now.ops) }
+        ensures { option_copied result ≡ self.now.keys }
     {
         match &self.keys {
             None => None,

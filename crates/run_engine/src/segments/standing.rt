@@ -3,11 +3,9 @@ ghost use Rattle.std.specs.Prelude.{◌≡◌, length, is_some, [], ◌∷◌, I
 ghost use Rattle.std.specs.Arc.{arc_value};
 ghost use Rattle.std.specs.Option.{option_copied};
 ghost use Rattle.ownership_model.specs.State.{State};
-ghost use Rattle.heap_difference.specs.Naming.{with_names};
 ghost use Rattle.run_engine.specs.inner.Cleared.{cleared_if, last_name};
 ghost use Rattle.run_engine.specs.inner.Blocks.{laid_over, AreSoundBelow};
-ghost use Rattle.run_engine.specs.inner.Touching.{HasTouchedFrom};
-ghost use Rattle.run_engine.specs.inner.Layered.{standing_at, CanStand, MayStand};
+ghost use Rattle.run_engine.specs.inner.Layered.{standing_at, started_at, CanStand, MayStand};
 
 use crate::segments::mark::Mark;
 use crate::segments::segment::Segment;
@@ -95,32 +93,43 @@ impl<'a> Standing<'a> {
         }
     }
 
-    /// What the operations touch, move or copy from the checkpoint on, if that is known: all of it with what they and their outcomes name. Where
-    /// something is laid over it, it isn't known. The keys come in any order, and perhaps more than once.
+    /// The keys that were told of the operations, if they are known: where something is exchanged in its heaps, they aren't. With what the operations
+    /// and their outcomes name they are all that the operations touch, move or copy in the run. They come in any order, and perhaps more than once.
     pub fn keys(&self) -> Option<&'a [Key]>
-        ensures { IfSome result (λ k. HasTouchedFrom
-            (with_names k.now self.now.ops self.now.outcomes) self.now.mark self.now.ops) }
+        ensures { option_copied result ≡ self.now.keys }
     {
-        if self.is_given_up || self.laid.is_some() {
-            return None;
+        match self.laid {
+            None => self.segment.keys(),
+            Some(_) => None,
         }
-        self.segment.keys()
     }
 
-    /// The same operations and outcomes where they begin with the heap that a layer makes of their own one, and touch the same as before: all
+    /// The same operations and outcomes where they begin with another heap, which is kept as their checkpoint, and as their anchor if they have
+    /// one. None if something is exchanged in their heaps.
+    pub fn started(&self, alloc: Global, heap: Heap) -> Result<Option<Segment>, AllocError>
+        ensures { IfOk result (λ o. IfSome o (λ s. s ≡ started_at heap self.now)) }
+    {
+        match self.laid {
+            None => Ok(Some(self.segment.started(alloc, heap)?)),
+            Some(_) => Ok(None),
+        }
+    }
+
+    /// The same operations and outcomes where they begin with the heap that a layer makes of their own one: all
     /// is shared, and no heap is made. None if something is laid over it that is not among the layer's keys, or is exchanged.
     pub fn under(&self, layer: &Arc<Layer>) -> Result<Option<Segment>, AllocError>
         requires { MayStand (arc_value layer.now) self.now }
         ensures { IfOk result (λ o. IfSome o (λ s. (new : State) →
             CanStand (arc_value layer.now) self.now new → s ≡ standing_at new self.now)) }
     {
-        if self.is_given_up {
+        if self.laid.is_some() {
             return Ok(None);
         }
-        match self.laid {
-            None => self.segment.under(layer),
-            Some(_) => Ok(None),
+        if self.is_given_up {
+            let bare = self.segment.without_mark()?;
+            return bare.under(layer);
         }
+        self.segment.under(layer)
     }
 
     /// What is laid over its checkpoint and its anchor, if anything is. It is a hint.

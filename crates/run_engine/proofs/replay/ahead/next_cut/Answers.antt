@@ -51,11 +51,11 @@ pub returns-then-is_among-clause-goes_ahead : goal.returns-then-is_among-clause-
 returns-then-is_among-clause-goes_ahead c =
     let pos : 0 < c.args.prefix.len = named-behind c.args.ops.now.ops (contains nat_cmp c.args.prefix.answered) c.args.prefix.len c.inner_name.result c.inner_name.ensures (sym c.is_among.ensures ∙ c.if-is_among.true) in
     record {
-      reached = rw (c.in_ok-prefix-2.ensures.segments, c.in_ok-prefix-2.ensures.end, c.in_ok-prefix-2.ensures.len)
-          (IsReached-bare c.args.ops.now.ops c.args.next.items c.args.prefix.len c.args.prefix.segments c.args.prefix.end c.anchor-anchor.result c.requires.may.reached pos c.requires.may.within c.requires.some c.anchor-anchor.ensures c.requires.next);
-      way = λ old. rw (c.in_ok-prefix-2.ensures.segments, c.in_ok-prefix-2.ensures.len)
+      reached = rw (c.in_ok-prefix-2.ensures.end, c.in_ok-prefix-2.ensures.len)
+          (IsReached-bare c.args.ops.now.ops c.args.next.items c.args.prefix.len c.args.prefix.segments c.args.prefix.end c.anchor-anchor.result c.requires.may.reached pos c.requires.may.within c.requires.some c.anchor-anchor.ensures c.requires.next _ c.in_ok-prefix-2.ensures.segments);
+      way = λ old. rw c.in_ok-prefix-2.ensures.len
           (IsWay-bare c.args.ops.now.ops old c.args.prefix.len (length c.args.next.items) (marks_from 0 c.args.prefix.segments) _ (contains nat_cmp c.args.prefix.answered) c.inner_name.result c.requires.trace.distinct
-          (record { some = c.requires.some; small = inl c.requires.small }) c.inner_name.ensures (sym c.is_among.ensures ∙ c.if-is_among.true) (marks_from-bare 0 c.args.prefix.segments c.args.prefix.end c.anchor-anchor.result c.args.next.items));
+          (record { some = c.requires.some; small = inl c.requires.small }) c.inner_name.ensures (sym c.is_among.ensures ∙ c.if-is_among.true) (marks_from-bare 0 c.args.prefix.segments _ c.args.prefix.end c.anchor-anchor.result c.args.next.items c.in_ok-prefix-2.ensures.segments));
       answered = c.in_ok-prefix-2.ensures.answered;
     }
 

@@ -12,10 +12,16 @@ use Rattle.run_engine.specs.Segments.{trace_of, marks_from, IsRunFrom}
 use Rattle.run_engine.specs.HeadAndTail.{ShareEnd}
 use Rattle.std.proofs.Math.Seq.{take-length}
 use Rattle.run_engine.proofs.SegmentLemmas.{length-trace_of-next, trace_of-append}
-use Rattle.run_engine.proofs.PieceLemmas.{mark-is}
+use Rattle.run_engine.proofs.PieceLemmas.{mark-is, anchor-is}
 use Rattle.run_engine.proofs.PlaceLemmas.{mark-there, place-within, trace_of-prefix}
-use Rattle.run_engine.proofs.ConvergeLemmas.{IsBeside-first, IsBeside-next, least-agreeing, bounded, ShareEnd-length, IsRunFrom-back, rest-shared, distinct-back, old-unused, new-unused, AgreesAt-here, AgreesAt-there, IsPast-seam, IsSpliced, IsSpliced-rest, IsSpliced-end}
-use Rattle.run_engine.proofs.replay.converge.converge.Goals.{then-is_ahead+in-Some+in_ok-progress+in_ok-heap+in_ok-found+in_default-found+in_ok-progress-2, then-is_ahead+in_default, else-is_ahead}
+use Rattle.run_engine.proofs.ConvergeLemmas.{IsBeside-first, IsBeside-next, IsBeside-stays, least-agreeing, bounded, ShareEnd-length, IsRunFrom-back, rest-shared, distinct-back, old-unused, new-unused, AgreesAt-here, AgreesAt-there, IsPast-seam, IsPastMarks-none, trace_of-rises, marked-there, IsSpliced, IsSpliced-rest, IsSpliced-end}
+use Rattle.run_engine.proofs.replay.converge.converge.Goals.{
+  then-is_ahead+in-Some+in_ok-progress+in_ok-heap+in_ok-found+in_default-found+in_ok-progress-2,
+  then-is_ahead+in_default+then-is_followed+in-Some-anchor+in_ok-heap-2+in_ok-progress-3,
+  then-is_ahead+in_default+then-is_followed+in_default-anchor,
+  then-is_ahead+in_default+else-is_followed,
+  else-is_ahead,
+}
 use Rattle.run_engine.proofs.MarksLemmas.{all_marks-stop, all_marks-rest, IsReached-length}
 use Rattle.run_engine.proofs.LeftLemmas.{left-at-stop, left-at-end}
 use Rattle.run_engine.proofs.DivergenceLemmas.{IsDivergence-fork}
@@ -45,6 +51,11 @@ overflow_add-limits c =
     let le : c.loop-i.at - c.args.seam.base + c.args.seam.edited ≤ length c.args.revision.now.ops.now.ops = moved-within _ _ c.args.seam.base c.args.seam.edited c.loop-i.at c.requires.shared (place-within c.args.revision.now.segments.now c.loop-i.i c.loop-i.at c.loop-i.invariant.place.place) (c.is_ahead.ensures.ahead c.if-is_ahead.true).0 in
     omega (arith, c.args.revision.now.holds.trace.few)
 
+pub overflow_add-limits-in-Some-anchor : goal.overflow_add-limits-in-Some-anchor
+overflow_add-limits-in-Some-anchor c =
+    let le : c.loop-i.at - c.args.seam.base + c.args.seam.edited ≤ length c.args.revision.now.ops.now.ops = moved-within _ _ c.args.seam.base c.args.seam.edited c.loop-i.at c.requires.shared (place-within c.args.revision.now.segments.now c.loop-i.i c.loop-i.at c.loop-i.invariant.place.place) (c.is_ahead.ensures.ahead c.if-is_ahead.true).0 in
+    omega (arith, c.args.revision.now.holds.trace.few)
+
 pub overflow_add-at : goal.overflow_add-at
 overflow_add-at c =
     let next = length-trace_of-next c.args.revision.now.segments.now c.loop-i.i c.at-segment.result (omega (arith, c.loop-i-test.true, c.len-i-end.ensures)) c.at-segment.ensures in
@@ -70,6 +81,15 @@ returns-in_err-found-clause-bound c =
 pub returns-in_err-progress-2-clause-bound : goal.returns-in_err-progress-2-clause-bound
 returns-in_err-progress-2-clause-bound c =
     bounded _ _ _ _ _ _ _ _ _ _ _ _ _ c.loop-i.invariant.place c.requires.shared (c.is_ahead.ensures.ahead c.if-is_ahead.true).0 (omega (arith, c.loop-i.invariant.place.rise, c.advance.ensures.metered.rise))
+
+pub returns-in_err-heap-2-clause-bound : goal.returns-in_err-heap-2-clause-bound
+returns-in_err-heap-2-clause-bound c =
+    let ahead = c.is_ahead.ensures.ahead c.if-is_ahead.true in
+    bounded _ _ _ _ _ _ _ _ _ _ _ _ _ c.loop-i.invariant.place c.requires.shared ahead.0 (omega (arith, c.loop-i.invariant.place.rise, ahead.1))
+
+pub returns-in_err-progress-3-clause-bound : goal.returns-in_err-progress-3-clause-bound
+returns-in_err-progress-3-clause-bound c =
+    bounded _ _ _ _ _ _ _ _ _ _ _ _ _ c.loop-i.invariant.place c.requires.shared (c.is_ahead.ensures.ahead c.if-is_ahead.true).0 (omega (arith, c.loop-i.invariant.place.rise, c.pass_anchor.ensures.metered.rise))
 
 pub returns-in_err-spliced-clause-bound : goal.returns-in_err-spliced-clause-bound
 returns-in_err-spliced-clause-bound c =
@@ -114,22 +134,45 @@ rejoined_at-requires-clause-unused c =
     (new-unused c.args.revision.now.ops.now.ops c.in_ok-progress.progress.prefix.len c.in_ok-progress.progress.prefix.segments (drop c.loop-i.i c.args.revision.now.segments.now) c.in_ok-progress.progress.prefix.end c.in_ok-progress.ensures.beside.reached c.args.revision.now.holds.trace.distinct
     (back c.args.revision.now.segments.now c.args.revision.now.ops.now.ops c.args.seam.base c.args.seam.edited c.loop-i.i c.loop-i.at c.in_ok-progress.progress.prefix.len c.requires.shared c.loop-i.invariant.place.place (c.is_ahead.ensures.ahead c.if-is_ahead.true).0 c.in_ok-progress.ensures.there))
 
-pub go_past-requires-clause-place : goal.go_past-requires-clause-place
-go_past-requires-clause-place c = c.loop-i.invariant.place.place
+pub pass-requires-clause-place : goal.pass-requires-clause-place
+pass-requires-clause-place c = c.loop-i.invariant.place.place
 
-pub go_past-requires-clause-kept : goal.go_past-requires-clause-kept
-go_past-requires-clause-kept c =
+pub pass-requires-clause-kept : goal.pass-requires-clause-kept
+pass-requires-clause-kept c =
     has_mark-at c.args.revision.now.segments.now c.loop-i.i c.at-segment.result (omega (arith, c.loop-i-test.true, c.len-i-end.ensures)) c.at-segment.ensures ∙ ap is_some (sym c.in-Some.ensures)
 
-pub go_past-requires-clause-mark : goal.go_past-requires-clause-mark
-go_past-requires-clause-mark c =
+pub pass-requires-clause-mark : goal.pass-requires-clause-mark
+pass-requires-clause-mark c =
     c.in_ok-heap.ensures
     ∙ mark-is c.args.revision.now.segments.now c.loop-i.i c.at-segment.result c.in-Some.mark c.args.revision.now.holds.kept.run.replay (omega (arith, c.loop-i-test.true, c.len-i-end.ensures)) c.at-segment.ensures c.in-Some.ensures
     ∙ ap (end_from nothing_held) (trace_of-prefix c.args.revision.now.segments.now c.loop-i.i c.loop-i.at c.loop-i.invariant.place.place)
 
-pub go_past-requires-clause-shared : goal.go_past-requires-clause-shared
-go_past-requires-clause-shared c =
+pub pass-requires-clause-shared : goal.pass-requires-clause-shared
+pass-requires-clause-shared c =
     back c.args.revision.now.segments.now c.args.revision.now.ops.now.ops c.args.seam.base c.args.seam.edited c.loop-i.i c.loop-i.at c.in_ok-progress.progress.prefix.len c.requires.shared c.loop-i.invariant.place.place (c.is_ahead.ensures.ahead c.if-is_ahead.true).0 c.in_ok-progress.ensures.there
+
+-- an old anchor
+pub pass_anchor-requires-clause-may : goal.pass_anchor-requires-clause-may
+pass_anchor-requires-clause-may c =
+    let ahead = c.is_ahead.ensures.ahead c.if-is_ahead.true in
+    record {
+      reached = c.loop-i.invariant.beside.reached;
+      order = ahead.1;
+      within = moved-within _ _ c.args.seam.base c.args.seam.edited c.loop-i.at c.requires.shared (place-within c.args.revision.now.segments.now c.loop-i.i c.loop-i.at c.loop-i.invariant.place.place) ahead.0;
+    }
+
+pub pass_anchor-requires-clause-place : goal.pass_anchor-requires-clause-place
+pass_anchor-requires-clause-place c = c.loop-i.invariant.place.place
+
+pub pass_anchor-requires-clause-mark : goal.pass_anchor-requires-clause-mark
+pass_anchor-requires-clause-mark c =
+    c.in_ok-heap-2.ensures
+    ∙ anchor-is c.args.revision.now.segments.now c.loop-i.i c.at-segment.result c.in-Some-anchor.anchor c.args.revision.now.holds.kept.run.replay (omega (arith, c.loop-i-test.true, c.len-i-end.ensures)) c.at-segment.ensures c.in-Some-anchor.ensures
+    ∙ ap (end_from nothing_held) (trace_of-prefix c.args.revision.now.segments.now c.loop-i.i c.loop-i.at c.loop-i.invariant.place.place)
+
+pub pass_anchor-requires-clause-shared : goal.pass_anchor-requires-clause-shared
+pass_anchor-requires-clause-shared c =
+    back c.args.revision.now.segments.now c.args.revision.now.ops.now.ops c.args.seam.base c.args.seam.edited c.loop-i.i c.loop-i.at (c.loop-i.at - c.args.seam.base + c.args.seam.edited) c.requires.shared c.loop-i.invariant.place.place (c.is_ahead.ensures.ahead c.if-is_ahead.true).0 refl
 
 -- where the old run goes on it has the operations that are left
 rest-is : (c : goal.Joined-divergence-17) → trace_of c.in-Some-found.rest ≡ trace_of (drop c.loop-i.i c.args.revision.now.segments.now)
@@ -185,21 +228,21 @@ place-end old i at ge le e = let n : i ≡ length old = omega arith in sym e ∙
 
 pub returns-clause-marks : goal.returns-clause-marks
 returns-clause-marks c =
-    let there : c.in_ok-progress-3.progress.prefix.len ≡ length c.args.revision.now.ops.now.ops = c.in_ok-progress-3.ensures.there ∙ c.len.ensures in
+    let there : c.in_ok-progress-4.progress.prefix.len ≡ length c.args.revision.now.ops.now.ops = c.in_ok-progress-4.ensures.there ∙ c.len.ensures in
     let e = place-end c.args.revision.now.segments.now c.loop-i.i c.loop-i.at (omega (arith, c.loop-i-test.false, c.len-i-end.ensures)) (omega (arith, c.loop-i.auto.i-end (omega (arith, c.last_from-first.ensures.last.within, c.len-i-end.ensures)), c.len-i-end.ensures)) c.loop-i.invariant.place.place in
-    let trace : trace_of c.in_ok-progress-3.progress.prefix.segments ≡ c.args.revision.now.ops.now.ops = (IsSpliced-end c.args.revision.now.ops.now.ops c.in_ok-progress-3.progress.prefix.len c.in_ok-progress-3.progress.prefix.segments c.in_ok-progress-3.progress.prefix.end c.in_ok-progress-3.ensures.beside.reached there).trace in
-    left-at-end c.args.revision.now.guesses.now c.args.revision.now.segments.now c.args.revision.now.ops.now.ops (marks_from 0 c.args.prefix.segments) (marks_from 0 c.in_ok-progress-3.progress.prefix.segments) _ c.args.seam.base c.args.seam.edited c.args.prefix.len c.in_ok-progress-3.progress.prefix.len c.args.shelf.now c.advance-2.new.shelf _ _
+    let trace : trace_of c.in_ok-progress-4.progress.prefix.segments ≡ c.args.revision.now.ops.now.ops = (IsSpliced-end c.args.revision.now.ops.now.ops c.in_ok-progress-4.progress.prefix.len c.in_ok-progress-4.progress.prefix.segments c.in_ok-progress-4.progress.prefix.end c.in_ok-progress-4.ensures.beside.reached there).trace in
+    left-at-end c.args.revision.now.guesses.now c.args.revision.now.segments.now c.args.revision.now.ops.now.ops (marks_from 0 c.args.prefix.segments) (marks_from 0 c.in_ok-progress-4.progress.prefix.segments) _ c.args.seam.base c.args.seam.edited c.args.prefix.len c.in_ok-progress-4.progress.prefix.len c.args.shelf.now c.advance-2.new.shelf _ _
     c.args.revision.now.holds.trace.distinct c.requires.shared
     (λ p mark behind agrees.
     let least : c.loop-i.at ≤ p = least-agreeing _ _ _ _ _ _ _ _ _ _ _ _ c.loop-i.invariant.place p mark behind agrees in
     omega arith)
-    there (GoesOn-next _ _ _ _ _ _ _ _ _ _ _ _ c.loop-i.invariant.beside c.in_ok-progress-3.ensures.beside).onward
-    (ap (λ ops. marks_from 0 c.in_ok-progress-3.progress.prefix.segments ++ length ops ∷ []) trace)
+    there (GoesOn-next _ _ _ _ _ _ _ _ _ _ _ _ c.loop-i.invariant.beside c.in_ok-progress-4.ensures.beside).onward
+    (ap (λ ops. marks_from 0 c.in_ok-progress-4.progress.prefix.segments ++ length ops ∷ []) trace)
 
 pub returns-clause-stepped : goal.returns-clause-stepped
 returns-clause-stepped c =
-    AreStepped-end (record { old = trace_of c.args.revision.now.segments.now; ops = c.args.revision.now.ops.now.ops; base = c.args.seam.base; edited = c.args.seam.edited; marks = all_marks c.args.revision.now.segments.now; chunks = with_guesses c.args.revision.now.guesses.now c.args.shelf.now.chunks }) c.args.prefix.len c.in_ok-progress-3.progress.prefix.len c.args.meter.now _ (c.in_ok-progress-3.ensures.there ∙ c.len.ensures)
-    (GoesOn-steps _ _ _ _ _ _ _ _ _ (GoesOn-next _ _ _ _ _ _ _ _ _ _ _ _ c.loop-i.invariant.beside c.in_ok-progress-3.ensures.beside))
+    AreStepped-end (record { old = trace_of c.args.revision.now.segments.now; ops = c.args.revision.now.ops.now.ops; base = c.args.seam.base; edited = c.args.seam.edited; marks = all_marks c.args.revision.now.segments.now; chunks = with_guesses c.args.revision.now.guesses.now c.args.shelf.now.chunks }) c.args.prefix.len c.in_ok-progress-4.progress.prefix.len c.args.meter.now _ (c.in_ok-progress-4.ensures.there ∙ c.len.ensures)
+    (GoesOn-steps _ _ _ _ _ _ _ _ _ (GoesOn-next _ _ _ _ _ _ _ _ _ _ _ _ c.loop-i.invariant.beside c.in_ok-progress-4.ensures.beside))
 
 pub loop-i-init : goal.loop-i-init
 loop-i-init c = record {
@@ -213,8 +256,8 @@ loop-i-init c = record {
   never_less = omega arith;
 }
 
-pub returns-in_err-progress-3-clause-bound : goal.returns-in_err-progress-3-clause-bound
-returns-in_err-progress-3-clause-bound c =
+pub returns-in_err-progress-4-clause-bound : goal.returns-in_err-progress-4-clause-bound
+returns-in_err-progress-4-clause-bound c =
     let e = place-end c.args.revision.now.segments.now c.loop-i.i c.loop-i.at (omega (arith, c.loop-i-test.false, c.len-i-end.ensures)) (omega (arith, c.loop-i.auto.i-end (omega (arith, c.last_from-first.ensures.last.within, c.len-i-end.ensures)), c.len-i-end.ensures)) c.loop-i.invariant.place.place in
     let shared = c.requires.shared in
     let long = ShareEnd-length (trace_of c.args.revision.now.segments.now) c.args.revision.now.ops.now.ops c.args.seam.base c.args.seam.edited shared in
@@ -244,9 +287,9 @@ loop-i-preserved c =
           (record {
             place = IsBeside-next c.args.revision.now.segments.now c.args.revision.now.ops.now.ops c.args.seam.base c.args.seam.edited c.args.prefix.len c.args.meter.now c.loop-i.i c.loop-i.at c.loop-i.progress.prefix.len c.loop-i.progress.prefix.segments c.loop-i.progress.prefix.end c.loop-i.meter
                 w.in_ok-progress-2.progress.prefix.len w.in_ok-progress-2.progress.prefix.segments w.in_ok-progress-2.progress.prefix.end w.advance.new.meter c.at-segment.result c.loop-i.invariant.place lt c.at-segment.ensures past.reached
-                (λ p later passed agrees.
-                IsPast-seam (trace_of c.args.revision.now.segments.now) c.args.revision.now.ops.now.ops c.args.seam.base c.args.seam.edited c.loop-i.at (length (trace_of (take (c.loop-i.i + 1) c.args.revision.now.segments.now))) w.in_ok-progress.progress.prefix.len
-                w.in_ok-progress-2.progress.prefix.len p behind (omega (arith, next)) there w.in_ok-progress-2.ensures.past (omega (arith, next, later)) passed agrees)
+                (λ p mark later passed agrees.
+                IsPast-seam (trace_of c.args.revision.now.segments.now) c.args.revision.now.ops.now.ops (all_marks c.args.revision.now.segments.now) c.args.seam.base c.args.seam.edited c.loop-i.at (length (trace_of (take (c.loop-i.i + 1) c.args.revision.now.segments.now))) w.in_ok-progress.progress.prefix.len
+                w.in_ok-progress-2.progress.prefix.len p behind (omega (arith, next)) there w.in_ok-progress-2.ensures.past mark (omega (arith, next, later)) passed agrees)
                 (omega (arith, c.loop-i.invariant.place.rise, rise, w.in_ok-progress-2.ensures.no_less))
                 (λ marked behind agrees.
                 let agree : Agree w.in_ok-progress.progress.prefix.end w.in-Some.mark = AgreesAt-there (trace_of c.args.revision.now.segments.now) c.args.revision.now.ops.now.ops c.args.seam.base c.args.seam.edited c.loop-i.at w.in_ok-progress.progress.prefix.end w.in-Some.mark (prefix.state ∙ ap (λ x. end_from nothing_held (take x c.args.revision.now.ops.now.ops)) there) (m ∙ ap (end_from nothing_held) (trace_of-prefix c.args.revision.now.segments.now c.loop-i.i c.loop-i.at c.loop-i.invariant.place.place)) agrees in
@@ -260,12 +303,47 @@ loop-i-preserved c =
             different = w.in_ok-progress-2.ensures.known;
             never_less = omega (arith, c.loop-i.invariant.never_less, w.advance.ensures.metered.never_less);
           })
-      | then-is_ahead+in_default w ↦
+      | then-is_ahead+in_default+then-is_followed+in-Some-anchor+in_ok-heap-2+in_ok-progress-3 w ↦
+          let lt : c.loop-i.i < length c.args.revision.now.segments.now = omega (arith, c.loop-i-test.true, c.len-i-end.ensures) in
+          let on = w.in_ok-progress-3.ensures in
+          let behind = (c.is_ahead.ensures.ahead w.if-is_ahead.true).0 in
+          let to : ℕ = c.loop-i.at - c.args.seam.base + c.args.seam.edited in
+          let next : ℕ = length (trace_of (take (c.loop-i.i + 1) c.args.revision.now.segments.now)) in
+          let next_is = length-trace_of-next c.args.revision.now.segments.now c.loop-i.i c.at-segment.result lt c.at-segment.ensures ∙ ap (λ n. n + length c.at-segment.result.ops) c.loop-i.invariant.place.place in
+          let rises = trace_of-rises c.args.revision.now.segments.now c.loop-i.i c.args.revision.now.holds.kept.run.full lt in
           rw (w.progress-is, w.meter-is, w.shelf-is, w.divergence-is, w.difference-is, c.ops.ensures)
           (record {
             place = IsBeside-next c.args.revision.now.segments.now c.args.revision.now.ops.now.ops c.args.seam.base c.args.seam.edited c.args.prefix.len c.args.meter.now c.loop-i.i c.loop-i.at c.loop-i.progress.prefix.len c.loop-i.progress.prefix.segments c.loop-i.progress.prefix.end c.loop-i.meter
-                c.loop-i.progress.prefix.len c.loop-i.progress.prefix.segments c.loop-i.progress.prefix.end c.loop-i.meter c.at-segment.result c.loop-i.invariant.place (omega (arith, c.loop-i-test.true, c.len-i-end.ensures)) c.at-segment.ensures c.loop-i.invariant.place.prefix
-                (λ p later passed agrees. c.loop-i.invariant.place.ahead p (omega (arith, later)) passed agrees) c.loop-i.invariant.place.rise
+                w.in_ok-progress-3.progress.prefix.len w.in_ok-progress-3.progress.prefix.segments w.in_ok-progress-3.progress.prefix.end w.pass_anchor.new.meter c.at-segment.result c.loop-i.invariant.place lt c.at-segment.ensures on.beside.reached
+                (λ p mark later passed agrees.
+                IsPast-seam (trace_of c.args.revision.now.segments.now) c.args.revision.now.ops.now.ops (all_marks c.args.revision.now.segments.now) c.args.seam.base c.args.seam.edited c.loop-i.at next to w.in_ok-progress-3.progress.prefix.len p behind (omega (arith, next_is)) refl
+                (IsPastMarks-none (trace_of c.args.revision.now.segments.now) c.args.revision.now.ops.now.ops (all_marks c.args.revision.now.segments.now) c.loop-i.at next to w.in_ok-progress-3.progress.prefix.len (omega (arith, rises, c.loop-i.invariant.place.place)) on.past)
+                mark (omega (arith, next_is, later)) passed agrees)
+                (omega (arith, c.loop-i.invariant.place.rise, w.pass_anchor.ensures.metered.rise, on.no_less))
+                (λ marked behind agrees. let f : is_some c.at-segment.result.mark ≡ false = ap is_some (sym w.in_default.ensures) in cc);
+            beside = GoesOn-next _ _ _ _ _ _ _ _ _ _ _ _ c.loop-i.invariant.beside on.beside;
+            fork = on.fork;
+            placed = on.placed;
+            known = c.loop-i.invariant.known;
+            different = on.known;
+            never_less = omega (arith, c.loop-i.invariant.never_less, w.pass_anchor.ensures.metered.never_less);
+          })
+      | then-is_ahead+in_default+then-is_followed+in_default-anchor w ↦
+          rw (w.progress-is, w.meter-is, w.shelf-is, w.divergence-is, w.difference-is, c.ops.ensures)
+          (record {
+            place = IsBeside-stays _ _ _ _ _ _ _ _ _ _ _ _ c.at-segment.result c.loop-i.invariant.place (omega (arith, c.loop-i-test.true, c.len-i-end.ensures)) c.at-segment.ensures
+                (λ marked behind agrees. let f : is_some c.at-segment.result.mark ≡ false = ap is_some (sym w.in_default.ensures) in cc);
+            beside = c.loop-i.invariant.beside;
+            fork = c.loop-i.invariant.fork;
+            placed = c.loop-i.invariant.placed;
+            known = c.loop-i.invariant.known;
+            different = c.loop-i.invariant.different;
+            never_less = c.loop-i.invariant.never_less;
+          })
+      | then-is_ahead+in_default+else-is_followed w ↦
+          rw (w.progress-is, w.meter-is, w.shelf-is, w.divergence-is, w.difference-is, c.ops.ensures)
+          (record {
+            place = IsBeside-stays _ _ _ _ _ _ _ _ _ _ _ _ c.at-segment.result c.loop-i.invariant.place (omega (arith, c.loop-i-test.true, c.len-i-end.ensures)) c.at-segment.ensures
                 (λ marked behind agrees. let f : is_some c.at-segment.result.mark ≡ false = ap is_some (sym w.in_default.ensures) in cc);
             beside = c.loop-i.invariant.beside;
             fork = c.loop-i.invariant.fork;
@@ -277,10 +355,11 @@ loop-i-preserved c =
       | else-is_ahead w ↦
           rw (w.progress-is, w.meter-is, w.shelf-is, w.divergence-is, w.difference-is, c.ops.ensures)
           (record {
-            place = IsBeside-next c.args.revision.now.segments.now c.args.revision.now.ops.now.ops c.args.seam.base c.args.seam.edited c.args.prefix.len c.args.meter.now c.loop-i.i c.loop-i.at c.loop-i.progress.prefix.len c.loop-i.progress.prefix.segments c.loop-i.progress.prefix.end c.loop-i.meter
-                c.loop-i.progress.prefix.len c.loop-i.progress.prefix.segments c.loop-i.progress.prefix.end c.loop-i.meter c.at-segment.result c.loop-i.invariant.place (omega (arith, c.loop-i-test.true, c.len-i-end.ensures)) c.at-segment.ensures c.loop-i.invariant.place.prefix
-                (λ p later passed agrees. c.loop-i.invariant.place.ahead p (omega (arith, later)) passed agrees) c.loop-i.invariant.place.rise
-                (λ marked behind agrees. c.loop-i.invariant.place.ahead c.loop-i.at (omega arith) (c.is_ahead.ensures.behind w.if-is_ahead.false behind) agrees);
+            place = IsBeside-stays _ _ _ _ _ _ _ _ _ _ _ _ c.at-segment.result c.loop-i.invariant.place (omega (arith, c.loop-i-test.true, c.len-i-end.ensures)) c.at-segment.ensures
+                (λ marked behind agrees.
+                c.loop-i.invariant.place.ahead c.loop-i.at
+                (marked-there c.args.revision.now.segments.now c.loop-i.i c.loop-i.at c.at-segment.result (omega (arith, c.loop-i-test.true, c.len-i-end.ensures)) c.at-segment.ensures marked c.loop-i.invariant.place.place)
+                (omega arith) (c.is_ahead.ensures.behind w.if-is_ahead.false behind) agrees);
             beside = c.loop-i.invariant.beside;
             fork = c.loop-i.invariant.fork;
             placed = c.loop-i.invariant.placed;

@@ -1,10 +1,10 @@
-use Rattle.std.proofs.Common.{◌≡◌, ◌+◌, ◌-◌, length, take, drop, refl, sym, subst, ◌∙◌, arith}
+use Rattle.std.proofs.Common.{◌≡◌, ◌+◌, ◌-◌, length, take, drop, refl, sym, subst, arith}
 use Rattle.std.specs.Prelude.{slice_range}
 use mathlib.Core.Logic.{inl, inr}
 use Rattle.run_engine.specs.Memo.{IsAmong}
 use Rattle.run_engine.proofs.MemoLemmas.{IsSearched-none}
 use Rattle.run_engine.proofs.GuessLemmas.{IsAmong-guess, IsAmong-chunk}
-use Rattle.run_engine.proofs.PieceLemmas.{IsReached-next, IsPiece-of-more, take-next, distinct-slice_range, unused-slice_range}
+use Rattle.run_engine.proofs.PieceLemmas.{IsPiece-of-more, take-next, distinct-slice_range, unused-slice_range}
 use Rattle.run_engine.proofs.replay.converge.next_piece.Goals as goal
 
 pub stepped-requires-clause-distinct : goal.stepped-requires-clause-distinct
@@ -29,6 +29,19 @@ returns-in-Some-known-clause-piece c =
 pub returns-in-Some-stretch-clause-taken : goal.returns-in-Some-stretch-clause-taken
 returns-in-Some-stretch-clause-taken c = inl (inl (inl (rw c.in-Some-stretch.is at c.in_ok-stretch.ensures.stretch)), refl)
 
+pub returns-in-Some-stretch-clause-next : goal.returns-in-Some-stretch-clause-next
+returns-in-Some-stretch-clause-next c = rw c.in-Some-stretch.is at (c.in_ok-stretch.ensures.next c.found.new.shelf.chunks)
+
+-- an old stretch that begins where both runs have one heap
+pub returns-in-Some-same-clause-taken : goal.returns-in-Some-same-clause-taken
+returns-in-Some-same-clause-taken c = inl (inl (inl (rw c.in-Some-same.is at c.in_ok-same.ensures.stretch)), refl)
+
+pub returns-in-Some-same-clause-next : goal.returns-in-Some-same-clause-next
+returns-in-Some-same-clause-next c = rw c.in-Some-same.is at (c.in_ok-same.ensures.next c.args.shelf.now.chunks)
+
+pub returns-in-Some-same-clause-searched : goal.returns-in-Some-same-clause-searched
+returns-in-Some-same-clause-searched c = IsSearched-none c.args.shelf.now
+
 pub returns-clause-taken : goal.returns-clause-taken
 returns-clause-taken c = inr c.in_ok-piece.ensures.count
 
@@ -36,16 +49,6 @@ pub returns-clause-piece : goal.returns-clause-piece
 returns-clause-piece c =
     let piece = rw c.in_ok-next.ensures at c.in_ok-piece.ensures.piece in
     IsPiece-of-more c.args.progress.now.prefix.end _ (drop c.args.progress.now.prefix.len c.args.revision.now.ops.now.ops) (c.args.progress.now.prefix.len + c.min-len.result - c.args.progress.now.prefix.len) (c.args.to - c.args.progress.now.prefix.len) _ _ (omega arith) piece
-
-pub returns-in-Some-stretch-clause-next : goal.returns-in-Some-stretch-clause-next
-returns-in-Some-stretch-clause-next c = rw c.in-Some-stretch.is at (c.in_ok-stretch.ensures.next c.found.new.shelf.chunks)
-
-pub returns-in-Some-stretch-clause-fork : goal.returns-in-Some-stretch-clause-fork
-returns-in-Some-stretch-clause-fork c =
-    let piece = rw c.in-Some-stretch.is at c.in_ok-stretch.ensures.piece in
-    sym (IsReached-next c.args.revision.now.ops.now.ops c.args.progress.now.prefix.len c.args.to c.in-Some-stretch.piece.len c.args.progress.now.prefix.segments c.in-Some-stretch.piece.segments c.args.progress.now.prefix.end c.in-Some-stretch.piece.end
-    c.requires.may.reached c.requires.may.order c.requires.may.within piece).state
-    ∙ rw c.in-Some-stretch.is at c.in_ok-stretch.ensures.base
 
 -- a guess
 pub returns-in-Some-clause-taken : goal.returns-in-Some-clause-taken

@@ -6,7 +6,7 @@ use Rattle.heap_difference.specs.KeySets.{nothing, set_of, Has}
 use Rattle.heap_difference.specs.Naming.{with_names}
 use Rattle.run_engine.specs.SegmentView.{SegmentView}
 use Rattle.run_engine.specs.inner.Difference.{HasGathered}
-use Rattle.run_engine.proofs.DifferenceLemmas.{HasGathered-none, HasGathered-next, HasGathered-joined}
+use Rattle.run_engine.proofs.DifferenceLemmas.{touched-there, HasGathered-none, HasGathered-next, HasGathered-joined}
 use Rattle.run_engine.proofs.replay.difference.gathered.Goals as goal
 
 pub loop-i-init : goal.loop-i-init
@@ -24,7 +24,8 @@ loop-i-preserved c =
     ∙ ap (λ (os : List Operation). told ++ with_names touched os c.outcomes.result.now) c.ops.ensures
     ∙ ap (λ (os : List Outcome). told ++ with_names touched s.ops os) c.outcomes.ensures in
     HasGathered-next c.args.segments.now c.args.from c.loop-i.i s told (with_names touched s.ops s.outcomes) c.add_all.new.keys.items
-    c.requires.replay (omega (arith, c.loop-i-test.true, c.requires.within)) c.at-segment.ensures (rw c.in-Some.is at c.keys.ensures) all c.loop-i.invariant
+    c.requires.replay (omega (arith, c.loop-i-test.true, c.requires.within)) c.at-segment.ensures
+    (touched-there c.args.segments.now c.loop-i.i s touched c.requires.replay (omega (arith, c.loop-i-test.true, c.requires.within)) c.at-segment.ensures (rw c.in-Some.is at c.keys.ensures)) all c.loop-i.invariant
 
 pub returns : goal.returns
 returns c =

@@ -22,9 +22,9 @@ pub loop-prefix-preserved-then-is_given_up : goal.loop-prefix-preserved-then-is_
 loop-prefix-preserved-then-is_given_up c =
     let on = c.in_ok-prefix.ensures in
     let goes : is_given_up c.args.flags.now c.loop-prefix.prefix.len ≡ true = sym c.is_given_up.ensures ∙ c.if-is_given_up.true in
-    rw (on.segments, on.end, on.len, on.count)
+    rw (on.end, on.len, on.count)
     (IsLoaded-gone c.args.ops.now c.in_ok-copies.copies.items c.args.flags.now c.args.meter.now c.loop-prefix.prefix.len _ c.loop-prefix.meter c.loop-prefix.prefix.segments c.loop-prefix.prefix.end c.anchor-anchor.result
-    c.loop-prefix.invariant c.loop-prefix-test.true (omega arith) c.anchor-anchor.ensures c.in_ok-copies.ensures goes)
+    c.loop-prefix.invariant c.loop-prefix-test.true (omega arith) c.anchor-anchor.ensures c.in_ok-copies.ensures goes _ on.segments)
 
 pub loop-prefix-preserved : goal.loop-prefix-preserved
 loop-prefix-preserved c =

@@ -1,14 +1,9 @@
-use Rattle.std.proofs.Common.{◌≡◌, ℕ, List, false, arith, subst, sym}
-use Rattle.std.specs.Prelude.{Option, Some, None, IfSome}
+use Rattle.std.proofs.Common.{◌∙◌, arith, sym}
 use Rattle.std.specs.Arc.{arc_value}
 use Rattle.std.proofs.lemmas.Result.{IfOk-weaker}
-use Rattle.ownership_model.specs.State.{State}
-use Rattle.heap_difference.specs.Naming.{with_names}
-use Rattle.heap_difference.specs.Layers.{LayerView}
 use Rattle.run_engine.specs.SegmentView.{SegmentView}
-use Rattle.run_engine.specs.inner.Layered.{CanStand, standing_at}
 use Rattle.run_engine.specs.inner.Untouched.{CanBeUnder, IsUnder}
-use Rattle.run_engine.proofs.UntouchedLemmas.{full-few, under-here}
+use Rattle.run_engine.proofs.UntouchedLemmas.{full-few, under-here, stands}
 use Rattle.run_engine.proofs.replay.untouched.stretch_under.Goals as goal
 
 pub overflow_add-i : goal.overflow_add-i
@@ -20,16 +15,9 @@ under-requires c =
     let can = c.requires.is in
     record {
       new = c.requires.new;
-      is = (under-here c.args.revision.now.segments.now c.args.revision.now.end.now c.args.i c.requires.new s (arc_value c.args.layer.now) (with_names c.in-Some.touched.now s.ops s.outcomes) c.args.revision.now.holds.kept can.within c.at-segment.ensures
-          (c.is_followed.ensures c.if-not-is_followed.false) can.laid can.unused c.in-Some.ensures
-          (rw (c.ops.ensures, c.outcomes.ensures, c.deref.ensures) at (c.is_apart.ensures.0 c.if-not-is_apart.false))).0;
+      is = (under-here c.args.revision.now.segments.now c.args.revision.now.end.now c.args.i c.requires.new s (arc_value c.args.layer.now) c.args.revision.now.holds.kept can.within c.at-segment.ensures
+          (sym c.is_marked.ensures ∙ c.if-not-is_marked.false) (c.is_followed.ensures c.if-not-is_followed.false) can.laid can.unused (rw c.deref.ensures at (c.is_clear.ensures c.if-not-is_clear.false))).0;
     }
-
--- a segment that stands at the new state is taken over
-stands : (old : List SegmentView) (l : LayerView) (i : ℕ) (s : SegmentView) (o : Option SegmentView) → ((new : State) → CanBeUnder old l i new → CanStand l s new × IsUnder old l i new (standing_at new s))
-    → IfSome o (λ t. (new : State) → CanStand l s new → t ≡ standing_at new s) → IfSome o (λ t. (new : State) → CanBeUnder old l i new → IsUnder old l i new t)
-stands old l i s None here h = tt
-stands old l i s (Some t) here h = λ new can. let both = here new can in subst (IsUnder old l i new) (sym (h new both.0)) both.1
 
 pub returns : goal.returns
 returns c =
@@ -37,8 +25,8 @@ returns c =
     let old = c.args.revision.now.segments.now in
     let l = arc_value c.args.layer.now in
     IfOk-weaker c.under.result _ _
-    (λ o. stands old l c.args.i s o (λ new can.
-    under-here old c.args.revision.now.end.now c.args.i new s l (with_names c.in-Some.touched.now s.ops s.outcomes) c.args.revision.now.holds.kept can.within c.at-segment.ensures
-    (c.is_followed.ensures c.if-not-is_followed.false) can.laid can.unused c.in-Some.ensures
-    (rw (c.ops.ensures, c.outcomes.ensures, c.deref.ensures) at (c.is_apart.ensures.0 c.if-not-is_apart.false))))
+    (λ o. stands l s (λ new. CanBeUnder old l c.args.i new) (λ new t. IsUnder old l c.args.i new t) o
+    (λ new can.
+    under-here old c.args.revision.now.end.now c.args.i new s l c.args.revision.now.holds.kept can.within c.at-segment.ensures
+    (sym c.is_marked.ensures ∙ c.if-not-is_marked.false) (c.is_followed.ensures c.if-not-is_followed.false) can.laid can.unused (rw c.deref.ensures at (c.is_clear.ensures c.if-not-is_clear.false))))
     c.under.ensures

@@ -7,16 +7,16 @@ use Rattle.run_engine.specs.Segments.{trace_of}
 use Rattle.run_engine.specs.inner.Difference.{DifferAt}
 use Rattle.run_engine.proofs.PlaceLemmas.{place-within, trace_of-prefix}
 use Rattle.run_engine.proofs.ConvergeLemmas.{new-unused, DifferAt-passed, over-few, over-end, over-far}
-use Rattle.run_engine.proofs.replay.converge.next_untouched.Goals.{in-None, in-Some-next}
-use Rattle.run_engine.proofs.replay.converge.next_untouched.Goals as goal
+use Rattle.run_engine.proofs.replay.passing.next_part.Goals.{in-None, in-Some-next}
+use Rattle.run_engine.proofs.replay.passing.next_part.Goals as goal
 
-pub untouched_stretches-requires-clause-unused : goal.untouched_stretches-requires-clause-unused
-untouched_stretches-requires-clause-unused c =
+pub untouched_part-requires-clause-unused : goal.untouched_part-requires-clause-unused
+untouched_part-requires-clause-unused c =
     new-unused c.args.revision.now.ops.now.ops c.args.progress.now.prefix.len c.args.progress.now.prefix.segments (drop c.args.old.now.index c.args.revision.now.segments.now) c.args.progress.now.prefix.end
     c.requires.prefix c.args.revision.now.holds.trace.distinct c.requires.shared
 
-pub untouched_stretches-requires-clause-difference : goal.untouched_stretches-requires-clause-difference
-untouched_stretches-requires-clause-difference c =
+pub untouched_part-requires-clause-difference : goal.untouched_part-requires-clause-difference
+untouched_part-requires-clause-difference c =
     let there : IsTrue c.in_ok-did_look.did_look = search rules in
     subst (λ o. IfSome o (λ k. IsDifference k c.args.old.now.mark c.args.progress.now.prefix.end)) (sym c.in-Some.ensures) (c.in_ok-did_look.ensures.keys there)
 

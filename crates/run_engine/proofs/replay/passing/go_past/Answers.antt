@@ -5,7 +5,7 @@ use Rattle.run_engine.specs.inner.OldRun.{reusable}
 use Rattle.run_engine.specs.inner.Untouched.{IsPast}
 use Rattle.run_engine.proofs.GoesOnLemmas.{GoesOn-none}
 use Rattle.run_engine.proofs.OverLemmas.{IsPast-next}
-use Rattle.run_engine.proofs.replay.converge.go_past.Goals as goal
+use Rattle.run_engine.proofs.replay.passing.go_past.Goals as goal
 
 -- the replay stays where it stands
 pub returns-in-None-clause-beside : goal.returns-in-None-clause-beside

@@ -7,7 +7,7 @@ use Rattle.run_engine.specs.inner.Untouched.{AreTakenOver}
 use Rattle.run_engine.proofs.ConvergeLemmas.{over-few}
 use Rattle.run_engine.proofs.FreshLemmas.{begins-there}
 use Rattle.run_engine.proofs.OverLemmas.{GoesOn-over}
-use Rattle.run_engine.proofs.replay.converge.taken.Goals as goal
+use Rattle.run_engine.proofs.replay.passing.taken.Goals as goal
 
 pub touch_each-requires : goal.touch_each-requires
 touch_each-requires c =
