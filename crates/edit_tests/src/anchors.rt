@@ -5,7 +5,7 @@ use crate::kept::{nulls, step_over, with_kept};
 use crate::meetings::leaked_pairs;
 use crate::random_edits::{Dice, edited_often, rolled_trace};
 use crate::small_runs::{is_replay, with_shelf};
-use crate::small_traces::{batch, change, insertion, new};
+use crate::small_traces::{add, add_pairs, batch, change, insertion, new};
 use crate::untouched::with_pairs;
 use edit_desk::{KEPT_CHUNKS, KEPT_MARKS, KEPT_NAMES};
 use mark_shelf::MarkShelf;
@@ -122,6 +122,17 @@ fn anchors_under_remains(rt: HostRuntime) -> Result<(), Fail> {
     })
 }
 
+// Twenty handles more between two operations: more keys than are followed.
+fn many_held(alloc: Global, from: u32, to: u32) -> Result<Batch, Fail> {
+    let mut edits = batch(alloc, insertion(from, 310_000, Kind::Null { to: 40 })?)?;
+    edits.push(insertion(to, 320_000, Kind::Drop { h: 40 })?)?;
+    for k in 1..20u32 {
+        edits.push(insertion(from, 310_000 + k, Kind::Null { to: 40 + k })?)?;
+        edits.push(insertion(to, 320_000 + k, Kind::Drop { h: 40 + k })?)?;
+    }
+    Ok(edits)
+}
+
 // A handle more, from the middle of what has checkpoints on: all behind is taken over. Then so many operations are stepped at the front
 // that these checkpoints are given up.
 fn assert_kept(
@@ -132,7 +143,7 @@ fn assert_kept(
 ) -> Result<(), Fail> {
     let more = batch(alloc, insertion(66_000, 300_000, Kind::Null { to: 30 })?)?;
     assert_eq!(rt; step_over(alloc, run, &more, shelf)?, 65);
-    let first = batch(alloc, insertion(10, 300_001, Kind::Counts { h: 5 })?)?;
+    let first = many_held(alloc, 10, 60_000)?;
     let steps = step_over(alloc, run, &first, shelf)?;
     assert!(rt; steps > 60_000);
     let late = batch(alloc, insertion(75_000, 300_002, Kind::Counts { h: 5 })?)?;
@@ -150,6 +161,86 @@ fn anchors_stay_where_stretches_are_taken_over(rt: HostRuntime) -> Result<(), Fa
         with_kept(alloc, &trace, shelf, |run, shelf| {
             assert_kept(&rt, alloc, run, shelf)
         })
+    })
+}
+
+// A long trace as it is loaded, with an edit: at most so many operations are stepped, and the edited run is its replay.
+fn assert_passed(
+    rt: &impl Abort,
+    alloc: Global,
+    trace: &Trace,
+    edits: &Batch,
+    most: u64,
+) -> Result<(), Fail> {
+    with_loaded(alloc, trace, |run, shelf| {
+        let steps = step_over(alloc, run, edits, shelf)?;
+        assert!(rt; steps <= most);
+        assert!(rt; is_replay(alloc, run)?);
+        Ok(())
+    })
+}
+
+// A handle stays to the end, where there is no checkpoint for 134,464 operations. What lies between two anchors is stepped at the front, and all
+// else is taken over.
+#[test]
+fn parts_without_checkpoints_are_taken_over(rt: HostRuntime) -> Result<(), Fail> {
+    let alloc = rt.alloc();
+    let trace = with_pairs(alloc, 200_000)?;
+    let edits = batch(alloc, insertion(4, 300_000, Kind::Null { to: 30 })?)?;
+    assert_passed(&rt, alloc, &trace, &edits, 2_000)
+}
+
+// The first object gets a holder more. One operation in the middle asks for its counts: from the anchor before it to the one behind it all is
+// stepped.
+#[test]
+fn part_that_asks_is_stepped(rt: HostRuntime) -> Result<(), Fail> {
+    let alloc = rt.alloc();
+    let mut trace = with_pairs(alloc, 100_000)?;
+    add(&mut trace, 100_001, Kind::Counts { h: 0 })?;
+    add_pairs(alloc, &mut trace, 100_002, 200_001)?;
+    let edits = batch(
+        alloc,
+        insertion(4, 300_000, Kind::Clone { from: 0, to: 30 })?,
+    )?;
+    assert_passed(&rt, alloc, &trace, &edits, 5_600)
+}
+
+// Nothing differs behind the operation that is inserted: what lies between the anchors around it is stepped, and nothing behind.
+#[test]
+fn part_behind_an_edit_that_changes_nothing(rt: HostRuntime) -> Result<(), Fail> {
+    let alloc = rt.alloc();
+    let trace = with_pairs(alloc, 200_000)?;
+    let edits = batch(alloc, insertion(70_000, 300_000, Kind::Counts { h: 0 })?)?;
+    assert_passed(&rt, alloc, &trace, &edits, 3_700)
+}
+
+// Eight handles that stay are made at four places in turn, and then four of them are dropped again: what was taken over comes under other layers.
+fn assert_layered(
+    rt: &impl Abort,
+    alloc: Global,
+    run: &mut Run,
+    shelf: &mut MarkShelf,
+) -> Result<(), Fail> {
+    for turn in 0..12u32 {
+        let after = 4 + 9_000 * (turn % 4);
+        let kind = if turn < 8 {
+            Kind::Null { to: 30 + turn }
+        } else {
+            Kind::Drop { h: 22 + turn }
+        };
+        let edits = batch(alloc, insertion(after, 300_000 + turn, kind)?)?;
+        assert!(rt; step_over(alloc, run, &edits, shelf)? <= 2_000);
+        assert!(rt; is_replay(alloc, run)?);
+    }
+    Ok(())
+}
+
+#[test]
+fn parts_are_taken_over_in_turn(rt: HostRuntime) -> Result<(), Fail> {
+    let alloc = rt.alloc();
+    let trace = with_pairs(alloc, 100_000)?;
+    with_loaded(alloc, &trace, |run, shelf| {
+        assert_layered(&rt, alloc, run, shelf)
     })
 }
 

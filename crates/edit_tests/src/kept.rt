@@ -2,7 +2,7 @@
 ghost use Rattle.std.specs.Prelude.{◌<◌};
 
 use crate::small_runs::{has_marks, run_of, with_desk, with_run, with_shelf};
-use crate::small_traces::{add, add_pairs, batch, broken_cycle, change, insertion, new, set, two};
+use crate::small_traces::{add, batch, broken_cycle, change, insertion, new, set, two};
 use edit_desk::{Desk, KEPT_CHUNKS, KEPT_MARKS, KEPT_NAMES, Reply, Request};
 use mark_shelf::MarkShelf;
 use object_heap::Heap;
@@ -172,11 +172,20 @@ fn touched_checkpoints_stay(rt: HostRuntime) -> Result<(), Fail> {
     assert_two_stay(&rt, alloc, &mut run)
 }
 
-// An object, and behind it others that come and go.
+// An object, and behind it others that come and go. In each stretch of 64 operations two ask for the first one's counts.
 pub fn pairs(alloc: Global) -> Result<Trace, Fail> {
     let mut trace = Trace::new(alloc);
     add(&mut trace, 1, new(alloc, 0, &[])?)?;
-    add_pairs(alloc, &mut trace, 2, 192)?;
+    for id in 2..=192u32 {
+        let kind = if id % 64 == 10 || id % 64 == 11 {
+            Kind::Counts { h: 0 }
+        } else if id % 2 == 0 {
+            new(alloc, 9, &[])?
+        } else {
+            Kind::Drop { h: 9 }
+        };
+        add(&mut trace, id, kind)?;
+    }
     Ok(trace)
 }
 
