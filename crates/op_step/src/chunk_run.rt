@@ -6,6 +6,7 @@ ghost use Rattle.ownership_model.specs.Step.{outcomes_from, end_from, AreUnused}
 ghost use Rattle.heap_difference.specs.KeySets.{set_of};
 ghost use Rattle.heap_difference.specs.Laws.{HasTouched};
 ghost use Rattle.heap_difference.specs.Naming.{with_names};
+ghost use Rattle.op_step.specs.Chunk.{IsReplayOf};
 ghost use Rattle.op_step.specs.Meter.{raised};
 
 use crate::meter::Meter;
@@ -117,6 +118,24 @@ pub fn copy_ops(alloc: Global, ops: &[Op]) -> Result<Vec<Op>, AllocError>
 }
 
 impl ChunkRun {
+    /// The chunk of operations that were replayed already: the heap where they begin, the operations with their outcomes, the heap behind them,
+    /// and the keys that their replay told. Nothing is copied.
+    pub fn of(start: Heap, replayed: Arc<Replayed>, end: Heap, keys: Arc<Vec<Key>>) -> ChunkRun
+        requires replay { IsReplayOf (record { start = start; ops = (arc_value replayed).ops.items })
+            (arc_value replayed).outcomes end }
+        requires touched { HasTouched (set_of (with_names (arc_value keys).items
+            (arc_value replayed).ops.items (arc_value replayed).outcomes)) start
+            (arc_value replayed).ops.items }
+        ensures { result ≡ record { start = start; ops = (arc_value replayed).ops.items } }
+    {
+        ChunkRun {
+            start,
+            replayed,
+            end,
+            keys,
+        }
+    }
+
     /// The heap before the first operation.
     pub fn start(&self) -> &Heap
         ensures { result.now ≡ self.now.start }
