@@ -4,7 +4,7 @@
 pub const KEPT_MARKS: usize = 1_024;
 
 /// How many replayed chunks a desk remembers.
-pub const KEPT_CHUNKS: usize = 256;
+pub const KEPT_CHUNKS: usize = 1_024;
 
 /// How many names of chunks a desk remembers.
-pub const KEPT_NAMES: usize = 1_024;
+pub const KEPT_NAMES: usize = 2_048;

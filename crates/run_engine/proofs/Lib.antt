@@ -40,3 +40,4 @@ mod UntouchedLemmas
 mod LayeredLemmas
 mod OverLemmas
 mod PassedLemmas
+mod ReplacedLemmas

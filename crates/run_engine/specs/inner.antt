@@ -8,6 +8,7 @@ pub mod Blocks
 pub mod Onward
 pub mod GoesOn
 pub mod FreshChunks
+pub mod Replaced
 pub mod Origins
 pub mod Placed
 pub mod Metered

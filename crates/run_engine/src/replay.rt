@@ -13,6 +13,7 @@ pub mod passing;
 pub mod prefix;
 pub mod progress;
 pub mod rejoin;
+pub mod replaced;
 pub mod restart;
 pub mod revision;
 pub mod stretch;

@@ -28,6 +28,7 @@ use crate::jobs::begins::edited_shifting;
 use crate::jobs::changed::changed;
 use crate::replay::fresh::remember_all;
 use crate::replay::loading::{given_up_in, loaded};
+use crate::replay::replaced::Replaced;
 use crate::replay::restart::resumed;
 use crate::segments::blocks::Segments;
 use crate::segments::contents::{marks_in, outcomes_in, stretches_in};
@@ -155,12 +156,14 @@ impl Run {
         let original = Original::of_segments(&self.segments);
         let listed = Listing::of(alloc, original)?;
         let ops = edited(listed, batch.as_slice())?;
+        let mut replaced = Replaced::none(alloc);
         let replay = resumed(
             alloc,
             &self.segments,
             &self.end,
             &ops,
             &guesses,
+            &mut replaced,
             shelf,
             meter,
         )?;
@@ -170,7 +173,7 @@ impl Run {
         };
         run.give_up_named(&replay.answered);
         let run = run.renewed(alloc)?;
-        remember_all(shelf, replay.fresh);
+        remember_all(shelf, replay.fresh, replaced.into_chunks());
         Ok(run)
     }
 

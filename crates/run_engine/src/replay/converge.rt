@@ -19,6 +19,7 @@ ghost use Rattle.run_engine.specs.inner.Placed.{IsPlaced, IsNext};
 ghost use Rattle.run_engine.specs.inner.Divergence.{IsFork};
 ghost use Rattle.run_engine.specs.inner.Difference.{AreDiffering};
 ghost use Rattle.run_engine.specs.inner.Metered.{IsMetered};
+ghost use Rattle.run_engine.specs.inner.Replaced.{AreReplaced};
 ghost use Rattle.run_engine.specs.inner.Untouched.{PassesNone};
 
 use crate::replay::ahead::go_ahead;
@@ -30,6 +31,7 @@ use crate::replay::passing::{pass, pass_part};
 use crate::replay::prefix::{NextStretch, Prefix, STRIDE, found, joined, stepped};
 use crate::replay::progress::{Fork, Progress};
 use crate::replay::rejoin::{OldMark, rejoined_at};
+use crate::replay::replaced::Replaced;
 use crate::replay::revision::Revision;
 use crate::replay::stretch::{may_begin, old_stretch};
 use crate::replay::touching::touch_at;
@@ -339,16 +341,18 @@ fn spliced(
 /// Goes on with the replay to its end, or to the first old checkpoint at or behind the seam where the heaps agree.
 ///
 /// From the seam on the heap is another at each old checkpoint that is passed, and at an old anchor nobody asks: an old stretch, or a part of one, serves
-/// only if it touches nothing at which the heaps are known to differ.
+/// only if it touches nothing at which the heaps are known to differ. Where the replay steps to an old checkpoint, the old stretch before that is noted.
 pub fn converge(
     alloc: Global,
     revision: &Revision,
     prefix: Prefix,
     seam: Seam,
+    replaced: &mut Replaced,
     shelf: &mut MarkShelf,
     meter: &mut Meter,
 ) -> Result<Prefix, AllocError>
     requires may { MayGoOn (new_trace revision.now) prefix seam.edited }
+    requires replaced { AreReplaced revision.now replaced.old }
     requires shared { ShareEnd (old_trace revision.now)
         (new_trace revision.now) seam.base seam.edited }
     requires begins { take prefix.len (new_trace revision.now)
@@ -397,6 +401,7 @@ pub fn converge(
                     to: at - seam.base + seam.edited,
                     open: seam.edited,
                 };
+                let is_gone = progress.prefix.len < limits.to;
                 progress = advance(alloc, revision, progress, limits, shelf, meter)?;
                 let heap = mark.heap(alloc)?;
                 let old_mark = OldMark {
@@ -404,6 +409,7 @@ pub fn converge(
                     at,
                     mark: heap,
                 };
+                replaced.note(alloc, revision, &old_mark, is_gone);
                 let found = rejoined_at(
                     alloc,
                     revision,
@@ -457,6 +463,8 @@ pub fn converge(
         to: revision.ops.len(),
         open: seam.edited,
     };
+    let is_gone = progress.prefix.len < limits.to;
     let progress = advance(alloc, revision, progress, limits, shelf, meter)?;
+    replaced.note_end(alloc, revision, is_gone);
     Ok(progress.prefix)
 }

@@ -15,10 +15,13 @@ use crate::replay::difference::Difference;
 use crate::replay::progress::{Fork, Progress};
 use crate::replay::revision::Revision;
 use crate::segments::blocks::Segments;
-use agreement::{Meeting, Suspects, Trail, are_told_apart, meet, meet_rooted};
+use agreement::{Meeting, Suspects, Trail, are_told_apart, meet_rooted};
 use heap_difference::KeySet;
 use object_heap::Heap;
 use std::alloc::{AllocError, Global};
+
+/// How many operations stand before a heap at least that is compared with another at all objects of both.
+const MANY: usize = 4_096;
 
 /// Where the heap of a replay and that of the old run beside it may differ: each stands behind so many operations of its trace.
 #[derive(Drop)]
@@ -59,6 +62,18 @@ impl Divergence {
         self.suspects = Some(Suspects::none(alloc));
         self.edited = fork.edited;
         self.base = fork.base;
+    }
+
+    /// Gives the suspects up where it is a long way from where both had one heap last, or where they are known, to the end of the replayed prefix: to
+    /// look at all objects of both heaps takes less than to go over so many outcomes.
+    pub fn let_go(&mut self, alloc: Global, progress: &Progress)
+        ensures { (r : Revision) → IsDivergence r self.old → IsFork r progress.now.fork →
+            IsDivergence r self.new }
+    {
+        self.begin_anew(alloc, progress.fork);
+        if is_far(self.edited, progress.prefix.len) {
+            self.suspects = None;
+        }
     }
 
     /// Goes on to the end of the replayed prefix, and in the old run to where the segment at an index begins: the objects that
@@ -150,7 +165,8 @@ impl Divergence {
         }
     }
 
-    /// Compares a heap with an old one that has the same roots, by the suspects where those are known.
+    /// Compares a heap with an old one that has the same roots, by the suspects where those are known. Else all objects of both are, and those that
+    /// differ from then on.
     pub fn meet(&mut self, alloc: Global, new: &Heap, old: &Heap) -> Result<Meeting, AllocError>
         requires roots { HaveSameRoots new.now old.now }
         requires known { DifferWithin self.old new.now old.now }
@@ -158,10 +174,21 @@ impl Divergence {
         ensures known { OnOk result (HasCompared self.old self.new new.now old.now) }
     {
         match &mut self.suspects {
-            None => meet(alloc, new, old, &mut self.trail),
+            None => {
+                let mut suspects = Suspects::of_both(alloc, new, old)?;
+                let meeting = meet_rooted(alloc, new, old, &mut suspects, &mut self.trail)?;
+                self.suspects = Some(suspects);
+                Ok(meeting)
+            }
             Some(suspects) => meet_rooted(alloc, new, old, suspects, &mut self.trail),
         }
     }
+}
+
+// Whether there are more operations between two positions than before the first, and many before the second: a heap there has an object for each of
+// these at most.
+fn is_far(from: usize, to: usize) -> bool {
+    to >= MANY && from < to / 2
 }
 
 // The objects that the outcomes of segments tell of join the suspects, from the segment at a position on and before the one at an index.

@@ -79,11 +79,21 @@ impl Fresh {
     }
 }
 
-/// Has the shelf remember the last of the chunks, as many as it has room for: those before them would not stay.
-pub fn remember_all(shelf: &mut MarkShelf, chunks: Fresh)
+/// Has the shelf remember the chunks that were stepped, and those that they replace, as many as it has room for: of those that are replaced the last
+/// ones, and then the last of the others. They come behind these, so that a name that both have stands for the one that is in no run any more.
+pub fn remember_all(shelf: &mut MarkShelf, stepped: Fresh, replaced: Fresh)
     ensures { HasSameMarks shelf.old shelf.new }
 {
     let most = shelf.most_chunks();
+    let left = most.saturating_sub(replaced.chunks.len());
+    remember_last(shelf, stepped, left);
+    remember_last(shelf, replaced, most);
+}
+
+// Has the shelf remember the last of the chunks, at most so many.
+fn remember_last(shelf: &mut MarkShelf, chunks: Fresh, most: usize)
+    ensures { HasSameMarks shelf.old shelf.new }
+{
     let mut chunks = chunks.chunks;
     while chunks.len() > most {
         chunks.pop_front();

@@ -39,7 +39,7 @@ pub struct OldMark {
 /// the checkpoint.
 ///
 /// While the trail to a difference, or handles, cells or scopes tell them apart, no outcome is gone over: the divergence stays where it
-/// stands. Else it goes on to where the difference is known, catches up over all that was passed since, and they are compared.
+/// stands. Else it goes on to where the difference is known, catches up over all that was passed since unless that is far, and they are compared.
 pub fn rejoined_at(
     alloc: Global,
     revision: &Revision,
@@ -79,6 +79,7 @@ pub fn rejoined_at(
         return Ok(None);
     }
     divergence.know(alloc, difference)?;
+    divergence.let_go(alloc, progress);
     divergence.catch_up(alloc, revision, progress, old.index, old.at)?;
     let rest = Rest {
         segments: revision.segments,

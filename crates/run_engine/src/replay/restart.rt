@@ -10,6 +10,8 @@ ghost use Rattle.op_step.specs.Chunk.{Chunk};
 ghost use Rattle.run_engine.specs.Guesses.{with_guesses};
 ghost use Rattle.run_engine.specs.Steps.{AreSteppedFrom};
 ghost use Rattle.run_engine.specs.inner.Placed.{IsPlaced};
+ghost use Rattle.run_engine.specs.inner.Replaced.{AreReplaced};
+ghost use Rattle.run_engine.specs.declared.replay.revision.Revision.{Revision};
 
 use crate::editing::head_and_tail::{head, tail};
 use crate::editing::listing::Listing;
@@ -18,6 +20,7 @@ use crate::replay::converge::{Seam, converge};
 use crate::replay::fresh::Fresh;
 use crate::replay::origin::Behind;
 use crate::replay::prefix::Prefix;
+use crate::replay::replaced::Replaced;
 use crate::replay::revision::Revision;
 use crate::segments::blocks::Segments;
 use mark_shelf::MarkShelf;
@@ -100,16 +103,18 @@ fn prefix(alloc: Global, revision: &Revision, head: usize) -> Result<Prefix, All
     })
 }
 
-/// The replay of an edited trace beside that of the old one, the base, with guesses of its stretches.
+/// The replay of an edited trace beside that of the old one, the base, with guesses of its stretches. The old stretches that it steps anew are noted.
 pub fn resumed(
     alloc: Global,
     segments: &Segments,
     end: &Heap,
     ops: &Listing,
     guesses: &[ChunkRun],
+    replaced: &mut Replaced,
     shelf: &mut MarkShelf,
     meter: &mut Meter,
 ) -> Result<Prefix, AllocError>
+    requires none { (r : Revision) → AreReplaced r replaced.old }
     requires kept { IsKept segments.now end.now }
     requires base { ops.now.base ≡ trace_of segments.now }
     requires trace { IsTrace ops.now.ops }
@@ -134,6 +139,6 @@ pub fn resumed(
         base: ops.base_len() - last,
         edited: ops.len() - last,
     };
-    let replay = converge(alloc, &revision, prefix, seam, shelf, meter)?;
+    let replay = converge(alloc, &revision, prefix, seam, replaced, shelf, meter)?;
     Ok(replay)
 }

@@ -5,6 +5,7 @@ ghost use Rattle.std.specs.Option.{option_map, option_copied};
 ghost use Rattle.trace_types.specs.Trace.{place_of};
 ghost use Rattle.ownership_model.specs.State.{State};
 ghost use Rattle.ownership_model.specs.Step.{outcomes_from};
+ghost use Rattle.op_step.specs.Chunk.{IsReplayOf};
 ghost use Rattle.run_engine.specs.Segments.{AreKeysFrom};
 ghost use Rattle.run_engine.specs.inner.Layered.{standing_at, started_at, CanStand, MayStand};
 ghost use Rattle.run_engine.specs.inner.Parts.{AreBetween};
@@ -205,6 +206,22 @@ impl Segment {
             bounds: self.bounds,
             last: self.last,
         })
+    }
+
+    /// Its operations with their outcomes as a chunk, from the heap where they begin to the one behind them: all is shared. None if it isn't known what
+    /// they touch.
+    pub fn chunk(&self, start: Heap, end: Heap) -> Result<Option<ChunkRun>, AllocError>
+        requires replay { IsReplayOf (record { start = start; ops = self.now.ops }) self.now.outcomes end }
+        requires keys { AreKeysFrom start self.now.keys self.now.ops self.now.outcomes }
+        ensures { IfOk result
+            (λ o. IfSome o (λ c. c ≡ record { start = start; ops = self.now.ops })) }
+    {
+        let Some(keys) = &self.keys else {
+            return Ok(None);
+        };
+        let keys = Arc::try_clone(keys)?;
+        let body = Arc::try_clone(&self.body)?;
+        Ok(Some(ChunkRun::of(start, body, end, keys)))
     }
 
     // Whether a heap is kept where it begins.

@@ -3,6 +3,8 @@ ghost use Rattle.std.specs.Prelude.{◌≡◌, length, is_some, [], ◌∷◌, I
 ghost use Rattle.std.specs.Arc.{arc_value};
 ghost use Rattle.std.specs.Option.{option_copied};
 ghost use Rattle.ownership_model.specs.State.{State};
+ghost use Rattle.op_step.specs.Chunk.{IsReplayOf};
+ghost use Rattle.run_engine.specs.Segments.{AreKeysFrom};
 ghost use Rattle.run_engine.specs.inner.Cleared.{cleared_if, last_name};
 ghost use Rattle.run_engine.specs.inner.Blocks.{laid_over, AreSoundBelow};
 ghost use Rattle.run_engine.specs.inner.Layered.{standing_at, started_at, CanStand, MayStand};
@@ -12,6 +14,7 @@ use crate::segments::segment::Segment;
 use agreement::Exchange;
 use heap_difference::Layer;
 use object_heap::Heap;
+use op_step::ChunkRun;
 use ownership_model::Key;
 use std::alloc::{AllocError, Global};
 use std::marker::Model;
@@ -130,6 +133,20 @@ impl<'a> Standing<'a> {
             return bare.under(layer);
         }
         self.segment.under(layer)
+    }
+
+    /// Its operations with their outcomes as a chunk, from the heap where they begin to the one behind them: all is shared. None if it isn't known what
+    /// they touch.
+    pub fn chunk(&self, start: Heap, end: Heap) -> Result<Option<ChunkRun>, AllocError>
+        requires replay { IsReplayOf (record { start = start; ops = self.now.ops }) self.now.outcomes end }
+        requires keys { AreKeysFrom start self.now.keys self.now.ops self.now.outcomes }
+        ensures { IfOk result
+            (λ o. IfSome o (λ c. c ≡ record { start = start; ops = self.now.ops })) }
+    {
+        match self.laid {
+            None => self.segment.chunk(start, end),
+            Some(_) => Ok(None),
+        }
     }
 
     /// What is laid over its checkpoint and its anchor, if anything is. It is a hint.

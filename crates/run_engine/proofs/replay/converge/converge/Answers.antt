@@ -134,6 +134,18 @@ rejoined_at-requires-clause-unused c =
     (new-unused c.args.revision.now.ops.now.ops c.in_ok-progress.progress.prefix.len c.in_ok-progress.progress.prefix.segments (drop c.loop-i.i c.args.revision.now.segments.now) c.in_ok-progress.progress.prefix.end c.in_ok-progress.ensures.beside.reached c.args.revision.now.holds.trace.distinct
     (back c.args.revision.now.segments.now c.args.revision.now.ops.now.ops c.args.seam.base c.args.seam.edited c.loop-i.i c.loop-i.at c.in_ok-progress.progress.prefix.len c.requires.shared c.loop-i.invariant.place.place (c.is_ahead.ensures.ahead c.if-is_ahead.true).0 c.in_ok-progress.ensures.there))
 
+pub note-requires-clause-place : goal.note-requires-clause-place
+note-requires-clause-place c = c.loop-i.invariant.place.place
+
+pub note-requires-clause-mark : goal.note-requires-clause-mark
+note-requires-clause-mark c =
+    c.in_ok-heap.ensures
+    ∙ mark-is c.args.revision.now.segments.now c.loop-i.i c.at-segment.result c.in-Some.mark c.args.revision.now.holds.kept.run.replay (omega (arith, c.loop-i-test.true, c.len-i-end.ensures)) c.at-segment.ensures c.in-Some.ensures
+    ∙ ap (end_from nothing_held) (trace_of-prefix c.args.revision.now.segments.now c.loop-i.i c.loop-i.at c.loop-i.invariant.place.place)
+
+pub note-requires-clause-known : goal.note-requires-clause-known
+note-requires-clause-known c = c.loop-i.invariant.replaced
+
 pub pass-requires-clause-place : goal.pass-requires-clause-place
 pass-requires-clause-place c = c.loop-i.invariant.place.place
 
@@ -253,6 +265,7 @@ loop-i-init c = record {
   placed = c.requires.placed;
   known = IsDivergence-fork c.args.revision.now c.none-divergence.result (record { edited = c.args.prefix.len; base = c.args.prefix.len }) c.none-divergence.ensures.within c.none-divergence.ensures.edited c.none-divergence.ensures.base (ap (end_from nothing_held) c.requires.begins);
   different = c.none-difference.ensures c.args.revision.now (ap (end_from nothing_held) c.requires.begins);
+  replaced = c.requires.replaced;
   never_less = omega arith;
 }
 
@@ -283,7 +296,7 @@ loop-i-preserved c =
           let past = w.in_ok-progress-2.ensures.beside w.advance.new.meter in
           let behind = (c.is_ahead.ensures.ahead w.if-is_ahead.true).0 in
           let next = length-trace_of-next c.args.revision.now.segments.now c.loop-i.i c.at-segment.result lt c.at-segment.ensures ∙ ap (λ n. n + length c.at-segment.result.ops) c.loop-i.invariant.place.place in
-          rw (w.progress-is, w.meter-is, w.shelf-is, w.divergence-is, w.difference-is, c.ops.ensures)
+          rw (w.progress-is, w.meter-is, w.shelf-is, w.divergence-is, w.difference-is, w.replaced-is, c.ops.ensures)
           (record {
             place = IsBeside-next c.args.revision.now.segments.now c.args.revision.now.ops.now.ops c.args.seam.base c.args.seam.edited c.args.prefix.len c.args.meter.now c.loop-i.i c.loop-i.at c.loop-i.progress.prefix.len c.loop-i.progress.prefix.segments c.loop-i.progress.prefix.end c.loop-i.meter
                 w.in_ok-progress-2.progress.prefix.len w.in_ok-progress-2.progress.prefix.segments w.in_ok-progress-2.progress.prefix.end w.advance.new.meter c.at-segment.result c.loop-i.invariant.place lt c.at-segment.ensures past.reached
@@ -301,6 +314,7 @@ loop-i-preserved c =
             placed = w.in_ok-progress-2.ensures.placed;
             known = w.in_ok-progress-2.ensures.divergence;
             different = w.in_ok-progress-2.ensures.known;
+            replaced = w.note.ensures;
             never_less = omega (arith, c.loop-i.invariant.never_less, w.advance.ensures.metered.never_less);
           })
       | then-is_ahead+in_default+then-is_followed+in-Some-anchor+in_ok-heap-2+in_ok-progress-3 w ↦
@@ -311,7 +325,7 @@ loop-i-preserved c =
           let next : ℕ = length (trace_of (take (c.loop-i.i + 1) c.args.revision.now.segments.now)) in
           let next_is = length-trace_of-next c.args.revision.now.segments.now c.loop-i.i c.at-segment.result lt c.at-segment.ensures ∙ ap (λ n. n + length c.at-segment.result.ops) c.loop-i.invariant.place.place in
           let rises = trace_of-rises c.args.revision.now.segments.now c.loop-i.i c.args.revision.now.holds.kept.run.full lt in
-          rw (w.progress-is, w.meter-is, w.shelf-is, w.divergence-is, w.difference-is, c.ops.ensures)
+          rw (w.progress-is, w.meter-is, w.shelf-is, w.divergence-is, w.difference-is, w.replaced-is, c.ops.ensures)
           (record {
             place = IsBeside-next c.args.revision.now.segments.now c.args.revision.now.ops.now.ops c.args.seam.base c.args.seam.edited c.args.prefix.len c.args.meter.now c.loop-i.i c.loop-i.at c.loop-i.progress.prefix.len c.loop-i.progress.prefix.segments c.loop-i.progress.prefix.end c.loop-i.meter
                 w.in_ok-progress-3.progress.prefix.len w.in_ok-progress-3.progress.prefix.segments w.in_ok-progress-3.progress.prefix.end w.pass_anchor.new.meter c.at-segment.result c.loop-i.invariant.place lt c.at-segment.ensures on.beside.reached
@@ -326,10 +340,11 @@ loop-i-preserved c =
             placed = on.placed;
             known = c.loop-i.invariant.known;
             different = on.known;
+            replaced = c.loop-i.invariant.replaced;
             never_less = omega (arith, c.loop-i.invariant.never_less, w.pass_anchor.ensures.metered.never_less);
           })
       | then-is_ahead+in_default+then-is_followed+in_default-anchor w ↦
-          rw (w.progress-is, w.meter-is, w.shelf-is, w.divergence-is, w.difference-is, c.ops.ensures)
+          rw (w.progress-is, w.meter-is, w.shelf-is, w.divergence-is, w.difference-is, w.replaced-is, c.ops.ensures)
           (record {
             place = IsBeside-stays _ _ _ _ _ _ _ _ _ _ _ _ c.at-segment.result c.loop-i.invariant.place (omega (arith, c.loop-i-test.true, c.len-i-end.ensures)) c.at-segment.ensures
                 (λ marked behind agrees. let f : is_some c.at-segment.result.mark ≡ false = ap is_some (sym w.in_default.ensures) in cc);
@@ -338,10 +353,11 @@ loop-i-preserved c =
             placed = c.loop-i.invariant.placed;
             known = c.loop-i.invariant.known;
             different = c.loop-i.invariant.different;
+            replaced = c.loop-i.invariant.replaced;
             never_less = c.loop-i.invariant.never_less;
           })
       | then-is_ahead+in_default+else-is_followed w ↦
-          rw (w.progress-is, w.meter-is, w.shelf-is, w.divergence-is, w.difference-is, c.ops.ensures)
+          rw (w.progress-is, w.meter-is, w.shelf-is, w.divergence-is, w.difference-is, w.replaced-is, c.ops.ensures)
           (record {
             place = IsBeside-stays _ _ _ _ _ _ _ _ _ _ _ _ c.at-segment.result c.loop-i.invariant.place (omega (arith, c.loop-i-test.true, c.len-i-end.ensures)) c.at-segment.ensures
                 (λ marked behind agrees. let f : is_some c.at-segment.result.mark ≡ false = ap is_some (sym w.in_default.ensures) in cc);
@@ -350,10 +366,11 @@ loop-i-preserved c =
             placed = c.loop-i.invariant.placed;
             known = c.loop-i.invariant.known;
             different = c.loop-i.invariant.different;
+            replaced = c.loop-i.invariant.replaced;
             never_less = c.loop-i.invariant.never_less;
           })
       | else-is_ahead w ↦
-          rw (w.progress-is, w.meter-is, w.shelf-is, w.divergence-is, w.difference-is, c.ops.ensures)
+          rw (w.progress-is, w.meter-is, w.shelf-is, w.divergence-is, w.difference-is, w.replaced-is, c.ops.ensures)
           (record {
             place = IsBeside-stays _ _ _ _ _ _ _ _ _ _ _ _ c.at-segment.result c.loop-i.invariant.place (omega (arith, c.loop-i-test.true, c.len-i-end.ensures)) c.at-segment.ensures
                 (λ marked behind agrees.
@@ -365,6 +382,7 @@ loop-i-preserved c =
             placed = c.loop-i.invariant.placed;
             known = c.loop-i.invariant.known;
             different = c.loop-i.invariant.different;
+            replaced = c.loop-i.invariant.replaced;
             never_less = c.loop-i.invariant.never_less;
           })
     ]

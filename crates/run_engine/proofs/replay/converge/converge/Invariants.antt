@@ -1,6 +1,7 @@
 use Rattle.std.proofs.Common.{◌≤◌}
 use Rattle.run_engine.specs.inner.Divergence.{IsFork, IsDivergence}
 use Rattle.run_engine.specs.inner.Difference.{AreDiffering}
+use Rattle.run_engine.specs.inner.Replaced.{AreReplaced}
 use Rattle.run_engine.specs.inner.GoesOn.{GoesOnBeside}
 use Rattle.run_engine.specs.inner.Placed.{IsPlaced}
 use Rattle.run_engine.proofs.ConvergeLemmas.{IsBeside}
@@ -14,5 +15,6 @@ invariant-loop-i l = record {
   placed : IsPlaced l.shelf.chunks l.progress.prefix;
   known : IsDivergence l.revision l.divergence;
   different : AreDiffering l.revision l.difference;
+  replaced : AreReplaced l.revision l.replaced;
   never_less : l.initial.meter ≤ l.meter;
 }

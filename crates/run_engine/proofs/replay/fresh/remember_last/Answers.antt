@@ -2,7 +2,7 @@ use Rattle.std.proofs.Common.{◌≡◌, ◌∷◌, subst}
 use Rattle.ownership_model.specs.Step.{end_from}
 use Rattle.run_engine.proofs.FreshLemmas.{AreBehind, AreBehind-next}
 use Rattle.run_engine.proofs.MemoLemmas.{HasSameMarks-next}
-use Rattle.run_engine.proofs.replay.fresh.remember_all.Goals as goal
+use Rattle.run_engine.proofs.replay.fresh.remember_last.Goals as goal
 
 pub loop-fresh-preserved : goal.loop-fresh-preserved
 loop-fresh-preserved c =

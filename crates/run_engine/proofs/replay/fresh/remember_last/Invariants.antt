@@ -3,7 +3,7 @@ use Rattle.ownership_model.specs.State.{State}
 use Rattle.run_engine.specs.inner.FreshChunks.{AreLinked}
 use Rattle.run_engine.specs.Memo.{HasSameMarks}
 use Rattle.run_engine.proofs.FreshLemmas.{AreBehind}
-use Rattle.run_engine.proofs.replay.fresh.remember_all.Given as goal
+use Rattle.run_engine.proofs.replay.fresh.remember_last.Given as goal
 
 abbrev pub invariant-loop-chunks : goal.invariant-loop-chunks
 invariant-loop-chunks l = (before : Option State) × AreLinked before l.chunks.items
