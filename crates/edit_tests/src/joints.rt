@@ -3,7 +3,7 @@ ghost use Rattle.std.specs.Prelude.{IfOk, IfSome};
 ghost use Rattle.ownership_model.specs.Step.{end_from};
 ghost use Rattle.mark_shelf.specs.Joints.{EndsWith};
 
-use crate::kept::{chunk, clones, dangling, first_made, nulls, over};
+use crate::kept::{chunk, clones, dangling, first_made, nulls, over, with_bare_clones};
 use crate::small_runs::{edited_alone, with_run};
 use crate::small_traces::two;
 use mark_shelf::{Found, MarkShelf};
@@ -91,9 +91,31 @@ fn assert_known(
 fn stepped_chunks_are_joined(rt: HostRuntime) -> Result<(), Fail> {
     let alloc = rt.alloc();
     let edits = first_made(alloc, 0)?;
-    with_run(alloc, clones(alloc, 192)?, |run| {
+    with_bare_clones(alloc, 192, |run| {
         let mut shelf = MarkShelf::new(alloc, 8, 8, 8)?;
         assert_joined(&rt, alloc, run, &edits, &mut shelf, 192)
+    })
+}
+
+// All of a run is stepped for an edit, and then the shelf knows of the chunks of the run before it that each begins behind the one before it.
+fn assert_replaced_are_joined(
+    rt: &impl Abort,
+    alloc: Global,
+    run: &Run,
+    shelf: &mut MarkShelf,
+) -> Result<(), Fail> {
+    let edits = first_made(alloc, 0)?;
+    let (_edited, steps) = over(alloc, run, &edits, shelf)?;
+    assert_known(rt, alloc, run, steps, shelf, 256)
+}
+
+// An edit steps four chunks in place of old stretches. Three of these end with a checkpoint.
+#[test]
+fn replaced_chunks_are_joined(rt: HostRuntime) -> Result<(), Fail> {
+    let alloc = rt.alloc();
+    with_run(alloc, clones(alloc, 256)?, |run| {
+        let mut shelf = MarkShelf::new(alloc, 8, 8, 8)?;
+        assert_replaced_are_joined(&rt, alloc, run, &mut shelf)
     })
 }
 
@@ -143,7 +165,7 @@ fn assert_found_in_turn(
 #[test]
 fn chunks_found_in_turn_are_joined(rt: HostRuntime) -> Result<(), Fail> {
     let alloc = rt.alloc();
-    with_run(alloc, clones(alloc, 192)?, |run| {
+    with_bare_clones(alloc, 192, |run| {
         let mut shelf = MarkShelf::new(alloc, 8, 8, 8)?;
         assert_found_in_turn(&rt, alloc, run, &mut shelf)
     })

@@ -1,7 +1,7 @@
 //! How many checkpoints a desk keeps, and which stretches it steps no second time.
 ghost use Rattle.std.specs.Prelude.{◌<◌};
 
-use crate::small_runs::{has_marks, run_of, with_desk, with_run, with_shelf};
+use crate::small_runs::{has_marks, run_of, with_desk, with_shelf};
 use crate::small_traces::{add, batch, broken_cycle, change, insertion, new, set, two};
 use edit_desk::{Desk, KEPT_CHUNKS, KEPT_MARKS, KEPT_NAMES, Reply, Request};
 use mark_shelf::MarkShelf;
@@ -205,7 +205,7 @@ fn assert_steps(
     run: &mut Run,
     shelf: &mut MarkShelf,
 ) -> Result<(), Fail> {
-    for (turn, due) in [192u64, 192, 128].iter().enumerate() {
+    for (turn, due) in [192u64, 128, 128].iter().enumerate() {
         let edits = first_made(alloc, turn)?;
         assert_eq!(rt; step_over(alloc, run, &edits, shelf)?, *due);
     }
@@ -225,8 +225,8 @@ fn assert_first_serves(
     Ok(())
 }
 
-// The shelf has room for one checkpoint, so that from the second edit on the one at 64 is given up at once. The chunk that begins there
-// was stepped by the first edit, and serves the third.
+// The shelf has room for one checkpoint, so that from the second edit on the one at 64 is given up at once. The last stretch, which
+// the first edit replaced, serves the second. The chunk that begins at 64 was stepped by the first edit, and serves the third.
 #[test]
 fn chunk_behind_a_checkpoint_given_up(rt: HostRuntime) -> Result<(), Fail> {
     let alloc = rt.alloc();
@@ -253,6 +253,22 @@ pub fn clones(alloc: Global, last: u32) -> Result<Trace, Fail> {
     Ok(trace)
 }
 
+// Lends the run of such a trace without its checkpoints at 64 and 128. Up to there an edit replaces no stretch with a checkpoint on both sides, so
+// that the shelf gets only what is stepped.
+pub fn with_bare_clones<F: FnOnce(&Run) -> Result<(), Fail>>(
+    alloc: Global,
+    last: u32,
+    judge: F,
+) -> Result<(), Fail>
+    requires { F.IsAlwaysCallable judge }
+{
+    let trace = clones(alloc, last)?;
+    let mut run = run_of(alloc, trace)?;
+    run.give_up(64);
+    run.give_up(128);
+    judge(&run)
+}
+
 // The edit is made twice.
 fn assert_last_serve(
     rt: &impl Abort,
@@ -272,7 +288,7 @@ fn assert_last_serve(
 #[test]
 fn last_chunks_of_an_edit_stay(rt: HostRuntime) -> Result<(), Fail> {
     let alloc = rt.alloc();
-    with_run(alloc, clones(alloc, 160)?, |run| {
+    with_bare_clones(alloc, 160, |run| {
         with_shelf(alloc, 8, 2, 8, |shelf| {
             assert_last_serve(&rt, alloc, run, shelf)
         })
@@ -358,14 +374,14 @@ fn turned(turn: usize) -> Result<Edit, Fail> {
 
 // Each of these turns steps so many operations.
 fn assert_rises(rt: &impl Abort, alloc: Global, desk: &mut Desk) -> Result<(), Fail> {
-    for (turn, steps) in [63u64, 64, 0, 0, 63].iter().enumerate() {
+    for (turn, steps) in [63u64, 0, 0, 0, 63].iter().enumerate() {
         assert_eq!(rt; rise(alloc, desk, turned(turn)?)?, *steps);
     }
     Ok(())
 }
 
-// The first stretch without operation 8, with it again, and so once more: then both are known. Without operation 7 it has the name
-// of the first, and other operations.
+// The first stretch without operation 8, with it again, and so once more: the edit replaced the one, and stepped the other, so that both are
+// known. Without operation 7 it has the name of the other, and other operations.
 #[test]
 fn memo_by_content(rt: HostRuntime) -> Result<(), Fail> {
     let alloc = rt.alloc();
@@ -373,17 +389,18 @@ fn memo_by_content(rt: HostRuntime) -> Result<(), Fail> {
     with_desk(alloc, trace, |desk| assert_rises(&rt, alloc, desk))
 }
 
-// Takes operation 2 out of the first stretch, and puts it back: two stretches, each of a name of its own.
+// Takes operation 2 out of the first stretch, and puts it back: two stretches, each of a name of its own, that replace each other.
 fn take_and_put(alloc: Global, desk: &mut Desk) -> Result<(), Fail> {
     rise(alloc, desk, Edit::Remove { id: 2 })?;
     rise(alloc, desk, insertion(1, 2, Kind::Drop { h: 0 })?)?;
     Ok(())
 }
 
-// Steps so many other stretches, each of a name of its own. Where the first stretch is asked for `again`, it is also found by the way.
+// Steps so many other stretches, each of a name of its own, in place of the one before it. Where the first stretch is asked for `again`, it is
+// also found by the way.
 fn step_others(alloc: Global, desk: &mut Desk, others: u32, again: bool) -> Result<(), Fail> {
     let mut left = others;
-    for id in 65..1_280u32 {
+    for id in 65..2_240u32 {
         // A stretch goes by its first operation and its length, and the last one drops what the first one made: both stay.
         if left > 0 && id % 64 > 1 {
             left -= 1;
@@ -412,25 +429,27 @@ fn assert_rise_after(
     again: bool,
     due: u64,
 ) -> Result<(), Fail> {
-    let trace = null_trace(alloc, 1_280)?;
+    let trace = null_trace(alloc, 2_240)?;
     with_desk(alloc, trace, |desk| {
         assert_eq!(rt; rise_behind(alloc, desk, others, again)?, due);
         Ok(())
     })
 }
 
-// A stretch is found among the last 256, itself among them: behind it come that with operation 2 and the others.
+// A stretch is found among the last 1,024, itself among them. It is the last one that was replaced as operation 2 was put back. Behind it come two
+// for each other one: that, and what it replaced.
 #[test]
 fn chunks_are_remembered(rt: HostRuntime) -> Result<(), Fail> {
     let alloc = rt.alloc();
-    assert_rise_after(&rt, alloc, 254, false, 0)?;
-    assert_rise_after(&rt, alloc, 255, false, 63)
+    assert_rise_after(&rt, alloc, 511, false, 0)?;
+    assert_rise_after(&rt, alloc, 512, false, 63)
 }
 
-// A stretch that is asked for again and again stays among those, but its name goes with the 1,024th that is new behind it.
+// A stretch that is asked for again and again stays among those, but its name goes with the 2,048th that is new behind it. These are that with
+// operation 2, the others, and for each 62 of the others the stretch as it was before them.
 #[test]
 fn names_are_remembered(rt: HostRuntime) -> Result<(), Fail> {
     let alloc = rt.alloc();
-    assert_rise_after(&rt, alloc, 1_022, true, 0)?;
-    assert_rise_after(&rt, alloc, 1_023, true, 63)
+    assert_rise_after(&rt, alloc, 2_013, true, 0)?;
+    assert_rise_after(&rt, alloc, 2_014, true, 63)
 }

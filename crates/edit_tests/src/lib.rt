@@ -32,4 +32,6 @@ mod small_runs;
 #[cfg(test)]
 mod small_traces;
 #[cfg(test)]
+mod taken_back;
+#[cfg(test)]
 mod untouched;

@@ -37,8 +37,8 @@ impl Dice {
         Dice { state: seed }
     }
 
-    // A number below the bound.
-    fn roll(&mut self, bound: u32) -> u32
+    /// A number below the bound.
+    pub fn roll(&mut self, bound: u32) -> u32
         requires { 0 < bound }
         ensures { result < bound }
     {
@@ -75,8 +75,8 @@ pub fn rolled_trace(alloc: Global, dice: &mut Dice, ops: u32) -> Result<Trace, F
     Ok(trace)
 }
 
-// An edit of one of the first operations, whose new operation, if it has one, has a number of its own.
-fn rolled_edit(alloc: Global, dice: &mut Dice, id: u32, first: u32) -> Result<Batch, Fail>
+/// An edit of one of the first operations, whose new operation, if it has one, has a number of its own.
+pub fn rolled_edit(alloc: Global, dice: &mut Dice, id: u32, first: u32) -> Result<Batch, Fail>
     requires some { 0 < first }
     requires few { first < 1_000_000 }
 {
@@ -98,7 +98,8 @@ fn turned(alloc: Global, is_there: bool) -> Result<Batch, Fail> {
     batch(alloc, insertion(0, TURNED, Kind::Counts { h: 0 })?)
 }
 
-fn give_up_some(alloc: Global, run: &mut Run, dice: &mut Dice) -> Result<(), Fail> {
+/// Gives up each checkpoint by a roll of one in four.
+pub fn give_up_some(alloc: Global, run: &mut Run, dice: &mut Dice) -> Result<(), Fail> {
     let marks = run.marks(alloc)?;
     for mark in marks.as_slice() {
         if dice.roll(4) == 0 {

@@ -192,8 +192,8 @@ fn has_all(run: &Run, outcomes: &[Outcome], end: &Heap) -> bool {
     same && outcomes.len() == run.len()
 }
 
-// Whether the run tells what the replay of this trace from nothing does.
-fn is_replay_of(alloc: Global, run: &Run, trace: &Trace) -> Result<bool, Fail> {
+/// Whether the run tells what the replay of this trace from nothing does, and ends with its heap.
+pub fn is_replay_of(alloc: Global, run: &Run, trace: &Trace) -> Result<bool, Fail> {
     let (outcomes, end) = replay(alloc, trace, &mut Meter::new())?;
     Ok(has_all(run, outcomes.as_slice(), &end))
 }
