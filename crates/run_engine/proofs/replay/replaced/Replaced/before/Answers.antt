@@ -8,8 +8,11 @@ use Rattle.run_engine.proofs.replay.replaced.Replaced.before.Goals as goal
 
 pub overflow_sub-at : goal.overflow_sub-at
 overflow_sub-at c =
-    omega (arith, before-begins c.args.revision.now.segments.now c.args.revision.now.end.now c.args.old.now.index c.args.old.now.at (length c.ops.result.now) c.at-segment.result
-    (record { kept = c.args.revision.now.holds.kept; within = c.requires.within; some = c.if-old-eq0.false; is = c.at-segment.ensures; place = c.requires.place }) (ap length c.ops.ensures))
+    omega (
+      arith,
+      before-begins c.args.revision.now.segments.now c.args.revision.now.end.now c.args.old.now.index c.args.old.now.at (length c.ops.result.now) c.at-segment.result
+          (record { kept = c.args.revision.now.holds.kept; within = c.requires.within; some = c.if-old-eq0.false; is = c.at-segment.ensures; place = c.requires.place }) (ap length c.ops.ensures),
+    )
 
 -- the checkpoint where it begins, by its position
 pub heap_at-requires : goal.heap_at-requires
