@@ -4,7 +4,7 @@ ghost use Rattle.std.specs.Prelude.{◌<◌};
 use crate::kept::{clones, first_made, step_over, with_kept};
 use crate::random_edits::{Dice, give_up_some, rolled_edit, rolled_trace};
 use crate::small_runs::{are_marks, is_replay, is_replay_of, with_shelf};
-use crate::small_traces::{batch, insertion};
+use crate::small_traces::{batch, change, insertion};
 use mark_shelf::MarkShelf;
 use op_step::Meter;
 use run_engine::Run;
@@ -122,6 +122,57 @@ fn operation_comes_and_goes(rt: HostRuntime) -> Result<(), Fail> {
             assert_comes_and_goes(&rt, alloc, run, shelf)
         })
     })
+}
+
+// The changes of three turns: an operation makes a Weak, which is dropped at once, in place of an Arc. Then one comes right behind another operation.
+// Then the first makes an Arc again.
+fn come_between(alloc: Global, place: u32, next: u32, turn: usize) -> Result<Batch, Fail> {
+    let kind = match turn {
+        0 => Kind::Downgrade { from: 0, to: 9 },
+        1 => return batch(alloc, insertion(next, 1_000, Kind::PtrEq { a: 0, b: 0 })?),
+        _ => Kind::Clone { from: 0, to: 9 },
+    };
+    batch(alloc, change(place, kind)?)
+}
+
+// So many operations are stepped in each of the turns, and one for what comes.
+fn assert_stays(
+    rt: &impl Abort,
+    alloc: Global,
+    run: &mut Run,
+    shelf: &mut MarkShelf,
+    place: u32,
+    next: u32,
+    first: u64,
+) -> Result<(), Fail> {
+    for (turn, due) in [first, 1, 0].iter().enumerate() {
+        let edits = come_between(alloc, place, next, turn)?;
+        assert_eq!(rt; step_over(alloc, run, &edits, shelf)?, *due);
+        assert!(rt; is_replay(alloc, run)?);
+    }
+    Ok(())
+}
+
+fn assert_stays_of(
+    rt: &impl Abort,
+    alloc: Global,
+    place: u32,
+    next: u32,
+    first: u64,
+) -> Result<(), Fail> {
+    let trace = clones(alloc, 250)?;
+    with_shelf(alloc, 8, 64, 64, |shelf| {
+        with_kept(alloc, &trace, shelf, |run, shelf| {
+            assert_stays(rt, alloc, run, shelf, place, next, first)
+        })
+    })
+}
+
+// An operation that comes right behind a stretch, or behind all, replaces nothing: what the edit before replaced is still found.
+#[test]
+fn stretch_before_an_insertion_stays(rt: HostRuntime) -> Result<(), Fail> {
+    assert_stays_of(&rt, rt.alloc(), 2, 64, 64)?;
+    assert_stays_of(&rt, rt.alloc(), 200, 250, 58)
 }
 
 // The operation of a trace with a number.

@@ -127,8 +127,8 @@ impl Run {
     /// operations stepped, and where memory runs out by at most those up to the stop.
     ///
     /// The shelf is touched with the names of the inner checkpoints from the restart to the stop, ahead of the steps where they
-    /// are known, and each checkpoint is given up whose name it answers. In the end it remembers the last of the chunks that were stepped
-    /// behind a checkpoint, as many as it has room for. A refusal of the edits leaves the shelf as it was. Where memory runs out, it may have been touched.
+    /// are known, and each checkpoint is given up whose name it answers. In the end it remembers the old stretches that were gone
+    /// over anew and the chunks that were stepped behind a checkpoint, the last ones, as many as it has room for. A refusal of the edits leaves the shelf as it was. Where memory runs out, it may have been touched.
     pub fn edited(
         &self,
         alloc: Global,

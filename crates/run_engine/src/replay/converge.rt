@@ -401,7 +401,7 @@ pub fn converge(
                     to: at - seam.base + seam.edited,
                     open: seam.edited,
                 };
-                let is_gone = progress.prefix.len < limits.to;
+                let from = progress.prefix.len;
                 progress = advance(alloc, revision, progress, limits, shelf, meter)?;
                 let heap = mark.heap(alloc)?;
                 let old_mark = OldMark {
@@ -409,7 +409,7 @@ pub fn converge(
                     at,
                     mark: heap,
                 };
-                replaced.note(alloc, revision, &old_mark, is_gone);
+                replaced.note(alloc, revision, &old_mark, &progress, from);
                 let found = rejoined_at(
                     alloc,
                     revision,
@@ -463,8 +463,8 @@ pub fn converge(
         to: revision.ops.len(),
         open: seam.edited,
     };
-    let is_gone = progress.prefix.len < limits.to;
+    let from = progress.prefix.len;
     let progress = advance(alloc, revision, progress, limits, shelf, meter)?;
-    replaced.note_end(alloc, revision, is_gone);
+    replaced.note_end(alloc, revision, &progress, from);
     Ok(progress.prefix)
 }

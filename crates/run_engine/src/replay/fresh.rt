@@ -1,4 +1,4 @@
-//! The chunks that were stepped for a replay, which a shelf then remembers.
+//! Chunks that were stepped for a replay, or that it replaces, which a shelf then remembers.
 ghost use Rattle.std.specs.Prelude.{◌≡◌, None, Some, true, IfOk, IfSome, OnOk};
 ghost use Rattle.ownership_model.specs.Step.{end_from};
 ghost use Rattle.mark_shelf.specs.Joints.{EndsWith};
@@ -13,14 +13,14 @@ use std::alloc::{AllocError, Global};
 use std::collections::VecDeque;
 use std::marker::Model;
 
-/// A chunk that was stepped, and whether right behind the one before it in the list.
+/// A chunk that was stepped or is replaced, and whether right behind the one before it in the list.
 #[derive(Drop)]
 pub struct FreshChunk {
     chunk: ChunkRun,
     follows: bool,
 }
 
-/// The chunks that were stepped for a replay, in order. Contracts see the heap at which the last of them ends.
+/// Chunks that were stepped for a replay, or that it replaces, in order. Contracts see the heap at which the last of them ends.
 #[derive(Drop)]
 pub struct Fresh {
     chunks: VecDeque<FreshChunk>,

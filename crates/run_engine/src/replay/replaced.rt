@@ -8,6 +8,7 @@ ghost use Rattle.run_engine.specs.inner.Replaced.{AreReplaced};
 ghost use Rattle.run_engine.specs.declared.replay.revision.Revision.{Revision};
 
 use crate::replay::fresh::Fresh;
+use crate::replay::progress::Progress;
 use crate::replay::rejoin::OldMark;
 use crate::replay::revision::Revision;
 use crate::segments::mark::Mark;
@@ -15,7 +16,7 @@ use object_heap::Heap;
 use op_step::ChunkRun;
 use std::alloc::{AllocError, Global};
 
-/// The old stretches whose operations a replay went over from another heap, as chunks, in order: an edit that takes the change back finds them.
+/// The old stretches whose operations a replay went over anew, as chunks, in order: an edit that takes the change back finds them.
 #[derive(Drop)]
 pub struct Replaced {
     chunks: Fresh,
@@ -41,8 +42,16 @@ impl Replaced {
         self.chunks
     }
 
-    /// Notes the old segment before an old checkpoint, if it begins with one as well and is known to be gone. Where memory is refused it is lost.
-    pub fn note(&mut self, alloc: Global, revision: &Revision, old: &OldMark, is_gone: bool)
+    /// Notes the old segment before an old checkpoint to which a replay came from a position, if it begins with one as well and was gone over anew. Where
+    /// memory is refused it is lost.
+    pub fn note(
+        &mut self,
+        alloc: Global,
+        revision: &Revision,
+        old: &OldMark,
+        progress: &Progress,
+        from: usize,
+    )
         requires within { old.now.index ≤ length revision.now.segments.now }
         requires place { length (trace_of (take old.now.index revision.now.segments.now))
             ≡ old.now.at }
@@ -51,7 +60,7 @@ impl Replaced {
         requires known { AreReplaced revision.now self.old }
         ensures { AreReplaced revision.now self.new }
     {
-        if !is_gone {
+        if !is_gone_over(progress, from, old.at) {
             return;
         }
         let Ok(Some((chunk, follows))) = self.before(alloc, revision, old) else {
@@ -68,8 +77,9 @@ impl Replaced {
         self.heap = Some(heap);
     }
 
-    /// Notes the last old segment, if it begins with a checkpoint and is known to be gone. Where memory is refused it is lost.
-    pub fn note_end(&mut self, alloc: Global, revision: &Revision, is_gone: bool)
+    /// Notes the last old segment, if it begins with a checkpoint and was gone over anew by a replay that came to its end from a position. Where memory
+    /// is refused it is lost.
+    pub fn note_end(&mut self, alloc: Global, revision: &Revision, progress: &Progress, from: usize)
         requires { AreReplaced revision.now self.old }
         ensures { AreReplaced revision.now self.new }
     {
@@ -81,7 +91,7 @@ impl Replaced {
             at: revision.segments.ops_len(),
             mark,
         };
-        self.note(alloc, revision, &end, is_gone);
+        self.note(alloc, revision, &end, progress, from);
     }
 
     // The old segment before an old checkpoint as a chunk, if it begins with one as well, and whether it begins where the last one ends.
@@ -109,6 +119,10 @@ impl Replaced {
         let Some(mark) = segment.mark() else {
             return Ok(None);
         };
+        // Else no chunk is made of it, and it may be dear to make its heap.
+        if segment.keys().is_none() {
+            return Ok(None);
+        }
         let at = old.at - segment.ops().len();
         let start = self.heap_at(alloc, &mark, at)?;
         let chunk = segment.chunk(start, old.mark.share()?)?;
@@ -130,4 +144,10 @@ impl Replaced {
         }
         mark.heap(alloc)
     }
+}
+
+// Whether a replay that came from a position to where it stands went over operations before an old position on its way, and didn't take the old stretch
+// there.
+fn is_gone_over(progress: &Progress, from: usize, at: usize) -> bool {
+    from < progress.prefix.len && progress.fork.base < at
 }

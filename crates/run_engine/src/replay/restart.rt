@@ -103,7 +103,7 @@ fn prefix(alloc: Global, revision: &Revision, head: usize) -> Result<Prefix, All
     })
 }
 
-/// The replay of an edited trace beside that of the old one, the base, with guesses of its stretches. The old stretches that it steps anew are noted.
+/// The replay of an edited trace beside that of the old one, the base, with guesses of its stretches. The old stretches that it goes over anew behind the seam are noted.
 pub fn resumed(
     alloc: Global,
     segments: &Segments,
