@@ -9,6 +9,7 @@ ghost use Rattle.agreement.specs.Meeting.{Meets};
 use crate::agree::agree;
 use crate::among::{island_among, sure_difference};
 use crate::differing::differing_object;
+use crate::near::near_root;
 use crate::remains::Remains;
 use crate::suspects::Suspects;
 use crate::trail::{Trail, refutes};
@@ -99,8 +100,8 @@ pub fn meet_among(
 /// Compares a new heap with an old one that has the same roots and differs from it at most at the suspects.
 ///
 /// The suspects are settled: those that are the same in both are dropped. With none left the heaps are the same; with one that is surely
-/// reached they don't agree, and it is the trail from now on; and where those left, with all that differs with them, are an island, they
-/// agree but for it. The work is, up to here, that of the suspects and of their fields. Else the trail is replaced by one to a
+/// reached, or that a root names or a field of what a root names, they don't agree, and what leads to it is the trail from now on; and where those left,
+/// with all that differs with them, are an island, they agree but for it. The work is, up to here, that of the suspects, the roots, and their fields. Else the trail is replaced by one to a
 /// difference, if any is found: then they don't agree. Only where none is found all that can be reached is compared.
 pub fn meet_rooted(
     alloc: Global,
@@ -138,6 +139,11 @@ fn told_by(
     }
     if let Some(trail) = sure_difference(new, old, suspects) {
         *seen = Some(trail);
+        return Ok(Some(Meeting::Apart));
+    }
+    let near = near_root(alloc, new, suspects)?;
+    if is_refuted(&near, new, old) {
+        *seen = near;
         return Ok(Some(Meeting::Apart));
     }
     match island_among(alloc, new, old, suspects)? {
