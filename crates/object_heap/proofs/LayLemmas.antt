@@ -1,26 +1,31 @@
 -- Parts of one state laid over another: each step keeps the counts and the limits.
-use Rattle.std.proofs.Common.{◌≡◌, ℕ, ◌+◌, ◌<◌, ◌≤◌, List, [], ◌∷◌, length, drop, get_or, suc, add-one, refl, ap, ◌∙◌, sym, subst, arith, Bool, true, false}
+use Rattle.std.proofs.Common.{◌≡◌, ℕ, ◌+◌, ◌<◌, ◌≤◌, List, [], ◌∷◌, ◌++◌, length, drop, get_or, suc, add-one, refl, ap, ◌∙◌, sym, subst, arith, Bool, true, false}
 use Rattle.std.proofs.Math.Seq.{drop-cons}
+use Rattle.std.proofs.Math.ListN.{length-set}
+use Rattle.std.proofs.lemmas.List.{take_all, take_more, take_more_set}
+use Rattle.std.proofs.lemmas.Bool.Decides.{nat_tests}
 use Rattle.std.specs.Prelude.{Option, Some, None, ◌==◌, nat_le, if◌then◌else◌}
 use Rattle.std.specs.Cmp.{nat_cmp_total}
 use Rattle.std.specs.FinMap.{get, insert, remove, same_map, nat_cmp-IsAntisymmetric}
 use Rattle.trace_types.specs.declared.limits.TheConstants.{MAX_THREAD}
 use Rattle.trace_types.specs.declared.slots.Slot.{Slot}
 use Rattle.trace_types.specs.declared.slots.Entry.{Entry}
+use Rattle.trace_types.specs.declared.slots.Entry.TheVariants.{Alive, Husk}
 use Rattle.trace_types.specs.declared.slots.Scoped.{Scoped}
 use Rattle.trace_types.specs.declared.slots.Change.{Change}
-use Rattle.trace_types.specs.declared.slots.Change.TheVariants.{SetHandle}
+use Rattle.trace_types.specs.declared.slots.Change.TheVariants.{SetHandle, SetField}
 use Rattle.ownership_model.specs.State.{State, holding_weight, HoldPointers}
 use Rattle.ownership_model.specs.Bounds.{IsBounded, LabelsFit, ChangeFits}
-use Rattle.ownership_model.specs.Changes.{changed_by, CanBeDone}
+use Rattle.ownership_model.specs.Changes.{changed_by, with_field, HasField, CanBeDone}
 use Rattle.ownership_model.proofs.LawsHold.{bounds}
 use Rattle.ownership_model.proofs.Counting.{total-set, same_number, get_inserted, get_removed}
 use Rattle.object_heap.specs.declared.draft.Draft.{Draft}
 use Rattle.object_heap.specs.declared.put.Put.{Put}
 use Rattle.object_heap.specs.Counted.{drafted, IsCounted}
 use Rattle.object_heap.specs.Gains.{CountsMore, Changes}
+use Rattle.object_heap.specs.Exchange.{with_object}
 use Rattle.object_heap.specs.Links.{entered_above}
-use Rattle.object_heap.specs.Laid.{with_put, with_entry, CanPut, PutFits, PutsFit, IsDrafted, MayHold}
+use Rattle.object_heap.specs.Laid.{with_put, with_entry, CanPut, PutFits, PutsFit, IsDrafted, MayHold, BeginAlike}
 use Rattle.object_heap.proofs.GainLemmas.{no_more}
 use Rattle.object_heap.proofs.ExchangeLemmas.{IsBalanced, counted_then}
 
@@ -100,3 +105,57 @@ entry_again m o (Some e) is =
     let objects : insert m.objects o e ≡ m.objects = same_map nat_cmp_total nat_cmp-IsAntisymmetric (insert m.objects o e) m.objects (λ q.
     get_inserted m.objects o e q ∙ there_already (o == q) (Some e) (get m.objects q) (λ t. ap (get m.objects) (sym (same_number o q t)) ∙ is)) in
     λ i. record m { objects = objects i }
+
+-- ---- the fields of an object, one after another
+either_last : (b : Bool) (x y z : Option Entry) → (if b then x else (if b then y else z)) ≡ (if b then x else z)
+either_last true x y z = refl
+either_last false x y z = refl
+
+-- of what is put for an object twice the last stands
+put_last : (m : State) (o : ℕ) (x e : Entry) → with_object (with_object m o x) o e ≡ with_object m o e
+put_last m o x e =
+    let objects : insert (insert m.objects o x) o e ≡ insert m.objects o e = same_map nat_cmp_total nat_cmp-IsAntisymmetric (insert (insert m.objects o x) o e) (insert m.objects o e) (λ q.
+    get_inserted (insert m.objects o x) o e q ∙ ap (λ z. if o == q then Some e else z) (get_inserted m.objects o x q) ∙ either_last (o == q) (Some e) (Some x) (get m.objects q) ∙ sym (get_inserted m.objects o e q)) in
+    λ i. record m { objects = objects i }
+
+set_alike : (e : Option Entry) (slots : List Slot) (i : ℕ) (d : Slot) → i < length slots → BeginAlike e slots i → BeginAlike (Some (with_field e i (get_or slots i d))) slots (i + 1)
+set_alike None slots i d within alike = absurd alike
+set_alike (Some Husk) slots i d within alike = absurd alike
+set_alike (Some (Alive fields)) slots i d within alike = (
+  length-set fields i (get_or slots i d) ∙ alike.0,
+  (omega arith, take_more_set fields i (get_or slots i d) (omega (arith, alike.0)) ∙ ap (λ (xs : List Slot). xs ++ get_or slots i d ∷ []) alike.1.1 ∙ sym (take_more slots i d within)),
+)
+
+has_alike : (e : Option Entry) (slots : List Slot) (i : ℕ) → i < length slots → BeginAlike e slots i → HasField e i
+has_alike None slots i within alike = alike
+has_alike (Some Husk) slots i within alike = alike
+has_alike (Some (Alive fields)) slots i within alike = omega (arith, alike.0)
+
+-- the field from which on they may differ is set
+module _ (old new : Draft) (o i : ℕ) (slots : List Slot) (d : Slot) (within : i < length slots) (alike : BeginAlike (get old.objects.entries o) slots i) (set : Changes old new (SetField o i (get_or slots i d))) where
+  abbrev field : Entry
+  field = with_field (get old.objects.entries o) i (get_or slots i d)
+
+  there : get (insert old.objects.entries o field) o ≡ Some field
+  there =
+      let same : (o == o) ≡ true = grind (arith, nat_tests) in
+      get_inserted old.objects.entries o field o ∙ ap (λ b. if b then Some field else get old.objects.entries o) same
+
+  pub next_alike : BeginAlike (get new.objects.entries o) slots (i + 1)
+  next_alike =
+      subst (λ (k : State). BeginAlike (get k.objects o) slots (i + 1)) (sym set.state)
+      (subst (λ (x : Option Entry). BeginAlike x slots (i + 1)) (sym there) (set_alike (get old.objects.entries o) slots i d within alike))
+
+  pub next_bounded : IsBounded (drafted old) → IsBounded (drafted new)
+  next_bounded bounded =
+      (made old new (SetField o i (get_or slots i d)) (changed_by (drafted old) (SetField o i (get_or slots i d))) refl bounded tt (has_alike (get old.objects.entries o) slots i within alike) set).bounded
+
+  pub next_rest : with_object (drafted new) o (Alive slots) ≡ with_object (drafted old) o (Alive slots)
+  next_rest = ap (λ (k : State). with_object k o (Alive slots)) set.state ∙ put_last (drafted old) o field (Alive slots)
+
+-- all fields are the same
+pub all_alike : (e : Option Entry) (slots : List Slot) (i : ℕ) → length slots ≤ i → BeginAlike e slots i → e ≡ Some (Alive slots)
+all_alike None slots i past alike = absurd alike
+all_alike (Some Husk) slots i past alike = absurd alike
+all_alike (Some (Alive fields)) slots i past alike =
+    ap (λ (xs : List Slot). Some (Alive xs)) (sym (take_all i fields (omega (arith, alike.0))) ∙ alike.1.1 ∙ take_all i slots past)

@@ -1,11 +1,12 @@
 -- A state over which parts of another one are laid: some handles, cells and objects (profile of this project).
-use Rattle.std.specs.Prelude.{ℕ, ◌≡◌, ◌≤◌, List, [], ◌∷◌, Option, Some, None}
+use Rattle.std.specs.Prelude.{ℕ, ◌≡◌, ◌≤◌, List, [], ◌∷◌, Option, Some, None, length, take}
 use Rattle.std.specs.List.{AllByRecursion}
 use Rattle.std.specs.FinMap.{get, insert, remove}
 use Rattle.trace_types.specs.declared.limits.TheConstants.{MAX_NAME, MAX_THREAD}
 use Rattle.trace_types.specs.declared.slots.Slot.{Slot}
 use Rattle.trace_types.specs.declared.slots.Holding.{Holding}
 use Rattle.trace_types.specs.declared.slots.Entry.{Entry}
+use Rattle.trace_types.specs.declared.slots.Entry.TheVariants.{Alive, Husk}
 use Rattle.ownership_model.specs.State.{State, IsPointer}
 use Rattle.ownership_model.specs.Scopes.{left}
 use Rattle.ownership_model.specs.Bounds.{IsBounded, HoldingFits}
@@ -85,3 +86,9 @@ pub record IsDrafted (new : Draft) (m : State) : Type 0 where
 abbrev pub MayHold : Option Slot → Type 0
 MayHold None = Unit {0}
 MayHold (Some s) = IsPointer s
+
+-- an object is alive and has as many fields as these are, and the first n of both are the same
+abbrev pub BeginAlike : Option Entry → List Slot → ℕ → Type 0
+BeginAlike None slots n = ⊥
+BeginAlike (Some Husk) slots n = ⊥
+BeginAlike (Some (Alive fields)) slots n = (length fields ≡ length slots) × ((n ≤ length slots) × (take n fields ≡ take n slots))

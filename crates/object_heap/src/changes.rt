@@ -219,7 +219,9 @@ impl Draft {
         self.cells.take(alloc, cell, part)
     }
 
-    fn set_field(
+    /// A field of an object that is alive holds this from now on. What comes is counted before what goes, so that no count is ever too small.
+    /// Where memory runs out the draft is unspecified: let it go.
+    pub fn set_field(
         &mut self,
         alloc: Global,
         object: u32,

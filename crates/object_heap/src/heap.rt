@@ -20,6 +20,7 @@ ghost use Rattle.object_heap.specs.Links.{first_of, earlier_in, label_in};
 
 use crate::counters::Counters;
 use crate::draft::Draft;
+use crate::object::same_kept;
 use crate::put::Put;
 use ownership_model::Key;
 use ownership_model::remaining::Remaining;
@@ -226,6 +227,19 @@ impl Heap {
         ensures { IsTrue result ↔ (self.now ≡ other.now) }
     {
         self.draft.same(&other.draft)
+    }
+
+    /// Whether the same stands for an object in both heaps, and is named as often. Looks it up once in each.
+    pub fn same_at(&self, other: &Heap, object: u32) -> bool
+        ensures { IsTrue result
+            ↔ ((map.get self.now.objects object ≡ map.get other.now.objects object)
+            × (strong self.now [] object ≡ strong other.now [] object)
+            × (weak self.now [] object ≡ weak other.now [] object)) }
+    {
+        same_kept(
+            self.draft.objects.kept(object),
+            other.draft.objects.kept(object),
+        )
     }
 
     /// The heap after the changes, when all that is then pending was dropped, and what became of objects, in order.

@@ -1,11 +1,13 @@
 //! Parts of one state laid over another: some of its handles, cells and objects.
-ghost use Rattle.std.specs.Prelude.{◌≡◌, [], None, OnOk};
+ghost use Rattle.std.specs.Prelude.{◌≡◌, ◌≢◌, ◌↔◌, ◌<◌, ◌≤◌, [], None, Some, length, slice_get, take, IsTrue, OnOk};
 ghost use Rattle.std.specs.Option.{option_copied};
 ghost use Rattle.std.specs.FinMap as map;
-ghost use Rattle.ownership_model.specs.Bounds.{IsBounded, CellFits, ObjectFits};
+ghost use Rattle.trace_types.specs.declared.slots.Entry.TheVariants.{Alive};
+ghost use Rattle.ownership_model.specs.Bounds.{IsBounded, AreFew, CellFits, ObjectFits};
 ghost use Rattle.object_heap.specs.Counted.{drafted, IsCounted, IsKept};
 ghost use Rattle.object_heap.specs.Links.{IsAbove};
-ghost use Rattle.object_heap.specs.Laid.{ended_at, without_handles, with_put, with_puts, CanPut, PutFits, PutsFit, cell_ended, with_cell, with_cells, with_entry, with_entries, laid_over, IsDrafted, MayHold};
+ghost use Rattle.object_heap.specs.Exchange.{with_object};
+ghost use Rattle.object_heap.specs.Laid.{ended_at, without_handles, with_put, with_puts, CanPut, PutFits, PutsFit, cell_ended, with_cell, with_cells, with_entry, with_entries, laid_over, IsDrafted, MayHold, BeginAlike};
 
 use crate::counting::hold_holding;
 use crate::draft::Draft;
@@ -169,8 +171,83 @@ impl Draft {
             return Ok(());
         }
         match entry {
-            Some(entry) => self.put_in(alloc, object, entry),
+            Some(entry) => self.put_over(alloc, object, entry),
             None => self.take_out(alloc, object),
         }
     }
+
+    // An object comes, whatever stood there. Where as many fields stand there already, only those that hold something else are set: the
+    // slots of the others are counted, and stay so.
+    fn put_over(&mut self, alloc: Global, object: u32, entry: &Entry) -> Result<(), AllocError>
+        requires counted { IsCounted self.old.objects.counts (drafted self.old) [] }
+        requires bounded { IsBounded (drafted self.old) }
+        requires fits { ObjectFits object (Some entry.now) }
+        ensures { OnOk result (IsDrafted self.new
+            (with_object (drafted self.old) object entry.now)) }
+    {
+        if let Entry::Alive(fields) = entry {
+            if has_as_many(self.objects.get(object), fields.as_slice()) {
+                return self.set_fields(alloc, object, fields.as_slice());
+            }
+        }
+        self.put_in(alloc, object, entry)
+    }
+
+    // An object that is alive holds these in its fields from now on, as many as it has. Those that hold the same stay as they are.
+    fn set_fields(&mut self, alloc: Global, object: u32, slots: &[Slot]) -> Result<(), AllocError>
+        requires counted { IsCounted self.old.objects.counts (drafted self.old) [] }
+        requires bounded { IsBounded (drafted self.old) }
+        requires few { AreFew slots.now }
+        requires as_many { BeginAlike (map.get self.old.objects.entries object) slots.now 0 }
+        ensures { OnOk result (IsDrafted self.new
+            (with_object (drafted self.old) object (Alive slots.now))) }
+    {
+        let mut at = self.next_other(object, slots, 0);
+        while at < slots.len() {
+            self.set_field(alloc, object, at as u32, slots[at])?;
+            at = self.next_other(object, slots, at + 1);
+        }
+        Ok(())
+    }
+
+    // The first field of an object, from this one on, that holds something else than it is to hold, or how many there are. Those before hold
+    // what they are to hold.
+    fn next_other(&self, object: u32, slots: &[Slot], from: usize) -> usize
+        requires { BeginAlike (map.get self.now.objects.entries object) slots.now from }
+        ensures on { from ≤ result }
+        ensures alike { BeginAlike (map.get self.now.objects.entries object) slots.now result }
+    {
+        let Some(Entry::Alive(fields)) = self.objects.get(object) else {
+            unreachable!()
+        };
+        first_other(fields.as_slice(), slots, from)
+    }
+}
+
+// Whether an object is alive and has as many fields as these are.
+fn has_as_many(entry: Option<&Entry>, slots: &[Slot]) -> bool
+    ensures { IsTrue result ↔ BeginAlike (option_copied entry.entry) slots.now 0 }
+{
+    match entry {
+        Some(Entry::Alive(fields)) => fields.len() == slots.len(),
+        Some(Entry::Husk) | None => false,
+    }
+}
+
+// The first place, from this one on, at which two lists that are equally long differ, or their length. Before it both are the same, if they
+// are so up to the place where it begins.
+fn first_other(fields: &[Slot], slots: &[Slot], from: usize) -> usize
+    requires as_many { length fields.now ≡ length slots.now }
+    requires within { from ≤ length slots.now }
+    requires alike { take from fields.now ≡ take from slots.now }
+    ensures within { (from ≤ result) × (result ≤ length slots.now) }
+    ensures alike { take result fields.now ≡ take result slots.now }
+    ensures other { result < length slots.now → slice_get fields.now result ≢ slice_get slots.now result }
+{
+    for at in from..slots.len() {
+        if fields[at] != slots[at] {
+            return at;
+        }
+    }
+    slots.len()
 }

@@ -151,3 +151,11 @@ pub fn same_entry(one: Option<&Entry>, another: Option<&Entry>) -> bool
         (Some(_), None) | (None, Some(_)) => false,
     }
 }
+
+/// Whether the same is kept for an object in both places. Where nothing is, nothing stands and nothing names it.
+pub fn same_kept(one: Option<&Object>, another: Option<&Object>) -> bool
+    ensures { IsTrue result ↔ (kept_at (option_copied one.entry)
+        ≡ kept_at (option_copied another.entry)) }
+{
+    counters_of(one) == counters_of(another) && same_entry(entry_of(one), entry_of(another))
+}
