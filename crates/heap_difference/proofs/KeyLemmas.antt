@@ -17,9 +17,7 @@ use Rattle.ownership_model.specs.Alike.{AreWithin}
 use Rattle.ownership_model.proofs.Counting.{same_number}
 use Rattle.ownership_model.proofs.Searching.{has-append}
 use Rattle.heap_difference.specs.declared.key_set.KeySet.{KeySet}
-use Rattle.heap_difference.specs.declared.key_set.Kind.{Kind}
-use Rattle.heap_difference.specs.declared.key_set.Kind.TheVariants as kind
-use Rattle.heap_difference.specs.KeySets.{is_among, kind_number, numbers, set_of, Has, share_one, meet}
+use Rattle.heap_difference.specs.KeySets.{nothing, is_among, Kind, Handles, Cells, Objects, Labels, kind_number, numbers, set_of, Has, share_one, meet}
 use Rattle.heap_difference.proofs.Tests.{clash, itself, has_first, or_right}
 
 both_ways : (b c : Bool) → (b ≡ true → c ≡ true) → (c ≡ true → b ≡ true) → b ≡ c
@@ -140,38 +138,24 @@ pub share_turned : (xs ys : List ℕ) → share_one xs ys ≡ share_one ys xs
 share_turned xs ys = both_ways (share_one xs ys) (share_one ys xs) (share_turn xs ys) (share_turn ys xs)
 
 -- ---- keys
--- the set whose numbers these are, kind by kind
-pub record AreNumbers (d : KeySet) (keys : List Key) : Type 0 where
-  pub handles : (q : ℕ) → has q d.handles ≡ has q (numbers kind.Handle keys)
-  pub cells : (q : ℕ) → has q d.cells ≡ has q (numbers kind.Cell keys)
-  pub objects : (q : ℕ) → has q d.objects ≡ has q (numbers kind.Object keys)
-  pub labels : (q : ℕ) → has q d.labels ≡ has q (numbers kind.Scope keys)
-
 has_later : (q : ℕ) (xs ys : List ℕ) → has q ys ≡ true → has q (xs ++ ys) ≡ true
 has_later q xs ys here = has-append q xs ys ∙ or_right (has q xs) (has q ys) here
 
--- whether a key is in the list, by its number
-abbrev pub named : Key → List Key → Bool
-named (Handle q) keys = has q (numbers kind.Handle keys)
-named (Cell q) keys = has q (numbers kind.Cell keys)
-named (Object q) keys = has q (numbers kind.Object keys)
-named (Scope q) keys = has q (numbers kind.Scope keys)
+listed_first : (x : Key) (keys : List Key) → is_among (set_of (x ∷ keys)) x ≡ true
+listed_first (Handle q) keys = has_first q (numbers Handles keys)
+listed_first (Cell q) keys = has_first q (numbers Cells keys)
+listed_first (Object q) keys = has_first q (numbers Objects keys)
+listed_first (Scope q) keys = has_first q (numbers Labels keys)
 
-named_first : (x : Key) (keys : List Key) → named x (x ∷ keys) ≡ true
-named_first (Handle q) keys = has_first q (numbers kind.Handle keys)
-named_first (Cell q) keys = has_first q (numbers kind.Cell keys)
-named_first (Object q) keys = has_first q (numbers kind.Object keys)
-named_first (Scope q) keys = has_first q (numbers kind.Scope keys)
+listed_later : (x y : Key) (keys : List Key) → is_among (set_of keys) x ≡ true → is_among (set_of (y ∷ keys)) x ≡ true
+listed_later (Handle q) y keys n = has_later q (option_to_list (kind_number Handles y)) (numbers Handles keys) n
+listed_later (Cell q) y keys n = has_later q (option_to_list (kind_number Cells y)) (numbers Cells keys) n
+listed_later (Object q) y keys n = has_later q (option_to_list (kind_number Objects y)) (numbers Objects keys) n
+listed_later (Scope q) y keys n = has_later q (option_to_list (kind_number Labels y)) (numbers Labels keys) n
 
-named_later : (x y : Key) (keys : List Key) → named x keys ≡ true → named x (y ∷ keys) ≡ true
-named_later (Handle q) y keys n = has_later q (option_to_list (kind_number kind.Handle y)) (numbers kind.Handle keys) n
-named_later (Cell q) y keys n = has_later q (option_to_list (kind_number kind.Cell y)) (numbers kind.Cell keys) n
-named_later (Object q) y keys n = has_later q (option_to_list (kind_number kind.Object y)) (numbers kind.Object keys) n
-named_later (Scope q) y keys n = has_later q (option_to_list (kind_number kind.Scope y)) (numbers kind.Scope keys) n
-
-all_named : (k : Key → Bool) (keys : List Key) → ((x : Key) → named x keys ≡ true → k x ≡ true) → AreWithin k keys
-all_named k [] f = tt
-all_named k (x ∷ keys) f = (f x (named_first x keys), all_named k keys (λ y n. f y (named_later y x keys n)))
+all_listed : (k : Key → Bool) (keys : List Key) → ((x : Key) → is_among (set_of keys) x ≡ true → k x ≡ true) → AreWithin k keys
+all_listed k [] f = tt
+all_listed k (x ∷ keys) f = (f x (listed_first x keys), all_listed k keys (λ y n. f y (listed_later y x keys n)))
 
 -- a number comes from a key of its kind
 module _ (k : Kind) (make : ℕ → Key) (made : (y : Key) (p : ℕ) → kind_number k y ≡ Some p → y ≡ make p) where
@@ -194,48 +178,49 @@ some_same a b e = ap (λ (x : Option ℕ). of x) e
     of None = 0
     of (Some x) = x
 
-of_handle : (y : Key) (p : ℕ) → kind_number kind.Handle y ≡ Some p → y ≡ Handle p
+of_handle : (y : Key) (p : ℕ) → kind_number Handles y ≡ Some p → y ≡ Handle p
 of_handle (Handle q) p is = ap (λ n. Handle n) (some_same q p is)
 of_handle (Cell q) p is = absurd cc
 of_handle (Object q) p is = absurd cc
 of_handle (Scope q) p is = absurd cc
 
-of_cell : (y : Key) (p : ℕ) → kind_number kind.Cell y ≡ Some p → y ≡ Cell p
+of_cell : (y : Key) (p : ℕ) → kind_number Cells y ≡ Some p → y ≡ Cell p
 of_cell (Handle q) p is = absurd cc
 of_cell (Cell q) p is = ap (λ n. Cell n) (some_same q p is)
 of_cell (Object q) p is = absurd cc
 of_cell (Scope q) p is = absurd cc
 
-of_object : (y : Key) (p : ℕ) → kind_number kind.Object y ≡ Some p → y ≡ Object p
+of_object : (y : Key) (p : ℕ) → kind_number Objects y ≡ Some p → y ≡ Object p
 of_object (Handle q) p is = absurd cc
 of_object (Cell q) p is = absurd cc
 of_object (Object q) p is = ap (λ n. Object n) (some_same q p is)
 of_object (Scope q) p is = absurd cc
 
-of_scope : (y : Key) (p : ℕ) → kind_number kind.Scope y ≡ Some p → y ≡ Scope p
+of_scope : (y : Key) (p : ℕ) → kind_number Labels y ≡ Some p → y ≡ Scope p
 of_scope (Handle q) p is = absurd cc
 of_scope (Cell q) p is = absurd cc
 of_scope (Object q) p is = absurd cc
 of_scope (Scope q) p is = ap (λ n. Scope n) (some_same q p is)
 
-pub has_numbers : (d : KeySet) (keys : List Key) → AreNumbers d keys → Has d keys
-has_numbers d keys a = record { all = all_named (is_among d) keys each; only = only }
-  where
-    each : (x : Key) → named x keys ≡ true → is_among d x ≡ true
-    each (Handle q) n = a.handles q ∙ n
-    each (Cell q) n = a.cells q ∙ n
-    each (Object q) n = a.objects q ∙ n
-    each (Scope q) n = a.labels q ∙ n
+found_listed : (keys : List Key) (x : Key) → is_among (set_of keys) x ≡ true → Contains keys x
+found_listed keys (Handle q) here = found_in Handles (λ h. Handle h) of_handle q keys here
+found_listed keys (Cell q) here = found_in Cells (λ c. Cell c) of_cell q keys here
+found_listed keys (Object q) here = found_in Objects (λ o. Object o) of_object q keys here
+found_listed keys (Scope q) here = found_in Labels (λ t. Scope t) of_scope q keys here
 
-    only : (x : Key) → is_among d x ≡ true → Contains keys x
-    only (Handle q) n = found_in kind.Handle (λ h. Handle h) of_handle q keys (sym (a.handles q) ∙ n)
-    only (Cell q) n = found_in kind.Cell (λ c. Cell c) of_cell q keys (sym (a.cells q) ∙ n)
-    only (Object q) n = found_in kind.Object (λ o. Object o) of_object q keys (sym (a.objects q) ∙ n)
-    only (Scope q) n = found_in kind.Scope (λ t. Scope t) of_scope q keys (sym (a.labels q) ∙ n)
+-- a set that has what the list has as a set has its keys
+pub Has-same : (d : KeySet) (keys : List Key) → ((x : Key) → is_among d x ≡ is_among (set_of keys) x) → Has d keys
+Has-same d keys same = record { all = all_listed (is_among d) keys (λ x here. same x ∙ here); only = λ x here. found_listed keys x (sym (same x) ∙ here) }
 
 -- a list as a set has its keys
 pub Has-set_of : (keys : List Key) → Has (set_of keys) keys
-Has-set_of keys = has_numbers (set_of keys) keys (record { handles = λ q. refl; cells = λ q. refl; objects = λ q. refl; labels = λ q. refl })
+Has-set_of keys = Has-same (set_of keys) keys (λ x. refl)
+
+pub beside_nothing : (d : KeySet) (x : Key) → (is_among nothing x || is_among d x) ≡ is_among d x
+beside_nothing d (Handle q) = refl
+beside_nothing d (Cell q) = refl
+beside_nothing d (Object q) = refl
+beside_nothing d (Scope q) = refl
 
 key_within : (k : Key → Bool) (keys : List Key) (x : Key) → AreWithin k keys → Contains keys x → k x ≡ true
 key_within k keys x all c = at keys c.0 all c.1 c.2
@@ -258,10 +243,10 @@ among_set_of d keys h = among_same d (set_of keys) keys h (Has-set_of keys)
 
 -- of two lists one after the other
 pub among_append : (xs ys : List Key) (x : Key) → is_among (set_of (xs ++ ys)) x ≡ (is_among (set_of xs) x || is_among (set_of ys) x)
-among_append xs ys (Handle q) = ap (has q) (flat_map-append (λ k. option_to_list (kind_number kind.Handle k)) xs ys) ∙ has-append q (numbers kind.Handle xs) (numbers kind.Handle ys)
-among_append xs ys (Cell q) = ap (has q) (flat_map-append (λ k. option_to_list (kind_number kind.Cell k)) xs ys) ∙ has-append q (numbers kind.Cell xs) (numbers kind.Cell ys)
-among_append xs ys (Object q) = ap (has q) (flat_map-append (λ k. option_to_list (kind_number kind.Object k)) xs ys) ∙ has-append q (numbers kind.Object xs) (numbers kind.Object ys)
-among_append xs ys (Scope q) = ap (has q) (flat_map-append (λ k. option_to_list (kind_number kind.Scope k)) xs ys) ∙ has-append q (numbers kind.Scope xs) (numbers kind.Scope ys)
+among_append xs ys (Handle q) = ap (has q) (flat_map-append (λ k. option_to_list (kind_number Handles k)) xs ys) ∙ has-append q (numbers Handles xs) (numbers Handles ys)
+among_append xs ys (Cell q) = ap (has q) (flat_map-append (λ k. option_to_list (kind_number Cells k)) xs ys) ∙ has-append q (numbers Cells xs) (numbers Cells ys)
+among_append xs ys (Object q) = ap (has q) (flat_map-append (λ k. option_to_list (kind_number Objects k)) xs ys) ∙ has-append q (numbers Objects xs) (numbers Objects ys)
+among_append xs ys (Scope q) = ap (has q) (flat_map-append (λ k. option_to_list (kind_number Labels k)) xs ys) ∙ has-append q (numbers Labels xs) (numbers Labels ys)
 
 -- ---- keys that are looked up one after another
 first_of_four : (a b c d e : Bool) → (a || (b || (c || (d || e)))) ≡ ((a || b) || (c || (d || e)))
@@ -292,10 +277,10 @@ module _ (s : KeySet) where
   meets_listed (x ∷ keys) = ap (λ b. is_among s x || b) (meets_listed keys) ∙ one x
     where
       one : (y : Key) → (is_among s y || meet (set_of keys) s) ≡ meet (set_of (y ∷ keys)) s
-      one (Handle q) = first_of_four (has q s.handles) (share_one (numbers kind.Handle keys) s.handles) (share_one (numbers kind.Cell keys) s.cells) (share_one (numbers kind.Object keys) s.objects) (share_one (numbers kind.Scope keys) s.labels)
-      one (Cell q) = second_of_four (has q s.cells) (share_one (numbers kind.Handle keys) s.handles) (share_one (numbers kind.Cell keys) s.cells) (share_one (numbers kind.Object keys) s.objects) (share_one (numbers kind.Scope keys) s.labels)
-      one (Object q) = third_of_four (has q s.objects) (share_one (numbers kind.Handle keys) s.handles) (share_one (numbers kind.Cell keys) s.cells) (share_one (numbers kind.Object keys) s.objects) (share_one (numbers kind.Scope keys) s.labels)
-      one (Scope q) = fourth_of_four (has q s.labels) (share_one (numbers kind.Handle keys) s.handles) (share_one (numbers kind.Cell keys) s.cells) (share_one (numbers kind.Object keys) s.objects) (share_one (numbers kind.Scope keys) s.labels)
+      one (Handle q) = first_of_four (has q s.handles) (share_one (numbers Handles keys) s.handles) (share_one (numbers Cells keys) s.cells) (share_one (numbers Objects keys) s.objects) (share_one (numbers Labels keys) s.labels)
+      one (Cell q) = second_of_four (has q s.cells) (share_one (numbers Handles keys) s.handles) (share_one (numbers Cells keys) s.cells) (share_one (numbers Objects keys) s.objects) (share_one (numbers Labels keys) s.labels)
+      one (Object q) = third_of_four (has q s.objects) (share_one (numbers Handles keys) s.handles) (share_one (numbers Cells keys) s.cells) (share_one (numbers Objects keys) s.objects) (share_one (numbers Labels keys) s.labels)
+      one (Scope q) = fourth_of_four (has q s.labels) (share_one (numbers Handles keys) s.handles) (share_one (numbers Cells keys) s.cells) (share_one (numbers Objects keys) s.objects) (share_one (numbers Labels keys) s.labels)
 
 pub meet_turned : (a b : KeySet) → meet a b ≡ meet b a
 meet_turned a b =

@@ -6,8 +6,7 @@ use Rattle.ownership_model.specs.declared.key.Key.TheVariants.{Handle, Cell, Obj
 use Rattle.ownership_model.specs.Reach.{has}
 use Rattle.ownership_model.specs.Alike.{AreWithin}
 use Rattle.heap_difference.specs.declared.key_set.KeySet.{KeySet}
-use Rattle.heap_difference.specs.declared.key_set.Kind.{Kind}
-use Rattle.heap_difference.specs.declared.key_set.Kind.TheVariants as kind
+use Rattle.heap_difference.specs.declared.key_set.Lists.{Lists}
 
 -- the set that has no key
 abbrev pub nothing : KeySet
@@ -25,24 +24,31 @@ pub record Has (d : KeySet) (keys : List Key) : Type 0 where
   pub all : AreWithin (is_among d) keys
   pub only : (x : Key) → is_among d x ≡ true → Contains keys x
 
+-- the kinds of keys
+pub data Kind : Type 0 where
+  Handles : Kind
+  Cells : Kind
+  Objects : Kind
+  Labels : Kind
+
 -- the number of a key of this kind
 abbrev pub kind_number : Kind → Key → Option ℕ
-kind_number kind.Handle (Handle h) = Some h
-kind_number kind.Handle (Cell c) = None
-kind_number kind.Handle (Object o) = None
-kind_number kind.Handle (Scope t) = None
-kind_number kind.Cell (Handle h) = None
-kind_number kind.Cell (Cell c) = Some c
-kind_number kind.Cell (Object o) = None
-kind_number kind.Cell (Scope t) = None
-kind_number kind.Object (Handle h) = None
-kind_number kind.Object (Cell c) = None
-kind_number kind.Object (Object o) = Some o
-kind_number kind.Object (Scope t) = None
-kind_number kind.Scope (Handle h) = None
-kind_number kind.Scope (Cell c) = None
-kind_number kind.Scope (Object o) = None
-kind_number kind.Scope (Scope t) = Some t
+kind_number Handles (Handle h) = Some h
+kind_number Handles (Cell c) = None
+kind_number Handles (Object o) = None
+kind_number Handles (Scope t) = None
+kind_number Cells (Handle h) = None
+kind_number Cells (Cell c) = Some c
+kind_number Cells (Object o) = None
+kind_number Cells (Scope t) = None
+kind_number Objects (Handle h) = None
+kind_number Objects (Cell c) = None
+kind_number Objects (Object o) = Some o
+kind_number Objects (Scope t) = None
+kind_number Labels (Handle h) = None
+kind_number Labels (Cell c) = None
+kind_number Labels (Object o) = None
+kind_number Labels (Scope t) = Some t
 
 -- the numbers of the keys of one kind, as they come
 abbrev pub numbers : Kind → List Key → List ℕ
@@ -50,7 +56,7 @@ numbers k keys = flat_map (λ x. option_to_list (kind_number k x)) keys
 
 -- the keys of a list, which may come in any order and more than once, as a set
 abbrev pub set_of : List Key → KeySet
-set_of keys = record { handles = numbers kind.Handle keys; cells = numbers kind.Cell keys; objects = numbers kind.Object keys; labels = numbers kind.Scope keys }
+set_of keys = record { handles = numbers Handles keys; cells = numbers Cells keys; objects = numbers Objects keys; labels = numbers Labels keys }
 
 -- whether two lists have a number in common
 abbrev pub share_one : List ℕ → List ℕ → Bool
@@ -59,6 +65,10 @@ share_one xs ys = list_any (λ q. has q ys) xs
 -- whether two sets have a key in common
 abbrev pub meet : KeySet → KeySet → Bool
 meet a b = share_one a.handles b.handles || (share_one a.cells b.cells || (share_one a.objects b.objects || share_one a.labels b.labels))
+
+-- For private functions alone: the set that has the numbers of these lists
+abbrev pub set_of_lists : Lists → KeySet
+set_of_lists l = record { handles = l.handles.items; cells = l.cells.items; objects = l.objects.items; labels = l.labels.items }
 
 -- For private functions alone: the set that has these handles, and no other key
 abbrev pub handles_alone : List ℕ → KeySet

@@ -6,15 +6,16 @@ use Rattle.ownership_model.specs.declared.key.Key.{Key}
 use Rattle.ownership_model.specs.declared.key.Key.TheVariants.{Object}
 use Rattle.ownership_model.specs.View.{members}
 use Rattle.ownership_model.specs.Footprint.{scope_keys, named_keys}
-use Rattle.ownership_model.specs.Touched.{touched_by}
+use Rattle.ownership_model.specs.Touched.{event_object, counted}
 
 -- what an operation names: the label whose scope it ends, handles, and a cell
 abbrev pub op_keys : Operation → List Key
 op_keys op = scope_keys op.thread op.kind ++ named_keys (members [] op.kind)
 
--- the objects of an outcome: that of its own number, those of its events, and that whose counts are told
+-- The objects of an outcome: those of its events, and that whose counts are told. The operation's own number is not needed: it is touched
+-- only where an object is made, and then its counts are told
 abbrev pub outcome_keys : Outcome → List Key
-outcome_keys x = map Object (touched_by x)
+outcome_keys x = map Object (map event_object x.events ++ counted x.counts)
 
 -- the keys that were told of operations, and all that these and their outcomes name
 abbrev pub with_names : List Key → List Operation → List Outcome → List Key

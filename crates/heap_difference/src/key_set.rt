@@ -1,20 +1,11 @@
 //! Sets of keys.
-ghost use Rattle.std.specs.Prelude.{◌≡◌, ◌==◌, ◌||◌, ◌+◌, ◌-◌, ◌^◌, ◌↔◌, ℕ, true, IfOk, OnOk, IsTrue, length, min};
+ghost use Rattle.std.specs.Prelude.{◌≡◌, ◌==◌, ◌||◌, ◌+◌, ◌-◌, ◌^◌, ◌↔◌, ◌∷◌, [], ℕ, true, IfOk, OnOk, IsTrue, length, min};
 ghost use Rattle.ownership_model.specs.Reach.{has};
-ghost use Rattle.heap_difference.specs.KeySets.{kind_number, numbers, nothing, is_among, set_of, meet, Has};
+ghost use Rattle.heap_difference.specs.KeySets.{nothing, is_among, set_of, set_of_lists, meet, Has};
 
 use crate::numbers::Numbers;
 use ownership_model::Key;
 use std::alloc::{AllocError, Global};
-
-/// The kinds of keys.
-#[derive(Clone, Copy, Debug, PartialEq, Eq)]
-pub enum Kind {
-    Handle,
-    Cell,
-    Object,
-    Scope,
-}
 
 /// A set of keys: the handles, the cells, the objects, and the labels of scopes that are in it.
 #[derive(Drop)]
@@ -38,16 +29,13 @@ impl KeySet {
         }
     }
 
-    /// The keys of a list, which may come in any order and more than once, as a replay tells them.
+    /// The keys of a list, which may come in any order and more than once, as a replay tells them. The list is gone through once.
     pub fn of(alloc: Global, keys: &[Key]) -> Result<KeySet, AllocError>
         ensures { IfOk result (λ d. Has d keys.now) }
     {
-        Ok(KeySet {
-            handles: numbers_of(alloc, Kind::Handle, keys)?,
-            cells: numbers_of(alloc, Kind::Cell, keys)?,
-            objects: numbers_of(alloc, Kind::Object, keys)?,
-            labels: numbers_of(alloc, Kind::Scope, keys)?,
-        })
+        let mut lists = Lists::none(alloc);
+        lists.add(keys)?;
+        Ok(lists.into_set())
     }
 
     /// How many keys it has, or the greatest number there is if they are more.
@@ -112,18 +100,60 @@ impl KeySet {
     }
 }
 
-// The numbers of the keys of one kind.
-fn numbers_of(alloc: Global, kind: Kind, keys: &[Key]) -> Result<Numbers, AllocError>
-    ensures { IfOk result (λ n. (q : ℕ) →
-        has q n ≡ has q (numbers kind keys.now)) }
-{
-    let mut numbers = Vec::new(alloc);
-    for key in keys {
-        if let Some(number) = number_in(kind, *key) {
-            push_next(&mut numbers, number)?;
+// The numbers of keys, kind by kind, in any order and perhaps more than once.
+#[derive(Drop)]
+struct Lists {
+    handles: Vec<u32>,
+    cells: Vec<u32>,
+    objects: Vec<u32>,
+    labels: Vec<u32>,
+}
+
+impl Lists {
+    fn none(alloc: Global) -> Lists
+        ensures { set_of_lists result ≡ nothing }
+    {
+        Lists {
+            handles: Vec::new(alloc),
+            cells: Vec::new(alloc),
+            objects: Vec::new(alloc),
+            labels: Vec::new(alloc),
         }
     }
-    Ok(Numbers::of(numbers))
+
+    // Adds the number of each key to those of its kind.
+    fn add(&mut self, keys: &[Key]) -> Result<(), AllocError>
+        ensures { OnOk result ((x : Key) → is_among (set_of_lists self.new) x
+            ≡ (is_among (set_of_lists self.old) x || is_among (set_of keys.now) x)) }
+    {
+        for key in keys {
+            self.push(*key)?;
+        }
+        Ok(())
+    }
+
+    fn push(&mut self, key: Key) -> Result<(), AllocError>
+        ensures { OnOk result ((x : Key) → is_among (set_of_lists self.new) x
+            ≡ (is_among (set_of_lists self.old) x || is_among (set_of (key ∷ [])) x)) }
+    {
+        match key {
+            Key::Handle(number) => push_next(&mut self.handles, number),
+            Key::Cell(number) => push_next(&mut self.cells, number),
+            Key::Object(number) => push_next(&mut self.objects, number),
+            Key::Scope(number) => push_next(&mut self.labels, number),
+        }
+    }
+
+    fn into_set(self) -> KeySet
+        ensures { (x : Key) → is_among result x ≡ is_among (set_of_lists self) x }
+    {
+        KeySet {
+            handles: Numbers::of(self.handles),
+            cells: Numbers::of(self.cells),
+            objects: Numbers::of(self.objects),
+            labels: Numbers::of(self.labels),
+        }
+    }
 }
 
 // Pushes a number, unless it is the last one already: a replay tells many keys twice in a row.
@@ -135,17 +165,4 @@ fn push_next(numbers: &mut Vec<u32>, number: u32) -> Result<(), AllocError>
         return Ok(());
     }
     Ok(numbers.push(number)?)
-}
-
-// The number of a key of this kind.
-fn number_in(kind: Kind, key: Key) -> Option<u32>
-    ensures { result ≡ kind_number kind key }
-{
-    match (kind, key) {
-        (Kind::Handle, Key::Handle(number))
-        | (Kind::Cell, Key::Cell(number))
-        | (Kind::Object, Key::Object(number))
-        | (Kind::Scope, Key::Scope(number)) => Some(number),
-        (Kind::Handle | Kind::Cell | Kind::Object | Kind::Scope, _) => None,
-    }
 }

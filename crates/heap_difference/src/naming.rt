@@ -169,7 +169,6 @@ fn add_outcomes(outcomes: &[Outcome], keys: &mut Vec<Key>) -> Result<(), AllocEr
 fn add_outcome(outcome: &Outcome, keys: &mut Vec<Key>) -> Result<(), AllocError>
     ensures { OnOk result (keys.new.items ≡ keys.old.items ++ outcome_keys outcome.now) }
 {
-    keys.push(Key::Object(outcome.id))?;
     add_events(outcome.events.as_slice(), keys)?;
     add_counted(outcome.counts, keys)
 }

@@ -1,13 +1,11 @@
 //! Which of some cells and objects differ.
-ghost use Rattle.std.specs.Prelude.{◌≡◌, ◌↔◌, IfOk, IsTrue};
-ghost use Rattle.std.specs.FinMap as map;
+ghost use Rattle.std.specs.Prelude.{◌↔◌, IfOk, IsTrue};
 ghost use Rattle.heap_difference.specs.Differences.{IsSameCell, IsSameObject};
 ghost use Rattle.heap_difference.specs.Sifts.{IsSifted};
 
 use crate::numbers::Numbers;
 use object_heap::Heap;
 use std::alloc::{AllocError, Global};
-use trace_types::same::Same;
 
 /// Those of the cells that don't hold the same in both.
 pub fn differing_cells(
@@ -54,15 +52,5 @@ fn is_same_cell(old: &Heap, new: &Heap, cell: u32) -> bool
 fn is_same_object(old: &Heap, new: &Heap, object: u32) -> bool
     ensures { IsTrue result ↔ IsSameObject old.now new.now object }
 {
-    is_same_entry(old, new, object) && old.counts(object) == new.counts(object)
-}
-
-fn is_same_entry(old: &Heap, new: &Heap, object: u32) -> bool
-    ensures { IsTrue result ↔ (map.get old.now.objects object ≡ map.get new.now.objects object) }
-{
-    match (old.object(object), new.object(object)) {
-        (Some(entry), Some(other)) => entry.same(other),
-        (None, None) => true,
-        (Some(_), None) | (None, Some(_)) => false,
-    }
+    old.same_at(new, object)
 }

@@ -1,5 +1,5 @@
 //! Whether operations touch a key of a set, by the keys that were told of them and by what they and their outcomes name.
-ghost use Rattle.std.specs.Prelude.{◌≡◌, ◌++◌, ◌∷◌, [], map, flat_map, option_to_list};
+ghost use Rattle.std.specs.Prelude.{◌≡◌, ◌↔◌, ◌++◌, ◌∷◌, [], IsTrue, length, map, flat_map, option_to_list};
 ghost use Rattle.std.specs.List.{list_any};
 ghost use Rattle.ownership_model.specs.declared.key.Key.TheVariants as key;
 ghost use Rattle.ownership_model.specs.View.{members, held_fields};
@@ -24,10 +24,25 @@ impl KeySet {
         if self.touches(told) {
             return true;
         }
-        if self.touches_ops(ops) {
+        if self.touches_names(ops) {
             return true;
         }
         self.touches_outcomes(outcomes)
+    }
+
+    // Whether operations name a key of the set. They name no object, so where the set has nothing else they aren't looked at.
+    fn touches_names(&self, ops: &[Op]) -> bool
+        ensures { result ≡ list_any (is_among self.now) (flat_map op_keys ops.now) }
+    {
+        !self.has_objects_alone() && self.touches_ops(ops)
+    }
+
+    // Whether it has no handle, no cell and no label.
+    fn has_objects_alone(&self) -> bool
+        ensures { IsTrue result ↔ ((length self.now.handles ≡ 0) × ((length self.now.cells ≡ 0)
+            × (length self.now.labels ≡ 0))) }
+    {
+        self.handles.len() == 0 && self.cells.len() == 0 && self.labels.len() == 0
     }
 
     fn touches_ops(&self, ops: &[Op]) -> bool
@@ -63,9 +78,7 @@ impl KeySet {
     fn touches_outcome(&self, outcome: &Outcome) -> bool
         ensures { result ≡ list_any (is_among self.now) (outcome_keys outcome.now) }
     {
-        self.objects.has(outcome.id)
-            || self.touches_events(outcome.events.as_slice())
-            || self.touches_counted(outcome.counts)
+        self.touches_events(outcome.events.as_slice()) || self.touches_counted(outcome.counts)
     }
 
     #[inline(always)]

@@ -1,6 +1,6 @@
 -- What a row sets, and the object that its first handle names, is named by the operation or by its outcome, or is moved.
-use Rattle.std.proofs.Common.{◌≡◌, ℕ, List, [], ◌∷◌, ◌++◌, map, refl, ap, ◌∙◌, sym, subst, Bool, true, false}
-use Rattle.std.specs.Prelude.{Option, Some, None, option_to_list, ◌==◌, flat_map, slice_get}
+use Rattle.std.proofs.Common.{◌≡◌, ℕ, List, [], ◌∷◌, ◌++◌, map, refl, ap, ◌∙◌, sym, subst, Bool, true}
+use Rattle.std.specs.Prelude.{Option, Some, None, option_to_list, ◌==◌, slice_get}
 use Rattle.std.specs.FinMap.{get}
 use Rattle.trace_types.specs.declared.slots.Slot.{Slot}
 use Rattle.trace_types.specs.declared.slots.Slot.TheVariants.{Nothing, Strong, Weak, Dangling}
@@ -8,12 +8,10 @@ use Rattle.trace_types.specs.declared.slots.Holding.{Holding}
 use Rattle.trace_types.specs.declared.slots.Holding.TheVariants as holding
 use Rattle.trace_types.specs.declared.slots.Entry.{Entry}
 use Rattle.trace_types.specs.declared.slots.Change.{Change}
-use Rattle.trace_types.specs.declared.slots.Change.TheVariants.{SetHandle, EndHandle, SetCell}
 use Rattle.trace_types.specs.declared.kinds.Field.{Field}
 use Rattle.trace_types.specs.declared.kinds.Field.TheVariants as field
 use Rattle.trace_types.specs.declared.kinds.Kind.{Kind}
 use Rattle.trace_types.specs.declared.kinds.Kind.TheVariants as kind
-use Rattle.trace_types.specs.declared.outcomes.Event.{Event}
 use Rattle.trace_types.specs.declared.outcomes.Reason.{Reason}
 use Rattle.trace_types.specs.declared.outcomes.Reason.TheVariants.{WrongKind}
 use Rattle.ownership_model.specs.declared.key.Key.{Key}
@@ -22,9 +20,8 @@ use Rattle.ownership_model.specs.declared.plan.Plan.{Plan}
 use Rattle.ownership_model.specs.declared.plan.Plan.TheVariants.{Skip, Act}
 use Rattle.ownership_model.specs.State.{State, is_alive}
 use Rattle.ownership_model.specs.Scopes.{scope_of}
-use Rattle.ownership_model.specs.Changes.{changed_by}
 use Rattle.ownership_model.specs.View.{Seen, members, held_by, held_fields, named_by, named_in, elements_of, view_of, repeated}
-use Rattle.ownership_model.specs.Table.{row, row_of, new_row, upgraded, made_unique, dropped, swapped, exchanged, write_field, set_field, take_field, copy_field, weak_in, counted_in, fields_of, made_fields, ending, first_unheld, first_bare, same_pointer, make}
+use Rattle.ownership_model.specs.Table.{row, row_of, new_row, upgraded, made_unique, dropped, exchanged, write_field, set_field, take_field, copy_field, weak_in, counted_in, fields_of, made_fields, ending, first_unheld, first_bare, same_pointer, make}
 use Rattle.ownership_model.specs.Touched.{event_object}
 use Rattle.ownership_model.specs.Alike.{AreWithin}
 use Rattle.ownership_model.specs.Footprint.{slot_keys, slots_keys, holding_keys, cell_keys, change_key, moved_by_changes, named_keys}
@@ -123,8 +120,8 @@ module _ (k : Key → Bool) where
   held_within [] c = tt
   held_within (h ∷ hs) c = (c.0, held_within hs c.1)
 
-  -- The rows of an operation whose number is told
-  module _ (m : State) (label id : ℕ) (new : Told id) where
+  -- The rows: one that makes an object tells the counts of just that
+  module _ (m : State) (label id : ℕ) where
     abbrev Fine : Option Holding → Plan → Type 0
     Fine it p = Names m it p
 
@@ -136,7 +133,7 @@ module _ (k : Key → Bool) where
     new_names to fs it at within =
         let es = elements_of m fs in
         walk.at_all_held (Fine it) (λ _. tt) (first_unheld es) _ (λ _. walk.at_all_slots (Fine it) (λ _. tt) (first_bare es) _ (λ _. walk.at_unheld (Fine it) (λ _. tt) to it _
-        (λ none told event moved. (ending_within m fs (make label id (made_fields id es) to) within (new, (at, tt)), none_named it none))))
+        (λ none told event moved. (ending_within m fs (make label id (made_fields id es) to) within (told, (at, tt)), none_named it none))))
 
     upgraded_names : (it : Option Holding) (to : ℕ) (e : Option Entry) (o : Option ℕ) → k (Handle to) ≡ true → (IfThere Told o → AreWithin k (named_at it)) → Fine it (upgraded label to e o)
     upgraded_names it to e None at named = λ told event moved. ((at, tt), named tt)
@@ -147,9 +144,9 @@ module _ (k : Key → Bool) where
         let held = get m.handles h in
         let fields = fields_of it.entry in
         walk.at_test (Fine held) (λ _. tt) (it.strong == 1) _ _
-        (λ _. walk.at_test (Fine held) (λ _. tt) (it.weak == 0) _ _ (λ _ told event moved. (tt, named (told, tt))) (λ _ told event moved. ((event, (new, (at, tt))), named (event, tt))))
+        (λ _. walk.at_test (Fine held) (λ _. tt) (it.weak == 0) _ _ (λ _ told event moved. (tt, named (told, tt))) (λ _ told event moved. ((event, (told, (at, tt))), named (event, tt))))
         (λ _ told event moved. (
-          (new, (at, tt)),
+          (told, (at, tt)),
           held_named held (within_back k (slot_keys (Strong id)) (holding_keys held) (within_front k (slot_keys (Strong id) ++ holding_keys held) [] (within_back k (slots_keys fields) _ moved))),
         ))
 
@@ -190,7 +187,7 @@ module _ (k : Key → Bool) where
     row_names (kind.NewFrom from to) n e =
         let it = get m.handles from in
         walk.at_held (Fine it) (λ _. tt) from it _ (λ x is. walk.at_bare (Fine it) (λ _. tt) from x _ (λ fields was. walk.at_unheld (Fine it) (λ _. tt) to (get m.handles to) _
-        (λ _ told event moved. ((n.0, (new, (n.1.0, tt))), bare_named it x is fields was))))
+        (λ _ told event moved. ((n.0, (told, (n.1.0, tt))), bare_named it x is fields was))))
     row_names (kind.WeakNew to) n e = let it = get m.handles to in walk.at_unheld (Fine it) (λ _. tt) to it _ (λ none told event moved. ((n.0, tt), none_named it none))
     row_names (kind.Null to) n e = let it = get m.handles to in walk.at_unheld (Fine it) (λ _. tt) to it _ (λ none told event moved. ((n.0, tt), none_named it none))
     row_names (kind.Clone from to) n e =
@@ -277,7 +274,7 @@ module _ (k : Key → Bool) where
     row_names kind.ScopeEnd n e = λ told event moved. (ending_within m (map field.Held (scope_of label m.scopes)) [] (held_within (scope_of label m.scopes) e) tt, tt)
 
   -- what an operation is to do
-  pub plan_names : (m : State) (id t : ℕ) (kd : Kind) → Told id → AreWithin k (named_keys (members [] kd)) → AreWithin k (map Handle (ended_by m t kd))
+  pub plan_names : (m : State) (id t : ℕ) (kd : Kind) → AreWithin k (named_keys (members [] kd)) → AreWithin k (map Handle (ended_by m t kd))
       → Names m (held_by m (members [] kd).first) (row (record { id = id; thread = t; kind = kd }) (view_of m t kd))
-  plan_names m id t kd new n e =
-      walk.at_repeated (Names m (held_by m (members [] kd).first)) (λ _. tt) (repeated kd) _ (λ _. row_names m t id new kd n e)
+  plan_names m id t kd n e =
+      walk.at_repeated (Names m (held_by m (members [] kd).first)) (λ _. tt) (repeated kd) _ (λ _. row_names m t id kd n e)

@@ -1,5 +1,5 @@
 -- What is told of an operation has, with what the operation and its outcome name, its footprint, and what it moves.
-use Rattle.std.proofs.Common.{◌≡◌, ℕ, ◌+◌, ◌<◌, List, [], ◌∷◌, ◌++◌, map, take, drop, length, ap, ◌∙◌, sym, subst, append_assoc, Bool, true}
+use Rattle.std.proofs.Common.{◌≡◌, ℕ, ◌+◌, ◌<◌, List, [], ◌∷◌, ◌++◌, map, take, drop, length, ap, ◌∙◌, sym, subst, append_assoc, Bool}
 use Rattle.std.specs.Prelude.{flat_map, Option, Some, None, option_to_list, get_or}
 use Rattle.std.proofs.lemmas.List.{drop_more, take_more}
 use Rattle.std.proofs.lemmas.Grind.{flat_map-append}
@@ -35,7 +35,7 @@ use Rattle.heap_difference.specs.KeySets.{is_among, set_of}
 use Rattle.heap_difference.specs.Laws.{HasTouched}
 use Rattle.heap_difference.specs.Naming.{op_keys, outcome_keys, with_names}
 use Rattle.heap_difference.proofs.KeyLemmas.{Has-set_of}
-use Rattle.op_step.specs.Told.{step_keys, replay_keys, first_keys, ended_key, unnamed_keys, carried_keys}
+use Rattle.op_step.specs.Told.{step_keys, replay_keys, ended_key, unnamed_keys, carried_keys}
 use Rattle.op_step.proofs.NamedLemmas.{named_at, ended_by, Told, Names, held_within, plan_names}
 
 -- ---- what is told has what is wanted
@@ -59,11 +59,6 @@ module _ (k : Key → Bool) where
   object_told m None c = (tt, tt)
   object_told m (Some o) c = (c.0, c)
 
-  -- the operation's own number
-  id_told : (m : State) (id : ℕ) (p : Plan) → AreWithin k (outcome_keys (carried_out m id p).outcome) → Told k id
-  id_told m id (Skip why) c = c.0
-  id_told m id (Act answer changes event pending object) c = c.0
-
   -- where an operation is skipped, the object of its first handle is told
   abbrev SkipNames : Option Holding → Plan → Type 0
   SkipNames first (Skip why) = AreWithin k (named_at first)
@@ -81,8 +76,8 @@ module _ (k : Key → Bool) where
       let r = release (changed m changes) pending in
       let items = flat_map item_keys (taken (changed m changes) pending) in
       let moves : AreWithin k (moved_by_changes m changes) = within_front k (moved_by_changes m changes) items c in
-      let here : AreWithin k (map Object (map event_object (option_to_list event ++ r.events))) = objects_front (map event_object (option_to_list event ++ r.events)) (counted (counts_of r.state object)) out.1 in
-      let told = object_told r.state object (objects_back (map event_object (option_to_list event ++ r.events)) (counted (counts_of r.state object)) out.1) in
+      let here : AreWithin k (map Object (map event_object (option_to_list event ++ r.events))) = objects_front (map event_object (option_to_list event ++ r.events)) (counted (counts_of r.state object)) out in
+      let told = object_told r.state object (objects_back (map event_object (option_to_list event ++ r.events)) (counted (counts_of r.state object)) out) in
       let both = names told.0 (events_told event r.events here).0 moves in (
         both.1,
         (within_both k (map change_key changes) _ both.0 (within_both k items _ (within_back k (moved_by_changes m changes) items c) told.1), moves),
@@ -114,7 +109,7 @@ module _ (k : Key → Bool) where
       let first = held_by m (members [] op.kind).first in
       let names = within_back k (scope_keys op.thread op.kind) _ named in
       let ended = ended_within m op.id op.thread op.kind unnamed in
-      let plan = plan_within m op.id first p (plan_names k m op.id op.thread op.kind (id_told m op.id p out) names ended) (skip_names m op.kind p unnamed) out c in
+      let plan = plan_within m op.id first p (plan_names k m op.id op.thread op.kind names ended) (skip_names m op.kind p unnamed) out c in
       within_both k (footprint m op) (moved m op)
       (within_both k (scope_keys op.thread op.kind) _ (within_front k (scope_keys op.thread op.kind) _ named)
       (within_both k (member_keys m (members (scope_of op.thread m.scopes) op.kind)) _ (members_within m op.thread op.kind names plan.0 ended) plan.1.0))
@@ -135,12 +130,12 @@ covers_step m op p out k0 k1 k2 first is out_is second = λ k c.
 
 -- what is carried out tells, with the outcome, what its plan moves and drops: the object of the counts was told before, and perhaps taken
 -- back
-pub covers_carried : (m n : State) (id : ℕ) (changes : List Change) (event : Option Event) (pending : List Item) (object : Option ℕ) (es all : List Event) (counts : Option Counts) (k0 k1 k2 k3 : List Key)
+pub covers_carried : (m n : State) (changes : List Change) (event : Option Event) (pending : List Item) (object : Option ℕ) (es all : List Event) (counts : Option Counts) (k0 k1 k2 k3 : List Key)
     → all ≡ option_to_list event ++ es → counts ≡ counts_of n object
     → Covers k1 k0 → Covers (k2 ++ event_keys es) (k1 ++ release_keys m changes pending) → Covers (k3 ++ map Object (option_to_list object)) k2
-    → Covers (k3 ++ map Object (id ∷ (map event_object all ++ counted counts))) (k0 ++ release_keys m changes pending)
-covers_carried m n id changes event pending object es all counts k0 k1 k2 k3 all_is counts_are first second third = λ k c.
-    let names = (within_back k k3 (map Object (id ∷ (map event_object all ++ counted counts))) c).1 in
+    → Covers (k3 ++ map Object (map event_object all ++ counted counts)) (k0 ++ release_keys m changes pending)
+covers_carried m n changes event pending object es all counts k0 k1 k2 k3 all_is counts_are first second third = λ k c.
+    let names = within_back k k3 (map Object (map event_object all ++ counted counts)) c in
     let of_counts : AreWithin k (map Object (counted (counts_of n object))) = subst (λ (x : Option Counts). AreWithin k (map Object (counted x))) counts_are (objects_back k (map event_object all) (counted counts) names) in
     let of_events : AreWithin k (event_keys (option_to_list event ++ es)) = subst (λ (xs : List Event). AreWithin k (event_keys xs)) all_is (objects_front k (map event_object all) (counted counts) names) in
     let before = third k (within_both k k3 (map Object (option_to_list object)) (within_front k k3 _ c) (object_told k n object of_counts).1) in

@@ -37,14 +37,13 @@ fn touched(alloc: Global, heap: &mut Heap, op: &Op) -> Result<Vec<Key>, Fail> {
     Ok(all)
 }
 
-// These are all keys that are wanted, and no others but the operation's own number.
-fn are_all(alloc: Global, all: &[Key], wanted: &[Key], id: u32) -> Result<bool, Fail> {
-    let mut known = Vec::from_slice(alloc, wanted)?;
-    known.push(Key::Object(id))?;
-    Ok(has_each(all, wanted) && has_each(known.as_slice(), all))
+// These are all keys that are wanted, and no others.
+fn are_all(all: &[Key], wanted: &[Key]) -> bool {
+    has_each(all, wanted) && has_each(wanted, all)
 }
 
-// Each operation tells or names these keys, its own number, and no others; in what order, and how often, is left open.
+// Each operation tells or names these keys, and no others: its own number only where it makes an object. In what order, and how often, is
+// left open.
 fn assert_touched(
     rt: &impl Abort,
     alloc: Global,
@@ -56,7 +55,7 @@ fn assert_touched(
     let mut heap = Heap::empty();
     for (op, wanted) in trace.as_slice().iter().zip(wanted) {
         let all = touched(alloc, &mut heap, op)?;
-        assert!(rt; are_all(alloc, all.as_slice(), wanted, op.id())?);
+        assert!(rt; are_all(all.as_slice(), wanted));
     }
     Ok(())
 }

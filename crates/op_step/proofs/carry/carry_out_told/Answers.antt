@@ -1,4 +1,4 @@
-use Rattle.std.proofs.Common.{List, ◌∷◌, ◌++◌, map, sym, subst}
+use Rattle.std.proofs.Common.{List, ◌++◌, map, sym, subst}
 use Rattle.trace_types.specs.declared.slots.Item.{Item}
 use Rattle.trace_types.specs.declared.slots.Change.{Change}
 use Rattle.trace_types.specs.declared.outcomes.Event.{Event}
@@ -31,6 +31,6 @@ returns-in_ok-with_named-in-Act-clause-told c =
     let told : Covers (k2 ++ event_keys es) (k1 ++ release_keys m changes pending) =
     subst (λ (cs : List Change). Covers (k2 ++ event_keys es) (k1 ++ release_keys m cs pending)) c.as_slice.ensures
     (subst (λ (is : List Item). Covers (k2 ++ event_keys es) (k1 ++ release_keys m c.as_slice.result.now is)) c.as_slice-in-Act.ensures c.in_ok-released-in-Act.ensures.told) in
-    subst (λ (p : Plan). Covers (k3 ++ map Object (c.args.id ∷ (map event_object c.in_ok-with_named-in-Act.field-0 ++ counted c.counts_of.result))) (k0 ++ carried_keys m p)) (sym c.in-Act.is)
-    (covers_carried m c.release_told.new.self c.args.id changes c.in-Act.event pending c.in-Act.object es c.in_ok-with_named-in-Act.field-0 c.counts_of.result k0 k1 k2 k3
+    subst (λ (p : Plan). Covers (k3 ++ map Object (map event_object c.in_ok-with_named-in-Act.field-0 ++ counted c.counts_of.result)) (k0 ++ carried_keys m p)) (sym c.in-Act.is)
+    (covers_carried m c.release_told.new.self changes c.in-Act.event pending c.in-Act.object es c.in_ok-with_named-in-Act.field-0 c.counts_of.result k0 k1 k2 k3
     c.in_ok-with_named-in-Act.ensures c.counts_of.ensures c.in_ok-tell_object-in-Act.ensures told c.untell_object.ensures)
