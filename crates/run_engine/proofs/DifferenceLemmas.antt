@@ -13,7 +13,7 @@ use Rattle.ownership_model.specs.Alike.{AreWithin, Covers}
 use Rattle.ownership_model.specs.Footprint.{footprint, moved, footprints_from, moved_from}
 use Rattle.ownership_model.proofs.LawsHold.{appends, soundness}
 use Rattle.heap_difference.specs.declared.key_set.KeySet.{KeySet}
-use Rattle.heap_difference.specs.KeySets.{nothing, is_among, set_of, Has}
+use Rattle.heap_difference.specs.KeySets.{is_among, set_of, Has}
 use Rattle.heap_difference.specs.Differences.{IsDifference, HasDifference}
 use Rattle.trace_types.specs.declared.outcomes.Outcome.{Outcome}
 use Rattle.op_step.specs.Told.{replay_keys}
@@ -82,12 +82,6 @@ among-right : (a b : Bool) → b ≡ true → (a || b) ≡ true
 among-right true b h = refl
 among-right false b h = h
 
-none-among : (x : Key) → is_among nothing x ≡ true → ⊥
-none-among (Handle q) h = absurd cc
-none-among (Cell q) h = absurd cc
-none-among (Object q) h = absurd cc
-none-among (Scope q) h = absurd cc
-
 -- ---- gathering over segments
 -- keys that were told of operations from a state have all that they touch
 pub told-touched : (told before : List Key) (m : State) (ops : List Operation) (outcomes : List Outcome) → Covers (with_names told ops outcomes) (before ++ replay_keys m ops) → AreKeysFrom m (Some told) ops outcomes
@@ -102,22 +96,22 @@ touched-there segments i s keys replay lt is known =
     subst (λ o. AreKeysFrom (end_from nothing_held (trace_of (take i segments))) o s.ops s.outcomes) (sym known) (segment-at nothing_held segments i s replay lt is).keys
 
 -- where a segment begins at the position
-pub HasGathered-none : (segments : List SegmentView) (first at from : ℕ) (told : List Key) → length (trace_of (take first segments)) ≡ at → at ≡ from → told ≡ [] → HasGathered segments from first nothing (set_of told)
-HasGathered-none segments first at from told place e none =
+pub HasGathered-none : (segments : List SegmentView) (first at from : ℕ) (told : List Key) → length (trace_of (take first segments)) ≡ at → at ≡ from → HasGathered segments from first (set_of told) (set_of told)
+HasGathered-none segments first at from told place e =
     let there : trace_of (take first segments) ≡ take from (trace_of segments) = trace_of-prefix segments first at place ∙ ap (λ n. take n (trace_of segments)) e in
     let fits : at ≤ length (trace_of segments) = place-within segments first at place in
     record {
       ops = [];
       within = omega (arith, fits, e);
       way = there ∙ sym (append-nil (take from (trace_of segments)));
-      more = λ x h. absurd (none-among x h);
+      more = λ x h. h;
       touched = tt;
     }
 
 -- behind one more segment
-pub HasGathered-next : (segments : List SegmentView) (from i : ℕ) (s : SegmentView) (told touched all : List Key) → AreReplayFrom nothing_held segments → i < length segments → s ≡ get_or segments i s
-    → HasTouched (set_of touched) (end_from nothing_held (trace_of (take i segments))) s.ops → all ≡ told ++ touched → HasGathered segments from i nothing (set_of told) → HasGathered segments from (i + 1) nothing (set_of all)
-HasGathered-next segments from i s told touched all replay lt is has_told all_is h =
+pub HasGathered-next : (segments : List SegmentView) (from i : ℕ) (s : SegmentView) (before : KeySet) (told touched all : List Key) → AreReplayFrom nothing_held segments → i < length segments → s ≡ get_or segments i s
+    → HasTouched (set_of touched) (end_from nothing_held (trace_of (take i segments))) s.ops → all ≡ told ++ touched → HasGathered segments from i before (set_of told) → HasGathered segments from (i + 1) before (set_of all)
+HasGathered-next segments from i s before told touched all replay lt is has_told all_is h =
     let m : State = end_from nothing_held (take from (trace_of segments)) in
     let here : State = end_from nothing_held (trace_of (take i segments)) in
     let there : end_from m h.ops ≡ here = sym (appends.end nothing_held (take from (trace_of segments)) h.ops) ∙ ap (end_from nothing_held) (sym h.way) in
@@ -129,23 +123,20 @@ HasGathered-next segments from i s told touched all replay lt is has_told all_is
       ops = h.ops ++ s.ops;
       within = h.within;
       way = trace_of-next segments i s lt is ∙ ap (λ xs. xs ++ s.ops) h.way ∙ append_assoc (take from (trace_of segments)) h.ops s.ops;
-      more = λ x e. absurd (none-among x e);
+      more = λ x e. left x (h.more x e);
       touched = HasTouched-append (set_of all) m h.ops s.ops (HasTouched-more (set_of told) (set_of all) m h.ops left h.touched) (subst (λ n. HasTouched (set_of all) n s.ops) (sym there) new);
     }
 
--- a set has the keys that were told, and others
-pub HasGathered-joined : (segments : List SegmentView) (from i : ℕ) (told : List Key) (d before all : KeySet) → HasGathered segments from i nothing (set_of told) → Has d told
-    → ((x : Key) → is_among all x ≡ (is_among d x || is_among before x)) → HasGathered segments from i before all
-HasGathered-joined segments from i told d before all h told_is both =
-    let m : State = end_from nothing_held (take from (trace_of segments)) in
-    let left : (x : Key) → is_among (set_of told) x ≡ true → is_among all x ≡ true = λ x e. both x ∙ among-left (is_among d x) (is_among before x) (among_set_of d told told_is x ∙ e) in
-    record {
-      ops = h.ops;
-      within = h.within;
-      way = h.way;
-      more = λ x e. both x ∙ among-right (is_among d x) (is_among before x) e;
-      touched = HasTouched-more (set_of told) all m h.ops left h.touched;
-    }
+-- a set that has all that was gathered, and what was there before
+HasGathered-within : (segments : List SegmentView) (from i : ℕ) (some told before all : KeySet) → ((x : Key) → is_among told x ≡ true → is_among all x ≡ true) → ((x : Key) → is_among before x ≡ true → is_among all x ≡ true)
+    → HasGathered segments from i some told → HasGathered segments from i before all
+HasGathered-within segments from i some told before all more first h = record {
+  ops = h.ops;
+  within = h.within;
+  way = h.way;
+  more = first;
+  touched = HasTouched-more told all (end_from nothing_held (take from (trace_of segments))) h.ops more h.touched;
+}
 
 -- ---- the difference behind what was gathered
 
@@ -167,7 +158,7 @@ goes-on trace prefix ops at distinct way =
     }
 
 -- both replays have gone on: the keys have all at which they differ
-pub gathered-difference : (ops : List Operation) (old segments : List SegmentView) (edited base x index at : ℕ) (before keys all : KeySet) (heap mark : State)
+gathered-difference : (ops : List Operation) (old segments : List SegmentView) (edited base x index at : ℕ) (before keys all : KeySet) (heap mark : State)
     → IsTrue (has_distinct_numbers ops) → IsTrue (has_distinct_numbers (trace_of old))
     → IsDifference before (end_from nothing_held (take base (trace_of old))) (end_from nothing_held (take edited ops)) → IsReached ops x segments heap
     → HasGathered segments edited (length segments) before keys → HasGathered old base index keys all → length (trace_of (take index old)) ≡ at
@@ -191,6 +182,20 @@ gathered-difference ops old segments edited base x index at before keys all heap
     (differences_hold.among before all m n then.ops new.ops h (λ k e. then.more k (new.more k e))
     then.touched old_goes.sound old_goes.distinct old_goes.unused
     touched goes.sound goes.distinct goes.unused))
+
+-- so have the keys that both replays touched one after the other, as a set, with those before
+pub gathered-both : (ops : List Operation) (old segments : List SegmentView) (edited base x index at : ℕ) (before : KeySet) (some told both : List Key) (d all : KeySet) (heap mark : State)
+    → IsTrue (has_distinct_numbers ops) → IsTrue (has_distinct_numbers (trace_of old))
+    → IsDifference before (end_from nothing_held (take base (trace_of old))) (end_from nothing_held (take edited ops)) → IsReached ops x segments heap
+    → HasGathered segments edited (length segments) (set_of some) (set_of told) → HasGathered old base index (set_of told) (set_of both)
+    → Has d both → ((x : Key) → is_among all x ≡ (is_among d x || is_among before x)) → length (trace_of (take index old)) ≡ at
+    → mark ≡ end_from nothing_held (take at (trace_of old)) → HasDifference all mark heap
+gathered-both ops old segments edited base x index at before some told both d all heap mark distinct old_distinct h reached new then d_is all_is place mark_is =
+    let last : (k : Key) → is_among (set_of both) k ≡ true → is_among all k ≡ true = λ k e. all_is k ∙ among-left (is_among d k) (is_among before k) (among_set_of d both d_is k ∙ e) in
+    let first : (k : Key) → is_among before k ≡ true → is_among all k ≡ true = λ k e. all_is k ∙ among-right (is_among d k) (is_among before k) e in
+    gathered-difference ops old segments edited base x index at before all all heap mark distinct old_distinct h reached
+    (HasGathered-within segments edited (length segments) (set_of some) (set_of told) before all (λ k e. last k (then.more k e)) first new)
+    (HasGathered-within old base index (set_of told) (set_of both) all all last (λ k e. e) then) place mark_is
 
 -- where both stand at one heap nothing differs
 pub differs-nowhere : (keys : KeySet) (old new : State) → new ≡ old → IsDifference keys old new

@@ -4,6 +4,7 @@ ghost use Rattle.std.specs.Option.{option_copied};
 ghost use Rattle.ownership_model.specs.State.{nothing_held};
 ghost use Rattle.ownership_model.specs.Step.{end_from};
 ghost use Rattle.heap_difference.specs.Differences.{IsDifference};
+ghost use Rattle.heap_difference.specs.KeySets.{set_of};
 ghost use Rattle.run_engine.specs.inner.OldRun.{old_trace, new_trace};
 ghost use Rattle.run_engine.specs.Segments.{trace_of, AreReplayFrom, IsReached};
 ghost use Rattle.run_engine.specs.inner.Divergence.{IsFork};
@@ -177,13 +178,17 @@ impl Difference {
             return Ok(None);
         };
         let new = &progress.prefix.segments;
-        let Some(of_new) = gathered(alloc, before, new, self.edited, new.len())? else {
+        let mut told = Vec::new(alloc);
+        let are_told = gather(new, self.edited, new.len(), &mut told)?;
+        if !are_told {
             return Ok(None);
-        };
-        let Some(all) = gathered(alloc, &of_new, revision.segments, self.base, old.index)? else {
+        }
+        let are_both = gather(revision.segments, self.base, old.index, &mut told)?;
+        if !are_both {
             return Ok(None);
-        };
-        if are_slow(&progress.prefix.end, &all.handles) {
+        }
+        let all = KeySet::of(alloc, &told)?.joined(alloc, before)?;
+        if are_more(&all, MOST_TOUCHED) || are_slow(&progress.prefix.end, &all.handles) {
             return Ok(None);
         }
         let keys = found(alloc, &old.mark, &progress.prefix.end, &all)?;
@@ -294,40 +299,34 @@ fn is_told_apart(kept: &Heap, heap: &Heap, key: Key) -> bool {
     }
 }
 
-// Some keys, and all that segments touch, from the one at a position on and before the one at an index. None if one of them doesn't tell,
-// if they are too many, or if none begins there. The keys are sorted once, when all are there.
-fn gathered(
-    alloc: Global,
-    before: &KeySet,
+// All that segments touch joins the keys, from the one at a position on and before the one at an index: in any order, and some more than once.
+// False if one of them doesn't tell, if they are too many, or if none begins there.
+fn gather(
     segments: &Segments,
     from: usize,
     index: usize,
-) -> Result<Option<KeySet>, AllocError>
+    keys: &mut Vec<Key>,
+) -> Result<bool, AllocError>
     requires replay { AreReplayFrom nothing_held segments.now }
     requires within { index ≤ length segments.now }
-    ensures { IfOk result
-        (λ o. IfSome o (λ k. HasGathered segments.now from index before.now k)) }
+    ensures { IfOk result (λ are_known. IsTrue are_known →
+        HasGathered segments.now from index (set_of keys.old.items) (set_of keys.new.items)) }
 {
     let (first, at) = segments.last_from(from);
     if at != from || index < first || index - first > MOST_SEGMENTS {
-        return Ok(None);
+        return Ok(false);
     }
-    let mut told = Vec::new(alloc);
     for i in first..index {
         let segment = segments.at(i);
         let Some(touched) = segment.keys() else {
-            return Ok(None);
+            return Ok(false);
         };
-        add_all(touched, segment.ops(), segment.outcomes(), &mut told)?;
-        if told.len() > MOST_TOLD {
-            return Ok(None);
+        add_all(touched, segment.ops(), segment.outcomes(), keys)?;
+        if keys.len() > MOST_TOLD {
+            return Ok(false);
         }
     }
-    let keys = KeySet::of(alloc, &told)?.joined(alloc, before)?;
-    if are_more(&keys, MOST_TOUCHED) {
-        return Ok(None);
-    }
-    Ok(Some(keys))
+    Ok(true)
 }
 
 // Whether handles pass too many others on the way to the first one under each that doesn't differ. They are looked up by rising numbers, so those

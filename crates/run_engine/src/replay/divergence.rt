@@ -15,7 +15,7 @@ use crate::replay::difference::Difference;
 use crate::replay::progress::{Fork, Progress};
 use crate::replay::revision::Revision;
 use crate::segments::blocks::Segments;
-use agreement::{Meeting, Suspects, Trail, are_told_apart, meet_rooted};
+use agreement::{Meeting, Suspects, Trail, are_told_apart, meet_rooted, refutes};
 use heap_difference::KeySet;
 use object_heap::Heap;
 use std::alloc::{AllocError, Global};
@@ -141,8 +141,8 @@ impl Divergence {
         are_told_apart(alloc, new, old, &mut self.trail)
     }
 
-    /// Whether heaps are told apart that differ at some keys alone: by the trail, by their handles, cells and scopes, or else by what the objects
-    /// among the keys lead to. If not, they may agree.
+    /// Whether heaps are told apart that differ at some keys alone: by the trail, by a handle among the keys, by their handles, cells and scopes, or
+    /// else by what the objects among the keys lead to. If not, they may agree.
     pub fn is_apart(
         &mut self,
         alloc: Global,
@@ -154,6 +154,9 @@ impl Divergence {
         ensures apart { IfOk result (λ told. IsTrue told → ¬ (Agree new.now old.now)) }
         ensures known { (r : Revision) → IsDivergence r self.old → IsDivergence r self.new }
     {
+        if !self.leads_apart(new, old) {
+            self.trail = differing_handle(new, old, keys.handles.as_slice());
+        }
         let told = are_told_apart(alloc, new, old, &mut self.trail)?;
         if told {
             return Ok(true);
@@ -162,6 +165,14 @@ impl Divergence {
         match meet_rooted(alloc, new, old, &mut suspects, &mut self.trail)? {
             Meeting::Apart => Ok(true),
             Meeting::Same | Meeting::Alike(_) => Ok(false),
+        }
+    }
+
+    // Whether the trail leads to where the heaps differ.
+    fn leads_apart(&self, new: &Heap, old: &Heap) -> bool {
+        match &self.trail {
+            None => false,
+            Some(trail) => refutes(trail, new, old),
         }
     }
 
@@ -183,6 +194,21 @@ impl Divergence {
             Some(suspects) => meet_rooted(alloc, new, old, suspects, &mut self.trail),
         }
     }
+}
+
+// A trail to one of these handles at which the heaps differ, if they do at any. No other handle is looked at.
+fn differing_handle(new: &Heap, old: &Heap, handles: &[u32]) -> Option<Trail> {
+    for handle in handles {
+        let there = Trail::Handle(*handle);
+        if refutes(&there, new, old) {
+            return Some(there);
+        }
+        let under = Trail::Earlier(*handle);
+        if refutes(&under, new, old) {
+            return Some(under);
+        }
+    }
+    None
 }
 
 // Whether there are more operations between two positions than before the first, and many before the second: a heap there has an object for each of
