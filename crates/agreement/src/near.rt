@@ -8,10 +8,13 @@ use trace_types::slots::{Entry, Holding, Slot};
 /// How many objects are looked for at most.
 const MANY: usize = 1_024;
 
-/// A trail to one of some objects that a root names, or that a field of what a root names does, if one is found: any will do. It is for whoever keeps
-/// it to see whether it leads to a difference.
+/// How many slots are looked at at most: those of roots, and of what these name.
+const MOST: usize = 16_384;
+
+/// A way from a root to one of these objects, with at most one object between, if one is found: any will do. It is a hint: the caller looks whether
+/// the heaps differ there.
 ///
-/// The work is that of the roots and of the fields of what they name: no other object is looked at.
+/// At most 1,024 objects are looked for, and at 16,384 slots. No object is looked at but those that roots name.
 pub fn near_root(alloc: Global, heap: &Heap, objects: &[u32]) -> Result<Option<Trail>, AllocError> {
     if objects.len() > MANY {
         return Ok(None);
@@ -19,21 +22,31 @@ pub fn near_root(alloc: Global, heap: &Heap, objects: &[u32]) -> Result<Option<T
     let mut sorted = Vec::new(alloc);
     sorted.extend_from_slice(objects)?;
     sorted.sort_unstable();
-    if let Some(trail) = near_handle(alloc, heap, &sorted)? {
+    let mut left = MOST;
+    if let Some(trail) = near_handle(alloc, heap, &sorted, &mut left)? {
         return Ok(Some(trail));
     }
-    near_cell(alloc, heap, &sorted)
+    near_cell(alloc, heap, &sorted, &mut left)
 }
 
-fn near_handle(alloc: Global, heap: &Heap, sorted: &[u32]) -> Result<Option<Trail>, AllocError> {
+// At most as many slots are looked at as are left.
+fn near_handle(
+    alloc: Global,
+    heap: &Heap,
+    sorted: &[u32],
+    left: &mut usize,
+) -> Result<Option<Trail>, AllocError> {
     let handles = heap.handles(alloc)?;
     for handle in &handles {
+        if *left == 0 {
+            return Ok(None);
+        }
         let root = Root::Handle(*handle);
         let found = match heap.holding(*handle) {
             None => None,
-            Some(Holding::Slot(slot)) => behind(alloc, heap, sorted, root, *slot)?,
+            Some(Holding::Slot(slot)) => behind(alloc, heap, sorted, root, *slot, left)?,
             Some(Holding::Bare(fields)) => {
-                behind_any(alloc, heap, sorted, root, fields.as_slice())?
+                behind_any(alloc, heap, sorted, root, fields.as_slice(), left)?
             }
         };
         if found.is_some() {
@@ -43,11 +56,19 @@ fn near_handle(alloc: Global, heap: &Heap, sorted: &[u32]) -> Result<Option<Trai
     Ok(None)
 }
 
-fn near_cell(alloc: Global, heap: &Heap, sorted: &[u32]) -> Result<Option<Trail>, AllocError> {
+fn near_cell(
+    alloc: Global,
+    heap: &Heap,
+    sorted: &[u32],
+    left: &mut usize,
+) -> Result<Option<Trail>, AllocError> {
     let cells = heap.cells(alloc)?;
     for cell in &cells {
+        if *left == 0 {
+            return Ok(None);
+        }
         if let Some(slot) = heap.cell(*cell) {
-            let found = behind(alloc, heap, sorted, Root::Cell(*cell), slot)?;
+            let found = behind(alloc, heap, sorted, Root::Cell(*cell), slot, left)?;
             if found.is_some() {
                 return Ok(found);
             }
@@ -62,9 +83,10 @@ fn behind_any(
     sorted: &[u32],
     root: Root,
     slots: &[Slot],
+    left: &mut usize,
 ) -> Result<Option<Trail>, AllocError> {
     for slot in slots {
-        let found = behind(alloc, heap, sorted, root, *slot)?;
+        let found = behind(alloc, heap, sorted, root, *slot, left)?;
         if found.is_some() {
             return Ok(found);
         }
@@ -72,14 +94,17 @@ fn behind_any(
     Ok(None)
 }
 
-// The trail from a root to what this slot of it names, or to what a field of that does, if that is among the objects, which rise.
+// The trail from a root to what this slot of it names, or to what a field of that does, if that is among the objects, which rise. The slots that are
+// looked at are counted.
 fn behind(
     alloc: Global,
     heap: &Heap,
     sorted: &[u32],
     root: Root,
     slot: Slot,
+    left: &mut usize,
 ) -> Result<Option<Trail>, AllocError> {
+    *left = left.saturating_sub(1);
     let Some(first) = slot.object() else {
         return Ok(None);
     };
@@ -88,6 +113,7 @@ fn behind(
         let Some(Entry::Alive(fields)) = heap.object(first) else {
             return Ok(None);
         };
+        *left = left.saturating_sub(fields.as_slice().len());
         let Some(object) = named_among(sorted, fields.as_slice()) else {
             return Ok(None);
         };

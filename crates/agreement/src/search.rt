@@ -100,9 +100,10 @@ pub fn meet_among(
 /// Compares a new heap with an old one that has the same roots and differs from it at most at the suspects.
 ///
 /// The suspects are settled: those that are the same in both are dropped. With none left the heaps are the same; with one that is surely
-/// reached, or that a root names or a field of what a root names, they don't agree, and what leads to it is the trail from now on; and where those left,
-/// with all that differs with them, are an island, they agree but for it. The work is, up to here, that of the suspects, the roots, and their fields. Else the trail is replaced by one to a
-/// difference, if any is found: then they don't agree. Only where none is found all that can be reached is compared.
+/// reached they don't agree, and it is the trail from now on; and where those left, with all that differs with them, are an island, they
+/// agree but for it. The work is, up to here, that of the suspects and of their fields. Else the trail is replaced by one to a
+/// difference, if any is found, to a suspect near a root first: then they don't agree. Only where none is found all that can be reached is
+/// compared.
 pub fn meet_rooted(
     alloc: Global,
     new: &Heap,
@@ -119,7 +120,7 @@ pub fn meet_rooted(
     if let Some(meeting) = told_by(alloc, new, old, suspects.as_slice(), seen)? {
         return Ok(meeting);
     }
-    meet_by_search(alloc, new, old, seen)
+    meet_by_search(alloc, new, old, suspects.as_slice(), seen)
 }
 
 // What the suspects tell alone of heaps with the same roots, if they do.
@@ -141,26 +142,27 @@ fn told_by(
         *seen = Some(trail);
         return Ok(Some(Meeting::Apart));
     }
-    let near = near_root(alloc, new, suspects)?;
-    if is_refuted(&near, new, old) {
-        *seen = near;
-        return Ok(Some(Meeting::Apart));
-    }
     match island_among(alloc, new, old, suspects)? {
         Some(remains) => Ok(Some(Meeting::Alike(remains))),
         None => Ok(None),
     }
 }
 
-// Where a trail to a difference is found they don't agree; else all that is reached is compared.
+// Where a trail to a difference is found they don't agree; else all that is reached is compared. A trail to a suspect near a root is looked for
+// first.
 fn meet_by_search(
     alloc: Global,
     new: &Heap,
     old: &Heap,
+    suspects: &[u32],
     seen: &mut Option<Trail>,
 ) -> Result<Meeting, AllocError>
     ensures { IfOk result (Meets new.now old.now) }
 {
+    *seen = near_root(alloc, new, suspects)?;
+    if is_refuted(seen, new, old) {
+        return Ok(Meeting::Apart);
+    }
     *seen = differing_object(alloc, new, old)?;
     if is_refuted(seen, new, old) {
         return Ok(Meeting::Apart);
