@@ -1,22 +1,25 @@
 //! A replay beside an old one, as far as the two come together.
-ghost use Rattle.std.specs.Prelude.{◌≡◌, ◌++◌, ◌+◌, ◌-◌, ◌<◌, ◌≤◌, ℕ, List, IfOk, IfSome, OnOk, IsTrue, length, take, drop, slice_range, true, false};
+ghost use Rattle.std.specs.Prelude.{◌≡◌, ◌↔◌, ◌++◌, ◌∷◌, ◌+◌, ◌-◌, ◌<◌, ◌≤◌, ℕ, List, [], IfOk, IfSome, OnOk, IsTrue, is_some, length, take, drop, slice_range, true, false};
 ghost use Rattle.std.specs.Ordering.{nat_cmp};
 ghost use Rattle.std.specs.BTreeSet.{contains};
 ghost use Rattle.ownership_model.specs.State.{nothing_held};
-ghost use Rattle.ownership_model.specs.Step.{end_from};
+ghost use Rattle.trace_types.specs.Trace.{has_distinct_numbers};
+ghost use Rattle.ownership_model.specs.Step.{end_from, AreUnused};
+ghost use Rattle.agreement.specs.Agreement.{Agree};
 ghost use Rattle.op_step.specs.Chunk.{Chunk};
-ghost use Rattle.run_engine.specs.Segments.{trace_of, marks_from, all_marks, IsRun, IsPiece};
+ghost use Rattle.run_engine.specs.Segments.{trace_of, marks_from, all_marks, IsRun, IsRunFrom, IsPiece};
 ghost use Rattle.run_engine.specs.Guesses.{with_guesses};
 ghost use Rattle.run_engine.specs.inner.OldRun.{old_trace, old_marks, new_trace, reusable};
 ghost use Rattle.run_engine.specs.HeadAndTail.{ShareEnd};
 ghost use Rattle.run_engine.specs.Bounds.{StepsAtMost};
 ghost use Rattle.run_engine.specs.NewMarks.{IsGap};
-ghost use Rattle.run_engine.specs.inner.Onward.{AreMarksLeft};
+ghost use Rattle.run_engine.specs.inner.Onward.{AreMarksLeft, AreAnswered};
+ghost use Rattle.run_engine.specs.GivenUp.{names_at};
 ghost use Rattle.run_engine.specs.Memo.{IsSearched};
 ghost use Rattle.run_engine.specs.Steps.{IsOldStretch, AreTaken, AreStepped};
 ghost use Rattle.run_engine.specs.inner.GoesOn.{MayGoOn, GoesOnBeside};
 ghost use Rattle.run_engine.specs.inner.Placed.{IsPlaced, IsNext};
-ghost use Rattle.run_engine.specs.inner.Divergence.{IsFork};
+ghost use Rattle.run_engine.specs.inner.Divergence.{IsFork, IsDivergence};
 ghost use Rattle.run_engine.specs.inner.Difference.{AreDiffering};
 ghost use Rattle.run_engine.specs.inner.Metered.{IsMetered};
 ghost use Rattle.run_engine.specs.inner.Replaced.{AreReplaced};
@@ -338,6 +341,181 @@ fn spliced(
     })
 }
 
+// The operations behind an old checkpoint are those of the old run from there on, where the heaps agree: what the run is there, with the name of the
+// checkpoint touched.
+fn stop(
+    alloc: Global,
+    revision: &Revision,
+    progress: Progress,
+    rest: Segments,
+    end: Heap,
+    shelf: &mut MarkShelf,
+) -> Result<Prefix, AllocError>
+    ensures segments { IfOk result (λ p. p.segments ≡ progress.prefix.segments ++ rest) }
+    ensures end { IfOk result (λ p. p.end ≡ end) }
+    ensures answered { IfOk result (λ p.
+        AreAnswered shelf.old shelf.new (names_at (new_trace revision.now) (progress.prefix.len ∷ []))
+        (contains nat_cmp progress.prefix.answered) (contains nat_cmp p.answered)) }
+{
+    let mut prefix = progress.prefix;
+    touch_at(revision.ops, prefix.len, shelf, &mut prefix.answered)?;
+    spliced(alloc, prefix, rest, end, revision.ops.len())
+}
+
+// Goes on with the replay to an old checkpoint, and compares: what follows of the old run from there on, if the heaps agree. The old stretch before
+// the checkpoint is noted.
+fn come_to(
+    alloc: Global,
+    revision: &Revision,
+    progress: Progress,
+    limits: Limits,
+    old: &OldMark,
+    replaced: &mut Replaced,
+    difference: &Difference,
+    divergence: &mut Divergence,
+    shelf: &mut MarkShelf,
+    meter: &mut Meter,
+) -> Result<(Progress, Option<(Segments, Heap)>), AllocError>
+    requires may { MayGoOn (new_trace revision.now) progress.prefix limits.to }
+    requires fork { IsFork revision.now progress.fork }
+    requires placed { IsPlaced shelf.old.chunks progress.prefix }
+    requires within { old.now.index < length revision.now.segments.now }
+    requires place { length (trace_of (take old.now.index revision.now.segments.now)) ≡ old.now.at }
+    requires mark { old.now.mark
+        ≡ end_from nothing_held (take old.now.at (old_trace revision.now)) }
+    requires run { IsRunFrom old.now.mark (drop old.now.index revision.now.segments.now)
+        revision.now.end.now }
+    requires shared { trace_of (drop old.now.index revision.now.segments.now)
+        ≡ drop limits.to (new_trace revision.now) }
+    requires distinct { IsTrue (has_distinct_numbers
+        (trace_of (drop old.now.index revision.now.segments.now))) }
+    requires unused { AreUnused old.now.mark
+        (trace_of (drop old.now.index revision.now.segments.now)) }
+    requires replaced { AreReplaced revision.now replaced.old }
+    requires differing { AreDiffering revision.now difference.now }
+    requires divergence { IsDivergence revision.now divergence.old }
+    ensures beside { IfOk result (λ p.
+        GoesOnBeside revision.now progress.prefix p.0.prefix shelf.old shelf.new
+        meter.old meter.new) }
+    ensures fork { IfOk result (λ p. IsFork revision.now p.0.fork) }
+    ensures placed { IfOk result (λ p. IsPlaced shelf.new.chunks p.0.prefix) }
+    ensures there { IfOk result (λ p. p.0.prefix.len ≡ limits.to) }
+    ensures metered { IsMetered meter.old meter.new progress.prefix.len limits.to }
+    ensures replaced { OnOk result (AreReplaced revision.now replaced.new) }
+    ensures divergence { OnOk result (IsDivergence revision.now divergence.new) }
+    ensures answer { IfOk result
+        (λ p. IsTrue (is_some p.1) ↔ Agree p.0.prefix.end old.now.mark) }
+    ensures run { IfOk result (λ p. IfSome p.1 (λ r. IsRunFrom p.0.prefix.end r.0 r.1)) }
+    ensures trace { IfOk result (λ p. IfSome p.1 (λ r.
+        trace_of r.0 ≡ trace_of (drop old.now.index revision.now.segments.now))) }
+    ensures marks { IfOk result (λ p. IfSome p.1 (λ r. (at : ℕ) →
+        marks_from at r.0 ≡ marks_from at (drop old.now.index revision.now.segments.now))) }
+{
+    let from = progress.prefix.len;
+    let progress = advance(alloc, revision, progress, limits, shelf, meter)?;
+    replaced.note(alloc, revision, old, &progress, from);
+    let found = rejoined_at(alloc, revision, &progress, old, difference, divergence)?;
+    Ok((progress, found))
+}
+
+// Goes on with a replay that stands before the seam, or where the old run has the same heap, to its end, or to the first old checkpoint at or behind
+// the seam where the heaps agree.
+fn go_beside(
+    alloc: Global,
+    revision: &Revision,
+    progress: Progress,
+    seam: Seam,
+    replaced: &mut Replaced,
+    difference: &mut Difference,
+    divergence: &mut Divergence,
+    shelf: &mut MarkShelf,
+    meter: &mut Meter,
+) -> Result<Prefix, AllocError>
+    requires may { MayGoOn (new_trace revision.now) progress.prefix seam.edited }
+    requires fork { IsFork revision.now progress.fork }
+    requires known { AreDiffering revision.now difference.old }
+    requires divergence { IsDivergence revision.now divergence.old }
+    requires replaced { AreReplaced revision.now replaced.old }
+    requires shared { ShareEnd (old_trace revision.now)
+        (new_trace revision.now) seam.base seam.edited }
+    requires placed { IsPlaced shelf.old.chunks progress.prefix }
+    ensures run { IfOk result (λ r. IsRun r.segments r.end) }
+    ensures trace { IfOk result (λ r. trace_of r.segments ≡ (new_trace revision.now)) }
+    ensures marks { IfOk result (λ r.
+        AreMarksLeft (record {
+          trace = old_trace revision.now;
+          ops = new_trace revision.now;
+          kept = marks_from 0 progress.prefix.segments;
+          old = reusable revision.now;
+          new = all_marks r.segments;
+          from = progress.prefix.len;
+          base = seam.base;
+          edited = seam.edited;
+        }) shelf.old shelf.new (contains nat_cmp progress.prefix.answered) (contains nat_cmp r.answered)) }
+    ensures bound { StepsAtMost (old_trace revision.now) (new_trace revision.now) seam.base seam.edited
+        (old_marks revision.now) progress.prefix.len meter.old meter.new }
+    ensures stepped { IfOk result (λ _.
+        AreStepped (record {
+          old = old_trace revision.now;
+          ops = new_trace revision.now;
+          base = seam.base;
+          edited = seam.edited;
+          marks = old_marks revision.now;
+          chunks = with_guesses revision.now.guesses.now shelf.old.chunks;
+        }) progress.prefix.len meter.old meter.new) }
+    ensures never_less { meter.old ≤ meter.new }
+{
+    let old = revision.segments;
+    let mut progress = progress;
+    let (first, mut at) = old.last_from(seam.base);
+    for i in first..old.len() {
+        let segment = old.at(i);
+        if is_ahead(&progress, seam, at) {
+            let limits = Limits {
+                to: at - seam.base + seam.edited,
+                open: seam.edited,
+            };
+            if let Some(mark) = segment.mark() {
+                let old_mark = OldMark {
+                    index: i,
+                    at,
+                    mark: mark.heap(alloc)?,
+                };
+                let (come, found) = come_to(
+                    alloc, revision, progress, limits, &old_mark, replaced, difference, divergence,
+                    shelf, meter,
+                )?;
+                if let Some((rest, end)) = found {
+                    return Ok(stop(alloc, revision, come, rest, end, shelf)?);
+                }
+                progress = pass(
+                    alloc, revision, come, &old_mark, difference, divergence, shelf,
+                )?;
+            } else if difference.is_followed() {
+                if let Some(anchor) = segment.anchor() {
+                    let old_mark = OldMark {
+                        index: i,
+                        at,
+                        mark: anchor.heap(alloc)?,
+                    };
+                    progress = pass_anchor(
+                        alloc, revision, progress, limits, &old_mark, difference, shelf, meter,
+                    )?;
+                }
+            }
+        }
+        at += segment.ops().len();
+    }
+    let limits = Limits {
+        to: revision.ops.len(),
+        open: seam.edited,
+    };
+    let from = progress.prefix.len;
+    let progress = advance(alloc, revision, progress, limits, shelf, meter)?;
+    replaced.note_end(alloc, revision, &progress, from);
+    Ok(progress.prefix)
+}
+
 /// Goes on with the replay to its end, or to the first old checkpoint at or behind the seam where the heaps agree.
 ///
 /// From the seam on the heap is another at each old checkpoint that is passed, and at an old anchor nobody asks: an old stretch, or a part of one, serves
@@ -384,87 +562,21 @@ pub fn converge(
         }) prefix.len meter.old meter.new) }
     ensures never_less { meter.old ≤ meter.new }
 {
-    let old = revision.segments;
     let fork = Fork {
         edited: prefix.len,
         base: prefix.len,
     };
-    let mut progress = Progress { prefix, fork };
-    let (first, mut at) = old.last_from(seam.base);
     let mut divergence = Divergence::none(alloc, fork);
     let mut difference = Difference::none(alloc, fork);
-    for i in first..old.len() {
-        let segment = old.at(i);
-        if is_ahead(&progress, seam, at) {
-            if let Some(mark) = segment.mark() {
-                let limits = Limits {
-                    to: at - seam.base + seam.edited,
-                    open: seam.edited,
-                };
-                let from = progress.prefix.len;
-                progress = advance(alloc, revision, progress, limits, shelf, meter)?;
-                let heap = mark.heap(alloc)?;
-                let old_mark = OldMark {
-                    index: i,
-                    at,
-                    mark: heap,
-                };
-                replaced.note(alloc, revision, &old_mark, &progress, from);
-                let found = rejoined_at(
-                    alloc,
-                    revision,
-                    &progress,
-                    &old_mark,
-                    &difference,
-                    &mut divergence,
-                )?;
-                if let Some((rest, end)) = found {
-                    let mut prefix = progress.prefix;
-                    touch_at(revision.ops, prefix.len, shelf, &mut prefix.answered)?;
-                    let len = revision.ops.len();
-                    return Ok(spliced(alloc, prefix, rest, end, len)?);
-                }
-                progress = pass(
-                    alloc,
-                    revision,
-                    progress,
-                    &old_mark,
-                    &mut difference,
-                    &mut divergence,
-                    shelf,
-                )?;
-            } else if difference.is_followed() {
-                if let Some(anchor) = segment.anchor() {
-                    let limits = Limits {
-                        to: at - seam.base + seam.edited,
-                        open: seam.edited,
-                    };
-                    let old_mark = OldMark {
-                        index: i,
-                        at,
-                        mark: anchor.heap(alloc)?,
-                    };
-                    progress = pass_anchor(
-                        alloc,
-                        revision,
-                        progress,
-                        limits,
-                        &old_mark,
-                        &mut difference,
-                        shelf,
-                        meter,
-                    )?;
-                }
-            }
-        }
-        at += segment.ops().len();
-    }
-    let limits = Limits {
-        to: revision.ops.len(),
-        open: seam.edited,
-    };
-    let from = progress.prefix.len;
-    let progress = advance(alloc, revision, progress, limits, shelf, meter)?;
-    replaced.note_end(alloc, revision, &progress, from);
-    Ok(progress.prefix)
+    go_beside(
+        alloc,
+        revision,
+        Progress { prefix, fork },
+        seam,
+        replaced,
+        &mut difference,
+        &mut divergence,
+        shelf,
+        meter,
+    )
 }

@@ -26,14 +26,14 @@ use trace_types::outcomes::Outcome;
 /// How many keys of a kind are followed at most. To lay more of them over a heap takes as long as to step a stretch.
 const MOST_KEYS: usize = 16;
 
-/// How many keys of a kind are looked up at most.
+/// How many keys of a kind that either run touches are looked up at most.
 const MOST_TOUCHED: usize = 65_536;
 
 /// How many times at most a handle that is looked up passes another one under it in its scope: it does so where numbers fall.
 const MOST_PASSED: usize = 131_072;
 
-/// How many keys are gathered at most. One that segments tell again counts again.
-const MOST_TOLD: usize = 1_048_576;
+/// How many keys are gathered of both runs at most. One that segments tell again counts again.
+const MOST_TOLD: usize = 2_097_152;
 
 /// How many segments are gone over at most to find what differs behind them: as many as may lie between two anchors of a long run, and more.
 const MOST_SEGMENTS: usize = 1024;

@@ -154,8 +154,12 @@ impl Divergence {
         ensures apart { IfOk result (λ told. IsTrue told → ¬ (Agree new.now old.now)) }
         ensures known { (r : Revision) → IsDivergence r self.old → IsDivergence r self.new }
     {
-        if !self.leads_apart(new, old) {
-            self.trail = differing_handle(new, old, keys.handles.as_slice());
+        if self.leads_apart(new, old) {
+            return Ok(true);
+        }
+        let there = differing_handle(new, old, keys.handles.as_slice());
+        if there.is_some() {
+            self.trail = there;
         }
         let told = are_told_apart(alloc, new, old, &mut self.trail)?;
         if told {
@@ -169,7 +173,9 @@ impl Divergence {
     }
 
     // Whether the trail leads to where the heaps differ.
-    fn leads_apart(&self, new: &Heap, old: &Heap) -> bool {
+    fn leads_apart(&self, new: &Heap, old: &Heap) -> bool
+        ensures { IsTrue result → ¬ (Agree new.now old.now) }
+    {
         match &self.trail {
             None => false,
             Some(trail) => refutes(trail, new, old),
