@@ -8,13 +8,13 @@ use trace_types::slots::{Entry, Holding, Slot};
 /// How many objects are looked for at most.
 const MANY: usize = 1_024;
 
-/// How many slots are looked at at most: those of roots, and of what these name.
+/// After how many slots no root is begun: those of roots count, and those of what these name.
 const MOST: usize = 16_384;
 
 /// A way from a root to one of these objects, with at most one object between, if one is found: any will do. It is a hint: the caller looks whether
 /// the heaps differ there.
 ///
-/// At most 1,024 objects are looked for, and at 16,384 slots. No object is looked at but those that roots name.
+/// At most 1,024 objects are looked for, and no root is begun after 16,384 slots. No object is looked at but those that roots name.
 pub fn near_root(alloc: Global, heap: &Heap, objects: &[u32]) -> Result<Option<Trail>, AllocError> {
     if objects.len() > MANY {
         return Ok(None);
@@ -29,7 +29,7 @@ pub fn near_root(alloc: Global, heap: &Heap, objects: &[u32]) -> Result<Option<T
     near_cell(alloc, heap, &sorted, &mut left)
 }
 
-// At most as many slots are looked at as are left.
+// Ends before the next handle once no slots are left.
 fn near_handle(
     alloc: Global,
     heap: &Heap,

@@ -341,8 +341,7 @@ fn spliced(
     })
 }
 
-// The operations behind an old checkpoint are those of the old run from there on, where the heaps agree: what the run is there, with the name of the
-// checkpoint touched.
+// Ends the replay at an old checkpoint where the heaps agree: the rest of the old run follows. The name of the checkpoint is touched.
 fn stop(
     alloc: Global,
     revision: &Revision,
@@ -418,8 +417,8 @@ fn come_to(
     Ok((progress, found))
 }
 
-// Goes on with a replay that stands before the seam, or where the old run has the same heap, to its end, or to the first old checkpoint at or behind
-// the seam where the heaps agree.
+// Goes on with a replay that stands at or before the seam to its end, or to the first old checkpoint at or behind the seam where the heaps agree. What is
+// known of where they differ is handed in.
 fn go_beside(
     alloc: Global,
     revision: &Revision,
