@@ -18,8 +18,8 @@ LIMITS = [
     (("memory.max", r"(\d+)"), ("memory.stat", r"^anon (\d+)")),
     (("memory/memory.limit_in_bytes", r"(\d+)"), ("memory/memory.stat", r"^total_rss (\d+)")),
 ]
-# What a check of one of the large crates takes, with one job.
-MEGABYTES = 5000
+# What checks of large crates take each, where several run at once with one job: edit_tests takes 8 GB, run_engine's must-fail edits 5, and most 2 to 4.
+MEGABYTES = 5500
 
 
 def number_in(file, pattern):
