@@ -10,10 +10,12 @@ ghost use Rattle.agreement.specs.Meeting.{AgreeBut};
 
 use crate::gathering::standing;
 use crate::joining::joined;
+use crate::named::named_within;
 use crate::remains::Remains;
 use crate::trail::{Trail, refutes};
 use object_heap::Heap;
 use std::alloc::{AllocError, Global};
+use trace_types::slots::Entry;
 
 /// A trail to a suspect that differs and is surely reached, if there is one.
 pub fn sure_difference(new: &Heap, old: &Heap, suspects: &[u32]) -> Option<Trail>
@@ -67,11 +69,34 @@ fn island_near(
         return Ok(None);
     };
     let island = apart.as_slice();
+    // asked first: to take objects out of a share is dear
+    if are_named_outside(alloc, new, island)? {
+        return Ok(None);
+    }
     if !new.is_island(alloc, island)? {
         return Ok(None);
     }
     let remains = remains_at(alloc, new, old, island)?;
     Ok(Some(remains))
+}
+
+// Whether more slots name the objects than their own fields do: then these are no island. Each is listed once.
+fn are_named_outside(alloc: Global, heap: &Heap, objects: &[u32]) -> Result<bool, AllocError> {
+    let mut sorted = Vec::new(alloc);
+    sorted.extend_from_slice(objects)?;
+    sorted.sort_unstable();
+    let mut named = 0u64;
+    let mut within = 0u64;
+    for object in objects {
+        let counts = heap.counts(*object);
+        named = named
+            .saturating_add(counts.strong)
+            .saturating_add(counts.weak);
+        if let Some(Entry::Alive(fields)) = heap.object(*object) {
+            within = within.saturating_add(named_within(&sorted, fields.as_slice()));
+        }
+    }
+    Ok(named > within)
 }
 
 // What stands for the objects in each heap.

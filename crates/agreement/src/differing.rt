@@ -14,7 +14,7 @@ enum Step {
     Field(u32),
 }
 
-// The objects that were come to, and those of them that are still to be looked at.
+// How each object was come to, and the objects in the order in which they were: so they are looked at.
 #[derive(Drop)]
 struct Search {
     from: BTreeMap<u32, Step>,
@@ -28,9 +28,9 @@ pub fn differing_object(
     old: &Heap,
 ) -> Result<Option<Trail>, AllocError> {
     let mut search = from_roots(alloc, new)?;
-    // each object is taken at most once
-    for _ in 0..MAX_ID + 1 {
-        let Some(object) = search.todo.pop() else {
+    // each object is taken at most once, first come first: so the way begins at a root with a low number, which mostly lives longer
+    for at in 0..MAX_ID + 1 {
+        let Some(object) = search.todo.get(at as usize).copied() else {
             return Ok(None);
         };
         if !agree_at(new, old, object) {

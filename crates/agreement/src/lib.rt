@@ -11,6 +11,7 @@ mod gathering;
 mod joining;
 mod listed;
 mod merged;
+mod named;
 mod near;
 mod remains;
 mod search;

@@ -1,32 +1,40 @@
 //! A short trail to an object at which two heaps differ.
 
+use crate::agree::agree_at;
+use crate::named::named_among;
 use crate::trail::{Path, Root, Trail};
 use object_heap::Heap;
 use std::alloc::{AllocError, Global};
 use trace_types::slots::{Entry, Holding, Slot};
 
-/// How many objects are looked for at most.
-const MANY: usize = 1_024;
-
 /// After how many slots no root is begun: those of roots count, and those of what these name.
 const MOST: usize = 16_384;
 
-/// A way from a root to one of these objects, with at most one object between, if one is found: any will do. It is a hint: the caller looks whether
-/// the heaps differ there.
+/// A way from a root to one of these objects that differs, by what stands for it or by a count, with at most one object between, if one is found: any
+/// will do. It is a hint: the caller looks whether the heaps differ there.
 ///
-/// At most 1,024 objects are looked for, and no root is begun after 16,384 slots. No object is looked at but those that roots name.
-pub fn near_root(alloc: Global, heap: &Heap, objects: &[u32]) -> Result<Option<Trail>, AllocError> {
-    if objects.len() > MANY {
+/// Where none of them differs no root is begun, and else none after 16,384 slots. No object is looked at but these and those that roots name.
+pub fn near_root(
+    alloc: Global,
+    new: &Heap,
+    old: &Heap,
+    objects: &[u32],
+) -> Result<Option<Trail>, AllocError> {
+    let mut sorted = Vec::new(alloc);
+    for object in objects {
+        if !agree_at(new, old, *object) {
+            sorted.push(*object)?;
+        }
+    }
+    if sorted.is_empty() {
         return Ok(None);
     }
-    let mut sorted = Vec::new(alloc);
-    sorted.extend_from_slice(objects)?;
     sorted.sort_unstable();
     let mut left = MOST;
-    if let Some(trail) = near_handle(alloc, heap, &sorted, &mut left)? {
+    if let Some(trail) = near_handle(alloc, new, &sorted, &mut left)? {
         return Ok(Some(trail));
     }
-    near_cell(alloc, heap, &sorted, &mut left)
+    near_cell(alloc, new, &sorted, &mut left)
 }
 
 // Ends before the next handle once no slots are left.
@@ -120,16 +128,4 @@ fn behind(
         rest.push(object)?;
     }
     Ok(Some(Trail::Path(Path { root, first, rest })))
-}
-
-// The first of the objects, which rise, that one of these slots names.
-fn named_among(sorted: &[u32], slots: &[Slot]) -> Option<u32> {
-    for slot in slots {
-        if let Some(object) = slot.object() {
-            if sorted.binary_search(&object).is_ok() {
-                return Some(object);
-            }
-        }
-    }
-    None
 }

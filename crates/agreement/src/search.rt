@@ -102,8 +102,9 @@ pub fn meet_among(
 /// The suspects are settled: those that are the same in both are dropped. With none left the heaps are the same; with one that is surely
 /// reached they don't agree, and it is the trail from now on; and where those left, with all that differs with them, are an island, they
 /// agree but for it. The work is, up to here, that of the suspects and of their fields. Else the trail is replaced by one to a
-/// difference, if any is found, to a suspect near a root first: then they don't agree. Only where none is found all that can be reached is
-/// compared.
+/// difference, if any is found: then they don't agree. First it is looked for near a root, to a suspect that differs by what stands for it
+/// or by a count alone; of more than 1,024 only to those that are left once they are settled, if these are few. Only where none is found all
+/// that can be reached is compared.
 pub fn meet_rooted(
     alloc: Global,
     new: &Heap,
@@ -116,11 +117,18 @@ pub fn meet_rooted(
     ensures meets { IfOk result (Meets new.now old.now) }
     ensures outside { OnOk result (AgreeOutside suspects.new new.now old.now) }
 {
+    // taken before they are settled, which drops those that differ by a count alone
+    let few = suspects.few(alloc)?;
     suspects.settle(alloc, new, old)?;
     if let Some(meeting) = told_by(alloc, new, old, suspects.as_slice(), seen)? {
         return Ok(meeting);
     }
-    meet_by_search(alloc, new, old, suspects.as_slice(), seen)
+    let some = if few.is_empty() {
+        suspects.few(alloc)?
+    } else {
+        few
+    };
+    meet_by_search(alloc, new, old, &some, seen)
 }
 
 // What the suspects tell alone of heaps with the same roots, if they do.
@@ -148,8 +156,8 @@ fn told_by(
     }
 }
 
-// Where a trail to a difference is found they don't agree; else all that is reached is compared. A trail to a suspect near a root is looked for
-// first.
+// Where a trail to a difference is found they don't agree; else all that is reached is compared. A trail to one of these suspects near a root is
+// looked for first.
 fn meet_by_search(
     alloc: Global,
     new: &Heap,
@@ -159,7 +167,7 @@ fn meet_by_search(
 ) -> Result<Meeting, AllocError>
     ensures { IfOk result (Meets new.now old.now) }
 {
-    *seen = near_root(alloc, new, suspects)?;
+    *seen = near_root(alloc, new, old, suspects)?;
     if is_refuted(seen, new, old) {
         return Ok(Meeting::Apart);
     }

@@ -9,6 +9,9 @@ use std::alloc::{AllocError, Global};
 use std::marker::Model;
 use trace_types::outcomes::{Event, Outcome};
 
+// How many suspects are few.
+const FEW: usize = 1_024;
+
 /// Objects at which two heaps may differ: elsewhere the same stands in both. Contracts see the list.
 #[derive(Drop)]
 pub struct Suspects {
@@ -59,6 +62,15 @@ impl Suspects {
         ensures { result.now ≡ self.now }
     {
         self.objects.as_slice()
+    }
+
+    /// The suspects, or none if they are more than 1,024.
+    pub(crate) fn few(&self, alloc: Global) -> Result<Vec<u32>, AllocError> {
+        let mut few = Vec::new(alloc);
+        if self.objects.len() <= FEW {
+            few.extend_from_slice(&self.objects)?;
+        }
+        Ok(few)
     }
 
     /// What these outcomes tell may have changed joins them.
