@@ -10,3 +10,4 @@ pub mod LaidLemmas
 pub mod PuttingLemmas
 pub mod LayerLemmas
 pub mod MergeLemmas
+pub mod FilterLemmas

@@ -6,3 +6,4 @@ pub mod Sifts
 pub mod Puts
 pub mod Laid
 pub mod Layers
+pub mod Filters

@@ -1,11 +1,14 @@
 //! What stands in a heap at some keys, kept to be laid over older heaps.
-ghost use Rattle.std.specs.Prelude.{◌≡◌, ◌↔◌, ◌||◌, false, IfOk, IsTrue};
+ghost use Rattle.std.specs.Prelude.{◌≡◌, ◌↔◌, ◌||◌, List, false, IfOk, IsTrue};
+ghost use Rattle.ownership_model.specs.declared.key.Key.{Key};
 ghost use Rattle.ownership_model.specs.Reach.{has};
 ghost use Rattle.heap_difference.specs.KeySets.{handles_alone, is_among, set_of, meet};
 ghost use Rattle.heap_difference.specs.Naming.{with_names};
+ghost use Rattle.heap_difference.specs.Filters.{HasKeys};
 ghost use Rattle.heap_difference.specs.Puts.{ArePuts, AreUndersApart, unders};
 ghost use Rattle.heap_difference.specs.Layers.{with_layer, CanBeLaidBy};
 
+use crate::filter::Filter;
 use crate::key_set::KeySet;
 use crate::laying::laid;
 use crate::numbers::Numbers;
@@ -27,13 +30,16 @@ pub struct Layer {
     puts: Vec<Put>,
     // the keys, and the handles just under those that are put in
     avoided: KeySet,
+    // these as bits
+    filter: Filter,
 }
 
 impl Model for Layer {
-    ghost use Rattle.std.specs.Prelude.{◌≡◌, ◌||◌};
+    ghost use Rattle.std.specs.Prelude.{◌≡◌, ◌||◌, true};
     ghost use Rattle.ownership_model.specs.declared.key.Key.{Key};
     ghost use Rattle.ownership_model.specs.Reach.{has};
     ghost use Rattle.heap_difference.specs.KeySets.{handles_alone, is_among};
+    ghost use Rattle.heap_difference.specs.Filters.{may_have};
     ghost use Rattle.heap_difference.specs.Puts.{ArePuts, unders};
     ghost use Rattle.heap_difference.specs.Layers.{LayerView, layer_code};
 
@@ -45,7 +51,8 @@ impl Model for Layer {
 
     ghost invariant = { λ l. ArePuts (λ h. has h l.keys.handles) l.from l.puts.items
         × ((x : Key) → is_among l.avoided x
-        ≡ (is_among l.keys x || is_among (handles_alone (unders l.puts.items)) x)) };
+        ≡ (is_among l.keys x || is_among (handles_alone (unders l.puts.items)) x))
+        × ((x : Key) → is_among l.avoided x ≡ true → may_have l.filter x ≡ true) };
 }
 
 impl Layer {
@@ -59,12 +66,14 @@ impl Layer {
     {
         let puts = puts_of(alloc, heap, &keys.handles)?;
         let avoided = avoided_of(alloc, &keys, &puts)?;
+        let filter = Filter::of_set(&avoided);
         let from = heap.share()?;
         Ok(Layer {
             keys,
             from,
             puts,
             avoided,
+            filter,
         })
     }
 
@@ -83,6 +92,15 @@ impl Layer {
             × AreUndersApart (set_of (with_names told.now ops.now outcomes.now)) self.now.puts) }
     {
         !self.avoided.touches_all(told, ops, outcomes)
+    }
+
+    /// Whether a filter tells that whatever keys it has are none of these keys, and no handle just under one that is put in. If not, that says nothing.
+    pub fn is_apart_by(&self, filter: &Filter) -> bool
+        ensures { IsTrue result → (keys : List Key) → HasKeys filter.now keys →
+            (meet self.now.keys (set_of keys) ≡ false)
+            × AreUndersApart (set_of keys) self.now.puts }
+    {
+        !filter.may_meet(&self.filter)
     }
 
     /// An older heap with it laid over.

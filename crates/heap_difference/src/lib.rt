@@ -1,6 +1,7 @@
 //! Where two heaps differ, as a set of keys: whether a stretch of operations touches any of them, and what differs behind it.
 #![tactic(auto)]
 
+mod filter;
 mod finding;
 mod handles;
 pub mod key_set;
@@ -14,6 +15,7 @@ mod scopes;
 mod sifted;
 mod touching;
 
+pub use filter::Filter;
 pub use finding::found;
 pub use key_set::KeySet;
 pub use laws::{differences_law, layers_law, passing_law, puts_law, puts_stay_law};

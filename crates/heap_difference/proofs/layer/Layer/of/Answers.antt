@@ -12,4 +12,5 @@ pub invariant_of-result : goal.invariant_of-result
 invariant_of-result c = (
   subst (λ (m : State). ArePuts (λ h. has h c.args.keys.handles) m c.in_ok-puts.puts.items) (sym c.in_ok-from.ensures) c.in_ok-puts.ensures,
   subst (λ (ps : List Put). (x : Key) → is_among c.in_ok-avoided.avoided x ≡ (is_among c.args.keys x || is_among (handles_alone (unders ps)) x)) c.deref.ensures.value c.in_ok-avoided.ensures,
+  c.of_set-filter.ensures,
 )
