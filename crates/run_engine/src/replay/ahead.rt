@@ -114,10 +114,10 @@ fn next_cut(
     }
     if is_among(inner_name(ops, prefix.len), &prefix.answered) {
         let anchor = prefix.anchoring.anchor(&prefix.end, prefix.len);
-        let prefix = replayed_on(alloc, prefix, next, anchor, meter)?;
+        let prefix = replayed_on(alloc, prefix, next, anchor, false, meter)?;
         return Ok(prefix);
     }
-    let piece = stepped(alloc, &prefix.end, next, is_anchored, meter)?;
+    let piece = stepped(alloc, &prefix.end, next, is_anchored, false, meter)?;
     let prefix = joined(alloc, prefix, piece)?;
     Ok(prefix)
 }

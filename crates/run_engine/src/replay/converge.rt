@@ -151,7 +151,7 @@ fn next_piece(
     if let Some(stretch) = stretch {
         return Ok(stretch);
     }
-    let piece = stepped(alloc, &prefix.end, next, is_anchored, meter)?;
+    let piece = stepped(alloc, &prefix.end, next, is_anchored, false, meter)?;
     Ok((piece, fork))
 }
 

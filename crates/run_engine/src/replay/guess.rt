@@ -41,7 +41,7 @@ pub fn guessed(
 {
     for guess in revision.guesses {
         if serves(guess, heap, revision.ops, at, to) {
-            let mut piece = NextStretch::of(alloc, guess, false)?;
+            let mut piece = NextStretch::of(alloc, guess, false, false)?;
             piece.origin = Origin::Old;
             return Ok(Some(piece));
         }

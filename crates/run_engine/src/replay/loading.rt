@@ -22,7 +22,8 @@ use std::collections::BTreeSet;
 use trace_types::ops::Op;
 use trace_types::trace::Trace;
 
-/// Replays operations, with checkpoints at the multiples of 64, but for those that are given up, and with anchors if there are many.
+/// Replays operations, with checkpoints at the multiples of 64, but for those that are given up, and with anchors if there are many. Each segment gets a
+/// filter of what it touches.
 pub fn loaded(
     alloc: Global,
     ops: &[Op],
@@ -51,10 +52,10 @@ pub fn loaded(
         let copies = copy_ops(alloc, &ops[at..to])?;
         if is_given_up(flags, at) {
             let anchor = prefix.anchoring.anchor(&prefix.end, at);
-            prefix = replayed_on(alloc, prefix, copies, anchor, meter)?;
+            prefix = replayed_on(alloc, prefix, copies, anchor, true, meter)?;
         } else {
             let is_anchored = prefix.anchoring.is_due(at);
-            let mut piece = stepped(alloc, &prefix.end, copies, is_anchored, meter)?;
+            let mut piece = stepped(alloc, &prefix.end, copies, is_anchored, true, meter)?;
             // of a whole trace no chunk is remembered, and one that stayed would keep its heaps
             piece.origin = Origin::Old;
             prefix = joined(alloc, prefix, piece)?;

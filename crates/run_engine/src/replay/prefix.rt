@@ -54,16 +54,23 @@ pub struct NextStretch {
 }
 
 impl NextStretch {
-    /// A chunk to go on with, with an anchor where it begins if that is wanted. Whether it was stepped, or which of the shelf's it is, is for
+    /// A chunk to go on with, with an anchor where it begins and with a filter of what it touches if these are wanted. Whether it was stepped, or which of the shelf's it is, is for
     /// the caller to say.
-    pub fn of(alloc: Global, chunk: &ChunkRun, is_anchored: bool) -> Result<Self, AllocError>
+    pub fn of(
+        alloc: Global,
+        chunk: &ChunkRun,
+        is_anchored: bool,
+        is_filtered: bool,
+    ) -> Result<Self, AllocError>
         requires { 0 < length chunk.now.ops }
         ensures piece { IfOk result
             (λ p. IsPiece chunk.now.start chunk.now.ops p.segments p.end p.len) }
         ensures whole { IfOk result (λ p. p.len ≡ length chunk.now.ops) }
         ensures end { IfOk result (λ p. p.end ≡ end_from chunk.now.start chunk.now.ops) }
     {
-        let segments = Segments::empty(alloc).push(alloc, Segment::of(alloc, chunk, is_anchored)?)?;
+        let segment = Segment::of(alloc, chunk, is_anchored)?;
+        let filtered = segment.filtered(alloc, is_filtered)?;
+        let segments = Segments::empty(alloc).push(alloc, filtered)?;
         Ok(NextStretch {
             segments,
             end: chunk.end().share()?,
@@ -107,12 +114,13 @@ pub fn joined(alloc: Global, prefix: Prefix, next: NextStretch) -> Result<Prefix
     })
 }
 
-/// Steps all the operations, to go on with their chunk, with an anchor where they begin if that is wanted.
+/// Steps all the operations, to go on with their chunk, with an anchor where they begin and with a filter of what they touch if these are wanted.
 pub fn stepped(
     alloc: Global,
     heap: &Heap,
     ops: Vec<Op>,
     is_anchored: bool,
+    is_filtered: bool,
     meter: &mut Meter,
 ) -> Result<NextStretch, AllocError>
     requires some { 0 < length ops.items }
@@ -125,7 +133,7 @@ pub fn stepped(
     ensures next { (chunks : List (ℕ × Chunk)) → IfOk result (IsNext chunks heap.now) }
 {
     let chunk = run_of(alloc, heap, ops, meter)?;
-    let mut piece = NextStretch::of(alloc, &chunk, is_anchored)?;
+    let mut piece = NextStretch::of(alloc, &chunk, is_anchored, is_filtered)?;
     piece.origin = Origin::Stepped(chunk);
     Ok(piece)
 }
@@ -155,18 +163,19 @@ pub fn found(
     let Some(found) = shelf.find_behind(heap, ops, before) else {
         return Ok(None);
     };
-    let mut piece = NextStretch::of(alloc, &found.chunk, is_anchored)?;
+    let mut piece = NextStretch::of(alloc, &found.chunk, is_anchored, false)?;
     piece.origin = Origin::Shelf(found.number);
     Ok(Some(piece))
 }
 
 /// Goes on behind a prefix by operations, all of which are stepped on the prefix's own heap: they have no checkpoint where they begin, and
-/// no chunk, but an anchor if one is given.
+/// no chunk, but an anchor if one is given, and a filter of what they touch if that is wanted.
 pub fn replayed_on(
     alloc: Global,
     prefix: Prefix,
     ops: Vec<Op>,
     anchor: Option<Heap>,
+    is_filtered: bool,
     meter: &mut Meter,
 ) -> Result<Prefix, AllocError>
     requires fits { prefix.len + length ops.items < 2 ^ 64 }
@@ -187,7 +196,8 @@ pub fn replayed_on(
     let mut told = Vec::new(alloc);
     let (outcomes, end) = replay_told(alloc, prefix.end, &ops, meter, &mut told)?;
     let bare = Segment::bare(alloc, anchor, ops, outcomes, told)?;
-    let segments = prefix.segments.push(alloc, bare)?;
+    let filtered = bare.filtered(alloc, is_filtered)?;
+    let segments = prefix.segments.push(alloc, filtered)?;
     Ok(Prefix {
         segments,
         end,

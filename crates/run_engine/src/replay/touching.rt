@@ -1,8 +1,8 @@
 //! The names of a replay's checkpoints are touched on a shelf.
-ghost use Rattle.std.specs.Prelude.{◌≡◌, ◌+◌, ◌^◌, ◌<◌, ◌≤◌, ◌∷◌, [], OnOk, length, option_to_list};
+ghost use Rattle.std.specs.Prelude.{◌≡◌, ◌+◌, ◌^◌, ◌<◌, ◌≤◌, ◌∷◌, [], IfSome, OnOk, Some, length, take, drop, option_to_list};
 ghost use Rattle.std.specs.Ordering.{nat_cmp};
 ghost use Rattle.std.specs.BTreeSet.{contains};
-ghost use Rattle.run_engine.specs.GivenUp.{names_at};
+ghost use Rattle.run_engine.specs.GivenUp.{name_at, names_at};
 ghost use Rattle.run_engine.specs.Segments.{trace_of};
 ghost use Rattle.run_engine.specs.inner.Onward.{begins, cuts, AreAnswered};
 
@@ -35,8 +35,8 @@ pub fn touch_ahead(
     Ok(())
 }
 
-/// Touches the names of the inner checkpoints with which segments begin, the first of them at a position, in order, and adds those that are
-/// answered.
+/// Touches the names of the inner checkpoints with which segments begin, whose operations stand from a position on, in order, and adds those that
+/// are answered. The number of the last operation of a segment is kept beside it, so that only the first name is looked up.
 pub fn touch_each(
     ops: &Listing,
     from: usize,
@@ -44,15 +44,21 @@ pub fn touch_each(
     shelf: &mut MarkShelf,
     answered: &mut BTreeSet<u32>,
 ) -> Result<(), AllocError>
-    requires { from + length (trace_of segments.now) < 2 ^ 64 }
+    requires fits { from + length (trace_of segments.now) < 2 ^ 64 }
+    requires within { from ≤ length ops.now.ops }
+    requires there { take (length (trace_of segments.now)) (drop from ops.now.ops)
+        ≡ trace_of segments.now }
     ensures answered { OnOk result
         (AreAnswered shelf.old shelf.new (names_at ops.now.ops (begins from segments.now))
         (contains nat_cmp answered.old) (contains nat_cmp answered.new)) }
 {
     let mut at = from;
+    let mut before = None;
     for i in 0..segments.len() {
-        touch_at(ops, at, shelf, answered)?;
-        at += segments.at(i).ops().len();
+        touch_behind(ops, at, before, shelf, answered)?;
+        let segment = segments.at(i);
+        before = segment.last_id();
+        at += segment.ops().len();
     }
     Ok(())
 }
@@ -68,10 +74,37 @@ pub fn touch_at(
         (AreAnswered shelf.old shelf.new (names_at ops.now.ops (at ∷ []))
         (contains nat_cmp answered.old) (contains nat_cmp answered.new)) }
 {
-    if let Some(name) = inner_name(ops, at) {
+    touch_behind(ops, at, None, shelf, answered)
+}
+
+// As `touch_at`, where the number of the operation before the position may be known.
+fn touch_behind(
+    ops: &Listing,
+    at: usize,
+    before: Option<u32>,
+    shelf: &mut MarkShelf,
+    answered: &mut BTreeSet<u32>,
+) -> Result<(), AllocError>
+    requires { IfSome before (λ id. name_at ops.now.ops at ≡ Some id) }
+    ensures answered { OnOk result
+        (AreAnswered shelf.old shelf.new (names_at ops.now.ops (at ∷ []))
+        (contains nat_cmp answered.old) (contains nat_cmp answered.new)) }
+{
+    if let Some(name) = name_behind(ops, at, before) {
         add_name(answered, shelf.touch(name))?;
     }
     Ok(())
+}
+
+// The name of the inner checkpoint at a position, where the number of the operation before that may be known.
+fn name_behind(ops: &Listing, at: usize, before: Option<u32>) -> Option<u32>
+    requires { IfSome before (λ id. name_at ops.now.ops at ≡ Some id) }
+    ensures { option_to_list result ≡ names_at ops.now.ops (at ∷ []) }
+{
+    let Some(id) = before else {
+        return inner_name(ops, at);
+    };
+    if at < ops.len() { Some(id) } else { None }
 }
 
 /// The name of the inner checkpoint at a position: none stands at the beginning or at the end.

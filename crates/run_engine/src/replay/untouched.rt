@@ -1,11 +1,13 @@
 //! Old stretches that are taken over though the heaps differ.
-ghost use Rattle.std.specs.Prelude.{◌≡◌, ◌+◌, ◌<◌, ◌≤◌, ℕ, List, IfOk, IfSome, IsTrue, OnOk, length, take, drop, true, false};
+ghost use Rattle.std.specs.Prelude.{◌≡◌, ◌+◌, ◌<◌, ◌≤◌, ℕ, List, IfOk, IfSome, IsTrue, OnOk, Some, length, take, drop, true, false};
 ghost use Rattle.std.specs.Arc.{arc_value};
 ghost use Rattle.ownership_model.specs.State.{State, nothing_held};
 ghost use Rattle.ownership_model.specs.Step.{end_from, AreUnused};
 ghost use Rattle.op_step.specs.Chunk.{Chunk};
 ghost use Rattle.ownership_model.specs.declared.key.Key.{Key};
-ghost use Rattle.heap_difference.specs.KeySets.{is_among};
+ghost use Rattle.heap_difference.specs.KeySets.{is_among, set_of, meet};
+ghost use Rattle.heap_difference.specs.Naming.{with_names};
+ghost use Rattle.heap_difference.specs.Puts.{AreUndersApart};
 ghost use Rattle.heap_difference.specs.Differences.{IsDifference};
 ghost use Rattle.heap_difference.specs.Layers.{IsLaidBy};
 ghost use Rattle.run_engine.specs.inner.OldRun.{old_trace};
@@ -26,6 +28,7 @@ use crate::segments::segment::Segment;
 use crate::segments::standing::Standing;
 use heap_difference::{KeySet, Layer, Numbers};
 use object_heap::Heap;
+use ownership_model::Key;
 use std::alloc::{AllocError, Global};
 use std::sync::Arc;
 
@@ -177,6 +180,22 @@ pub fn is_clear(segment: &Standing, layer: &Layer) -> bool
     let Some(touched) = segment.keys() else {
         return false;
     };
+    is_apart_from(segment, touched, layer)
+}
+
+// Whether what a segment touches is no key of the layer, nor a handle just under one that is put in: by its filter, or else key by key.
+fn is_apart_from(segment: &Standing, touched: &[Key], layer: &Layer) -> bool
+    requires { Some touched.now ≡ segment.now.keys }
+    ensures apart { IsTrue result → meet layer.now.keys
+        (set_of (with_names touched.now segment.now.ops segment.now.outcomes)) ≡ false }
+    ensures unders { IsTrue result → AreUndersApart
+        (set_of (with_names touched.now segment.now.ops segment.now.outcomes)) layer.now.puts }
+{
+    if let Some(filter) = segment.filter() {
+        if layer.is_apart_by(filter) {
+            return true;
+        }
+    }
     layer.is_apart(touched, segment.ops(), segment.outcomes())
 }
 

@@ -10,11 +10,11 @@ ghost use Rattle.run_engine.specs.Segments.{AreKeysFrom};
 ghost use Rattle.run_engine.specs.inner.Layered.{standing_at, started_at, CanStand, MayStand};
 ghost use Rattle.run_engine.specs.inner.Parts.{AreBetween};
 ghost use Rattle.run_engine.specs.inner.Cleared.{last_name};
-ghost use Rattle.run_engine.specs.inner.Touching.{shared_keys};
+ghost use Rattle.run_engine.specs.inner.Touching.{shared_keys, IsFiltered};
 
 use crate::segments::bounds::{Bounds, bounds_of};
 use crate::segments::kept::{Kept, is_within, layer_in, shared_layer};
-use heap_difference::Layer;
+use heap_difference::{Filter, Layer};
 use object_heap::Heap;
 use op_step::{ChunkRun, Replayed};
 use ownership_model::Key;
@@ -37,6 +37,8 @@ pub struct Segment {
     // order, and perhaps more than once
     keys: Option<Arc<Vec<Key>>>,
     body: Arc<Replayed>,
+    // all keys that the operations touch, move or copy, as bits: where the segment was replayed as a run was loaded
+    filter: Option<Arc<Filter>>,
     bounds: Bounds,
     last: Option<u32>,
 }
@@ -53,7 +55,7 @@ impl Model for Segment {
 
     ghost use Rattle.run_engine.specs.inner.Parts.{AreBetween};
     ghost use Rattle.run_engine.specs.inner.Cleared.{last_name};
-    ghost use Rattle.run_engine.specs.inner.Touching.{shared_keys};
+    ghost use Rattle.run_engine.specs.inner.Touching.{shared_keys, IsFiltered};
     ghost use Rattle.run_engine.specs.inner.Layered.{with_layers, AreLaidBelow};
 
     ghost view = { λ s. record {
@@ -68,7 +70,9 @@ impl Model for Segment {
         AreBetween s.bounds.least s.bounds.greatest (arc_value s.body).ops.items
         × (s.last ≡ last_name (arc_value s.body).ops.items)
         × AreLaidBelow (option_map arc_value s.layer) (option_map arc_value s.mark)
-        × AreLaidBelow (option_map arc_value s.layer) (option_map arc_value s.anchor) };
+        × AreLaidBelow (option_map arc_value s.layer) (option_map arc_value s.anchor)
+        × IsFiltered (option_map arc_value s.filter) (shared_keys s.keys)
+        (arc_value s.body).ops.items (arc_value s.body).outcomes };
 }
 
 impl Segment {
@@ -95,6 +99,7 @@ impl Segment {
             layer: None,
             keys: Some(Arc::try_clone(chunk.keys())?),
             body: Arc::try_clone(chunk.replayed())?,
+            filter: None,
             bounds: bounds_of(chunk.ops()),
             last: last_id(chunk.ops()),
         })
@@ -130,9 +135,23 @@ impl Segment {
             layer: None,
             keys: Some(Arc::new(alloc, told)?),
             body: Arc::new(alloc, Replayed { ops, outcomes })?,
+            filter: None,
             bounds,
             last,
         })
+    }
+
+    /// The same segment, with a filter of what its operations touch if that is wanted, and if it is known what that is.
+    pub fn filtered(self, alloc: Global, is_wanted: bool) -> Result<Self, AllocError>
+        ensures { IfOk result (λ s. s ≡ self) }
+    {
+        if !is_wanted {
+            return Ok(self);
+        }
+        let filter = filter_of(alloc, &self.keys, &self.body)?;
+        let mut filtered = self;
+        filtered.filter = filter;
+        Ok(filtered)
     }
 
     /// The same segment again, all of which is shared.
@@ -145,6 +164,7 @@ impl Segment {
             layer: shared_layer(&self.layer)?,
             keys: keys_of(&self.keys)?,
             body: Arc::try_clone(&self.body)?,
+            filter: shared_filter(&self.filter)?,
             bounds: self.bounds,
             last: self.last,
         })
@@ -160,6 +180,7 @@ impl Segment {
             layer: shared_layer(&self.layer)?,
             keys: keys_of(&self.keys)?,
             body: Arc::try_clone(&self.body)?,
+            filter: shared_filter(&self.filter)?,
             bounds: self.bounds,
             last: self.last,
         })
@@ -185,6 +206,7 @@ impl Segment {
             layer: Some(Arc::try_clone(layer)?),
             keys: keys_of(&self.keys)?,
             body: Arc::try_clone(&self.body)?,
+            filter: shared_filter(&self.filter)?,
             bounds: self.bounds,
             last: self.last,
         }))
@@ -203,6 +225,7 @@ impl Segment {
             layer: None,
             keys: keys_of(&self.keys)?,
             body: Arc::try_clone(&self.body)?,
+            filter: shared_filter(&self.filter)?,
             bounds: self.bounds,
             last: self.last,
         })
@@ -293,6 +316,17 @@ impl Segment {
         }
     }
 
+    /// All keys that the operations touch, move or copy, as bits, if these are kept: where it is known what these are.
+    pub fn filter(&self) -> Option<&Filter>
+        ensures { IsFiltered (option_copied result) self.now.keys self.now.ops
+            self.now.outcomes }
+    {
+        match &self.filter {
+            None => None,
+            Some(filter) => Some(filter),
+        }
+    }
+
     /// Whether there is an anchor where it begins.
     pub fn is_anchored(&self) -> bool
         ensures { result ≡ is_some self.now.anchor }
@@ -346,6 +380,32 @@ fn share_of(heap: &Option<Arc<Heap>>) -> Result<Option<Arc<Heap>>, AllocError>
     match heap {
         None => Ok(None),
         Some(heap) => Ok(Some(Arc::try_clone(heap)?)),
+    }
+}
+
+// A filter of what was told of operations and of what these and their outcomes name, if that is known.
+fn filter_of(
+    alloc: Global,
+    keys: &Option<Arc<Vec<Key>>>,
+    body: &Replayed,
+) -> Result<Option<Arc<Filter>>, AllocError>
+    ensures { IfOk result (λ o. IsFiltered (option_map arc_value o) (shared_keys keys.now)
+        body.now.ops.items body.now.outcomes) }
+{
+    let Some(told) = keys else {
+        return Ok(None);
+    };
+    let filter = Filter::of(told, &body.ops, body.outcomes.as_slice());
+    Ok(Some(Arc::new(alloc, filter)?))
+}
+
+// The filter once more, if there is one.
+fn shared_filter(filter: &Option<Arc<Filter>>) -> Result<Option<Arc<Filter>>, AllocError>
+    ensures { IfOk result (λ o. option_map arc_value o ≡ option_map arc_value filter.now) }
+{
+    match filter {
+        None => Ok(None),
+        Some(filter) => Ok(Some(Arc::try_clone(filter)?)),
     }
 }
 

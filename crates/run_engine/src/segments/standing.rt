@@ -6,13 +6,14 @@ ghost use Rattle.ownership_model.specs.State.{State};
 ghost use Rattle.op_step.specs.Chunk.{IsReplayOf};
 ghost use Rattle.run_engine.specs.Segments.{AreKeysFrom};
 ghost use Rattle.run_engine.specs.inner.Cleared.{cleared_if, last_name};
+ghost use Rattle.run_engine.specs.inner.Touching.{IsFiltered};
 ghost use Rattle.run_engine.specs.inner.Blocks.{laid_over, AreSoundBelow};
 ghost use Rattle.run_engine.specs.inner.Layered.{standing_at, started_at, CanStand, MayStand};
 
 use crate::segments::mark::Mark;
 use crate::segments::segment::Segment;
 use agreement::Exchange;
-use heap_difference::Layer;
+use heap_difference::{Filter, Layer};
 use object_heap::Heap;
 use op_step::ChunkRun;
 use ownership_model::Key;
@@ -105,6 +106,14 @@ impl<'a> Standing<'a> {
             None => self.segment.keys(),
             Some(_) => None,
         }
+    }
+
+    /// All keys that the operations touch, move or copy, as bits, if these are kept: where it is known what these are.
+    pub fn filter(&self) -> Option<&'a Filter>
+        ensures { IsFiltered (option_copied result) self.now.keys self.now.ops
+            self.now.outcomes }
+    {
+        self.segment.filter()
     }
 
     /// The same operations and outcomes where they begin with another heap, which is kept as their checkpoint, and as their anchor if they have

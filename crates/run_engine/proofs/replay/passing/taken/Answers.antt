@@ -1,4 +1,5 @@
-use Rattle.std.proofs.Common.{◌+◌, List, arith, ap, sym, subst, ◌∙◌}
+use Rattle.std.proofs.Common.{◌+◌, List, length, take, arith, ap, sym, subst, ◌∙◌}
+use Rattle.std.proofs.Math.Seq.{take-append_seam}
 use Rattle.trace_types.specs.Operation.{Operation}
 use Rattle.run_engine.specs.Segments.{trace_of, all_marks}
 use Rattle.run_engine.specs.inner.OldRun.{reusable}
@@ -9,10 +10,15 @@ use Rattle.run_engine.proofs.FreshLemmas.{begins-there}
 use Rattle.run_engine.proofs.OverLemmas.{GoesOn-over}
 use Rattle.run_engine.proofs.replay.passing.taken.Goals as goal
 
-pub touch_each-requires : goal.touch_each-requires
-touch_each-requires c =
+pub touch_each-requires-clause-fits : goal.touch_each-requires-clause-fits
+touch_each-requires-clause-fits c =
     let next = c.requires.next in
     omega (arith, over-few c.args.revision.now.ops.now.ops (trace_of c.args.next.segments) _ c.args.progress.prefix.len c.requires.prefix.within (sym c.requires.shared ∙ next.trace), c.args.revision.now.holds.trace.few)
+
+pub touch_each-requires-clause-there : goal.touch_each-requires-clause-there
+touch_each-requires-clause-there c =
+    let next = c.requires.next in
+    ap (take (length (trace_of c.args.next.segments))) (sym c.requires.shared ∙ next.trace) ∙ take-append_seam (trace_of c.args.next.segments) _
 
 pub joined-requires-clause-fits : goal.joined-requires-clause-fits
 joined-requires-clause-fits c =

@@ -29,5 +29,5 @@ returns-clause-segments c =
       touched = subst (AreKeysFrom m (Some told) ops) outs-are
           (told-touched told c.new-told.result.items m ops outs (subst (λ (os : List Operation). Covers (with_names told os outs) (c.new-told.result.items ++ replay_keys m os)) c.deref.ensures.value c.in_ok-outcomes.ensures.told));
       segments_are = c.in_ok-segments.ensures ∙ ap (λ (s : SegmentView). c.args.prefix.segments ++ s ∷ [])
-          (c.in_ok-bare.ensures ∙ ap (λ (os : List Outcome). record { mark = None; anchor = c.args.anchor; keys = Some told; ops = ops; outcomes = os }) outs-are);
+          (c.in_ok-filtered.ensures ∙ c.in_ok-bare.ensures ∙ ap (λ (os : List Outcome). record { mark = None; anchor = c.args.anchor; keys = Some told; ops = ops; outcomes = os }) outs-are);
     }

@@ -8,4 +8,5 @@ invariant_of-result c = (
   search rules,
   tt,
   none-laid _,
+  tt,
 )

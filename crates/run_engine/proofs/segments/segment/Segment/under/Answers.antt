@@ -27,8 +27,8 @@ anchor-over c new can =
 
 pub invariant_of-result : goal.invariant_of-result
 invariant_of-result c =
-    rw (c.in_ok-share_of.ensures, c.in_ok-share_of-2.ensures, c.in_ok-try_clone.ensures, c.in_ok-try_clone-2.ensures)
-    (c.self.invariant.0, c.self.invariant.1, (mark-over c c.requires.new c.requires.is).below, (anchor-over c c.requires.new c.requires.is).below)
+    rw (c.in_ok-share_of.ensures, c.in_ok-share_of-2.ensures, c.in_ok-try_clone.ensures, c.in_ok-try_clone-2.ensures, c.in_ok-keys_of.ensures, c.in_ok-shared_filter.ensures)
+    (c.self.invariant.0, c.self.invariant.1, (mark-over c c.requires.new c.requires.is).below, (anchor-over c c.requires.new c.requires.is).below, c.self.invariant.4)
 
 pub returns : goal.returns
 returns c = λ new can.

@@ -1,6 +1,0 @@
-use Rattle.run_engine.proofs.OnwardLemmas.{AreAnswered-one}
-use Rattle.run_engine.proofs.replay.touching.touch_at.Goals as goal
-
-pub returns-in_ok-add_name : goal.returns-in_ok-add_name
-returns-in_ok-add_name c =
-    record { answered = AreAnswered-one c.args.ops.now.ops c.args.shelf.now _ c.in-Some.name c.args.at _ c.inner_name.result _ _ c.touch.ensures c.in-Some.is c.inner_name.ensures c.in_ok-add_name.ensures.names c.in_ok-add_name.ensures.rise }
