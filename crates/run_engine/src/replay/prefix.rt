@@ -54,7 +54,8 @@ pub struct NextStretch {
 }
 
 impl NextStretch {
-    /// A chunk to go on with, with an anchor where it begins and with a filter of what it touches if these are wanted. Whether it was stepped, or which of the shelf's it is, is for
+    /// A chunk to go on with, with an anchor where it begins and with a filter of what it touches if these are wanted.
+    /// Whether it was stepped, or which of the shelf's it is, is for
     /// the caller to say.
     pub fn of(
         alloc: Global,

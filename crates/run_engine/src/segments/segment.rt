@@ -316,7 +316,7 @@ impl Segment {
         }
     }
 
-    /// All keys that the operations touch, move or copy, as bits, if these are kept: where it is known what these are.
+    /// What the operations touch, move or copy, as bits, if that is kept. Where its keys aren't known it says nothing.
     pub fn filter(&self) -> Option<&Filter>
         ensures { IsFiltered (option_copied result) self.now.keys self.now.ops
             self.now.outcomes }
