@@ -14,6 +14,8 @@ mod joints;
 #[cfg(test)]
 mod kept;
 #[cfg(test)]
+mod layers;
+#[cfg(test)]
 mod limits;
 #[cfg(test)]
 mod meetings;

@@ -1,6 +1,8 @@
--- Segments whose heaps are kept as older ones, over which a layer lies.
-use Rattle.std.proofs.Common.{◌≡◌, [], ap, refl, subst, sym, ◌∙◌, Bool, true}
-use Rattle.std.specs.Prelude.{◌||◌, Option, Some, None, IfSome, option_map}
+-- Segments whose heaps are kept as older ones, over which layers lie.
+use Rattle.std.proofs.Common.{◌≡◌, ◌++◌, ◌∷◌, ◌<◌, ◌+◌, ℕ, List, [], ap, refl, subst, sym, ◌∙◌, true, take, drop, length}
+use Rattle.std.specs.Prelude.{Option, Some, None, IfSome, option_map, map}
+use Rattle.std.proofs.Math.ListN.{get_or}
+use Rattle.std.proofs.lemmas.List.{take_more, drop_more, get_or-map, length-map}
 use Rattle.ownership_model.specs.declared.key.Key.{Key}
 use Rattle.ownership_model.specs.State.{State, IsSound}
 use Rattle.ownership_model.specs.Reach.{has}
@@ -12,27 +14,93 @@ use Rattle.heap_difference.specs.Laid.{IsLaid}
 use Rattle.heap_difference.specs.Layers.{LayerView, with_layer, IsLaidBy}
 use Rattle.heap_difference.proofs.LayerLemmas.{layers_hold}
 use Rattle.run_engine.specs.SegmentView.{SegmentView}
-use Rattle.run_engine.specs.inner.Layered.{with_layers, Makes, IsLaidBelow, AreLaidBelow, IsWithin, standing_at}
+use Rattle.run_engine.specs.inner.Layered.{with_all, Makes, AreLaid, AreLaidBelow, AreWithin, IsOver, standing_at}
 
--- what the layer makes of a state under another one, whose keys it has, it makes of the state that is kept
-makes-below : (own : Option LayerView) (l : LayerView) (m new : State) → IsWithin own l → IsLaidBelow own m → Makes l new (with_layers own m) → Makes l new m
-makes-below None l m new within below makes = makes
-makes-below (Some o) l m new within below makes = record {
-  sound = below.sound;
-  laid = layers_hold.through o.keys l.keys l.from o.from m (with_layer o m) new l.puts o.puts below.laid within makes.laid;
-}
+-- what the layer makes of a state under others, whose keys it has, it makes of the state that is kept
+makes-below : (others : List LayerView) (l : LayerView) (m new : State) → AreWithin others l.keys → AreLaid others m → Makes l new (with_all others m) → Makes l new m
+makes-below [] l m new within below makes = makes
+makes-below (o ∷ os) l m new within below makes =
+    let rest : Makes l new (with_layer o m) = makes-below os l (with_layer o m) new within.1 below.1 makes in
+    record {
+      sound = below.0.sound;
+      laid = layers_hold.through o.keys l.keys l.from o.from m (with_layer o m) new l.puts o.puts below.0.laid within.0 rest.laid;
+    }
 
--- the layer makes the new state of a heap that is kept, if one is
-pub record StandsOver (own : Option LayerView) (l : LayerView) (kept : Option State) (new : State) : Type 0 where
-  pub is : option_map (with_layer l) kept ≡ option_map (λ (m : State). new) (option_map (with_layers own) kept)
-  pub below : AreLaidBelow (Some l) kept
+-- layers one behind the other
+all-both : (below others : List LayerView) (m : State) → with_all (below ++ others) m ≡ with_all others (with_all below m)
+all-both [] others m = refl
+all-both (b ∷ bs) others m = all-both bs others (with_layer b m)
 
-pub stands-over : (own : Option LayerView) (l : LayerView) (kept : Option State) (new : State) → IsWithin own l → AreLaidBelow own kept → IfSome (option_map (with_layers own) kept) (Makes l new) → StandsOver own l kept new
-stands-over own l None new within below makes = record { is = refl; below = tt }
-stands-over own l (Some m) new within below makes =
-    let here : Makes l new m = makes-below own l m new within below makes in
-    let is : with_layer l m ≡ new = layers_hold.made l m new here.laid here.sound in
-    record { is = ap Some is; below = subst (λ n. Makes l n m) (sym is) here }
+-- the lower ones can be laid over a state
+pub lower-laid : (below others : List LayerView) (m : State) → AreLaid (below ++ others) m → AreLaid below m
+lower-laid [] others m laid = tt
+lower-laid (b ∷ bs) others m laid = (laid.0, lower-laid bs others (with_layer b m) laid.1)
+
+-- and the others over what they make
+upper-laid : (below others : List LayerView) (m : State) → AreLaid (below ++ others) m → AreLaid others (with_all below m)
+upper-laid [] others m laid = laid
+upper-laid (b ∷ bs) others m laid = upper-laid bs others (with_layer b m) laid.1
+
+-- one more over them
+one-more : (below : List LayerView) (l : LayerView) (m : State) → AreLaid below m → Makes l (with_layer l (with_all below m)) (with_all below m) → AreLaid (below ++ l ∷ []) m
+one-more [] l m laid makes = (makes, tt)
+one-more (b ∷ bs) l m laid makes = (laid.0, one-more bs l (with_layer b m) laid.1 makes)
+
+-- the layer makes the new state of a heap that is kept, if one is, with what stays below it
+pub record StandsOver (own new : List LayerView) (kept : Option State) (made : State) : Type 0 where
+  pub is : option_map (with_all new) kept ≡ option_map (λ (m : State). made) (option_map (with_all own) kept)
+  pub below : IfSome kept (AreLaid new)
+
+pub stands-over : (own new : List LayerView) (l : LayerView) (kept : Option State) (made : State) → IsOver own l new → IfSome kept (AreLaid own) → IfSome (option_map (with_all own) kept) (Makes l made) → StandsOver own new kept made
+stands-over own new l None made over below makes = record { is = refl; below = tt }
+stands-over own new l (Some m) made over below makes =
+    let base = with_all over.below m in
+    let own-laid : AreLaid (over.below ++ over.others) m = subst (λ ls. AreLaid ls m) over.own_is below in
+    let top : with_all own m ≡ with_all over.others base = ap (λ ls. with_all ls m) over.own_is ∙ all-both over.below over.others m in
+    let here : Makes l made base = makes-below over.others l base made over.within (upper-laid over.below over.others m own-laid) (subst (Makes l made) top makes) in
+    let is : with_layer l base ≡ made = layers_hold.made l base made here.laid here.sound in
+    record {
+      is = ap Some (ap (λ ls. with_all ls m) over.new_is ∙ all-both over.below (l ∷ []) m ∙ is);
+      below = subst (λ ls. AreLaid ls m) (sym over.new_is) (one-more over.below l m (lower-laid over.below over.others m own-laid) (subst (λ n. Makes l n base) (sym is) here));
+    }
+
+-- one more layer whose keys are among these, behind others
+pub within-more : (ls : List LayerView) (l : LayerView) (keys : KeySet) → AreWithin ls keys → ((x : Key) → is_among l.keys x ≡ true → is_among keys x ≡ true) → AreWithin (ls ++ l ∷ []) keys
+within-more [] l keys within here = (here, tt)
+within-more (o ∷ os) l keys within here = (within.0, within-more os l keys within.1 here)
+
+-- the lower layers and the last one
+pub within-both : (ls others : List LayerView) (keys : KeySet) → AreWithin ls keys → AreWithin others keys → AreWithin (ls ++ others) keys
+within-both [] others keys within rest = rest
+within-both (o ∷ os) others keys within rest = (within.0, within-both os others keys within.1 rest)
+
+-- the heap that the lower ones make, which the last one can be laid over
+pub last-laid : (lower : List LayerView) (l : LayerView) (m : State) → AreLaid (lower ++ l ∷ []) m → Makes l (with_layer l (with_all lower m)) (with_all lower m)
+last-laid lower l m laid = (upper-laid lower (l ∷ []) m laid).0
+
+-- and what they make with it
+pub last-made : (lower : List LayerView) (l : LayerView) (m : State) → with_all (lower ++ l ∷ []) m ≡ with_layer l (with_all lower m)
+last-made lower l m = all-both lower (l ∷ []) m
+
+-- the item at a place stands for what the list of what they stand for has there
+at-place : {A : Type 0} (f : A → LayerView) (xs : List A) (i : ℕ) (x : A) (l : LayerView) → i < length xs → x ≡ get_or xs i x → l ≡ f x → get_or (map f xs) i (f x) ≡ l
+at-place f xs i x l lt is here = get_or-map f xs i x (f x) lt ∙ ap f (sym is) ∙ sym here
+
+-- as many as the items
+as-many : {A : Type 0} (f : A → LayerView) (xs : List A) (now : List LayerView) (i : ℕ) → map f xs ≡ now → i < length now → i < length (map f xs)
+as-many f xs now i whole lt = subst (λ ls. i < length ls) (sym whole) lt
+
+-- the layers from a place on: the one there, and those behind it
+pub from-place : {A : Type 0} (f : A → LayerView) (xs : List A) (now : List LayerView) (i : ℕ) (x : A) (l : LayerView) → map f xs ≡ now → i < length now → x ≡ get_or xs i x → l ≡ f x → drop i now ≡ l ∷ drop (i + 1) now
+from-place f xs now i x l whole lt is here =
+    let many = as-many f xs now i whole lt in
+    subst (λ ls. drop i ls ≡ l ∷ drop (i + 1) ls) whole (drop_more (map f xs) i (f x) many ∙ ap (λ v. v ∷ drop (i + 1) (map f xs)) (at-place f xs i x l (subst (λ n. i < n) (length-map xs f) many) is here))
+
+-- the layers up to a place and the one there
+pub to-place : {A : Type 0} (f : A → LayerView) (xs : List A) (now : List LayerView) (i : ℕ) (x : A) (l : LayerView) → map f xs ≡ now → i < length now → x ≡ get_or xs i x → l ≡ f x → take (i + 1) now ≡ take i now ++ l ∷ []
+to-place f xs now i x l whole lt is here =
+    let many = as-many f xs now i whole lt in
+    subst (λ ls. take (i + 1) ls ≡ take i ls ++ l ∷ []) whole (take_more (map f xs) i (f x) many ∙ ap (λ v. take i (map f xs) ++ v ∷ []) (at-place f xs i x l (subst (λ n. i < n) (length-map xs f) many) is here))
 
 -- what stands in a heap at some keys and at others can be laid over each state that differs from it at no more than those, and makes the heap
 pub layer-laid : (l : LayerView) (keys : KeySet) (old heap : State) → l.from ≡ heap → ((x : Key) → is_among keys x ≡ true → is_among l.keys x ≡ true) → IsSound heap [] → ArePuts (λ h. has h l.keys.handles) l.from l.puts
@@ -41,12 +109,8 @@ layer-laid l keys old heap from within sound puts differ =
     subst (λ (m : State). IsLaid l.keys old m l.puts heap) (sym from)
     (layers_hold.start l.keys old heap l.puts (layers_hold.more keys l.keys old heap differ within) sound (subst (λ (m : State). ArePuts (λ h. has h l.keys.handles) m l.puts) from puts))
 
--- a key of the first set is one of both
-pub first-of-both : (a b : Bool) → a ≡ true → (a || b) ≡ true
-first-of-both a b t = ap (λ c. c || b) t
-
 -- a heap with nothing over it stands as it is
-pub none-laid : (kept : Option State) → AreLaidBelow None kept
+pub none-laid : (kept : Option State) → AreLaidBelow [] kept
 none-laid None = tt
 none-laid (Some m) = tt
 

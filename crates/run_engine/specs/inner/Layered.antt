@@ -1,34 +1,56 @@
--- Heaps of segments that are kept as older ones, over which a layer lies.
-use Rattle.std.specs.Prelude.{◌≡◌, [], true, Option, Some, None, IfSome, option_map}
+-- Heaps of segments that are kept as older ones, over which layers lie.
+use Rattle.std.specs.Prelude.{◌≡◌, ◌++◌, ◌∷◌, [], List, true, Option, Some, None, IfSome, option_map, option_to_list}
 use Rattle.ownership_model.specs.declared.key.Key.{Key}
 use Rattle.ownership_model.specs.State.{State, IsSound}
+use Rattle.heap_difference.specs.declared.key_set.KeySet.{KeySet}
 use Rattle.heap_difference.specs.KeySets.{is_among}
 use Rattle.heap_difference.specs.Layers.{LayerView, with_layer, IsLaidBy}
 use Rattle.run_engine.specs.SegmentView.{SegmentView}
 
--- the state that is meant: the layer is laid over it, if there is one
-abbrev pub with_layers : Option LayerView → State → State
-with_layers None m = m
-with_layers (Some l) m = with_layer l m
+-- the state with the layers laid over it, the first of them first
+abbrev pub with_all : List LayerView → State → State
+with_all [] m = m
+with_all (l ∷ ls) m = with_all ls (with_layer l m)
+
+-- the layers, if there are any
+abbrev pub stacked : Option (List LayerView) → List LayerView
+stacked None = []
+stacked (Some ls) = ls
+
+-- the lower layers, and then the last one
+abbrev pub covering : Option (List LayerView) → Option LayerView → List LayerView
+covering lower top = stacked lower ++ option_to_list top
 
 -- the layer makes the new state of the old one, which is sound
 pub record Makes (l : LayerView) (new old : State) : Type 0 where
   pub sound : IsSound old []
   pub laid : IsLaidBy l old new
 
--- it can be laid over the state
-abbrev pub IsLaidBelow : Option LayerView → State → Type 0
-IsLaidBelow None m = Unit {0}
-IsLaidBelow (Some l) m = Makes l (with_layer l m) m
+-- each can be laid over what those before it make of the state
+abbrev pub AreLaid : List LayerView → State → Type 0
+AreLaid [] m = Unit {0}
+AreLaid (l ∷ ls) m = Makes l (with_layer l m) m × AreLaid ls (with_layer l m)
 
--- so it can over one that is kept
-abbrev pub AreLaidBelow : Option LayerView → Option State → Type 0
-AreLaidBelow l kept = IfSome kept (IsLaidBelow l)
+-- so they can over one that is kept
+abbrev pub AreLaidBelow : List LayerView → Option State → Type 0
+AreLaidBelow ls kept = IfSome kept (AreLaid ls)
+
+-- all keys of the layers are among these
+abbrev pub AreWithin : List LayerView → KeySet → Type 0
+AreWithin [] keys = Unit {0}
+AreWithin (l ∷ ls) keys = ((x : Key) → is_among l.keys x ≡ true → is_among keys x ≡ true) × AreWithin ls keys
 
 -- all keys of the layer, if there is one, are among those of the other
 abbrev pub IsWithin : Option LayerView → LayerView → Type 0
-IsWithin None other = Unit {0}
-IsWithin (Some l) other = (x : Key) → is_among l.keys x ≡ true → is_among other.keys x ≡ true
+IsWithin layer other = AreWithin (option_to_list layer) other.keys
+
+-- the layer lies over the lowest of these, in place of the others, all of whose keys it has
+pub record IsOver (own : List LayerView) (l : LayerView) (new : List LayerView) : Type 0 where
+  pub below : List LayerView
+  pub others : List LayerView
+  pub own_is : own ≡ below ++ others
+  pub within : AreWithin others l.keys
+  pub new_is : new ≡ below ++ l ∷ []
 
 -- the layer makes the new state of the segment's checkpoint and anchor, if they are kept
 pub record CanStand (l : LayerView) (s : SegmentView) (new : State) : Type 0 where

@@ -27,7 +27,7 @@ use std::sync::Arc;
 /// The part of an old stretch that begins at an old checkpoint or anchor, to go on with from a heap that differs there at some keys: its
 /// segments are known to touch none of them. It ends where the old stretch does, or at the last anchor before a segment that may touch one.
 /// If not even 64 operations stand before that, and the old stretch is longer, there is none. A handle that differs is to be found soon in its
-/// scope, and few keys lie over the first segment.
+/// scope, and the layer has few keys.
 ///
 /// The operations and outcomes are shared. The heap where it begins becomes a checkpoint, old anchors stay under one layer, with what differs, and the
 /// heap behind it alone is made.
@@ -122,7 +122,7 @@ fn part_under(
             done = done.append(alloc, open)?;
             open = Segments::empty(alloc);
         }
-        let next = bare_under(revision, i, layer)?;
+        let next = bare_under(alloc, revision, i, layer)?;
         let Some(next) = next else {
             return Ok(done);
         };
@@ -154,6 +154,7 @@ fn first_under(
 // The old segment at an index, which has no checkpoint, as it stands under the layer, if it touches no key of the layer, nor a handle just under
 // one that is put in.
 fn bare_under(
+    alloc: Global,
     revision: &Revision,
     i: usize,
     layer: &Arc<Layer>,
@@ -168,5 +169,5 @@ fn bare_under(
     if !is_clear(&segment, layer) {
         return Ok(None);
     }
-    segment.under(layer)
+    segment.under(alloc, layer)
 }

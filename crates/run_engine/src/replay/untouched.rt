@@ -32,7 +32,7 @@ use ownership_model::Key;
 use std::alloc::{AllocError, Global};
 use std::sync::Arc;
 
-/// How many keys are laid over a heap that is kept at most, from edit to edit, before its operations are stepped again.
+/// How many keys a layer has at most. Where more would lie over a heap that is kept its operations are stepped again.
 const MOST_LAID: usize = 64;
 
 /// How many stretches are taken over at once at most.
@@ -43,7 +43,7 @@ const NEAR: usize = 32;
 
 /// The old stretches, one behind the other, that begin at an old checkpoint, to go on with from a heap that differs there at some keys: each
 /// is one segment, ends at the next checkpoint, and is known to touch none of these keys. A handle that differs is to be found soon in its
-/// scope, and few keys lie over the first of them.
+/// scope, and the layer has few keys.
 ///
 /// Their operations and outcomes are shared. Their heaps are the old ones under one layer, with what differs: none is made but that behind the
 /// last, and it is compared with the old one there. While they may agree, half as many are tried. Old anchors stay.
@@ -89,8 +89,8 @@ pub fn untouched_stretches(
     Ok(None)
 }
 
-/// What stands in a heap at some keys, and at those that lie over the heap that is kept for the old segment at an index: none where these are
-/// too many, or where a handle is far from the end of its scope.
+/// What stands in a heap at some keys, and, where one more layer has no room over the heap that is kept for the old segment at an index, at the keys of
+/// all that lie there: none where these keys are too many, or where a handle is far from the end of its scope.
 pub fn layer_of(
     alloc: Global,
     revision: &Revision,
@@ -105,10 +105,7 @@ pub fn layer_of(
     ensures laid { IfOk result (λ o. IfSome o (λ l. (old : State) →
         IsDifference keys.now old heap.now → IsLaidBy (arc_value l) old heap.now)) }
 {
-    let all = match revision.segments.at(index).layer() {
-        None => keys.joined(alloc, &KeySet::none(alloc))?,
-        Some(layer) => keys.joined(alloc, layer.keys())?,
-    };
+    let all = revision.segments.at(index).cover().wanted(alloc, keys)?;
     if all.len() > MOST_LAID || !are_near(heap, &all.handles) {
         return Ok(None);
     }
@@ -139,7 +136,7 @@ fn stretches_under(
     let end = revision.segments.len().min(index.saturating_add(most));
     let mut run = Segments::empty(alloc);
     for i in index..end {
-        let segment = stretch_under(revision, i, layer)?;
+        let segment = stretch_under(alloc, revision, i, layer)?;
         match segment {
             None => return Ok(run),
             Some(segment) => run = run.push(alloc, segment)?,
@@ -151,6 +148,7 @@ fn stretches_under(
 // The old segment at an index as it begins under the layer, if it may be taken over: it has its checkpoint, and so has the next one, or it is
 // the last, and it touches no key of the layer, nor a handle just under one that is put in.
 fn stretch_under(
+    alloc: Global,
     revision: &Revision,
     i: usize,
     layer: &Arc<Layer>,
@@ -170,7 +168,7 @@ fn stretch_under(
     if !is_clear(&segment, layer) {
         return Ok(None);
     }
-    segment.under(layer)
+    segment.under(alloc, layer)
 }
 
 /// Whether it is known that a segment touches no key of the layer, nor a handle just under one that is put in.

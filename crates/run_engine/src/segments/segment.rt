@@ -13,7 +13,8 @@ ghost use Rattle.run_engine.specs.inner.Cleared.{last_name};
 ghost use Rattle.run_engine.specs.inner.Touching.{shared_keys, IsFiltered};
 
 use crate::segments::bounds::{Bounds, bounds_of};
-use crate::segments::kept::{Kept, is_within, layer_in, shared_layer};
+use crate::segments::cover::Cover;
+use crate::segments::kept::Kept;
 use heap_difference::{Filter, Layer};
 use object_heap::Heap;
 use op_step::{ChunkRun, Replayed};
@@ -26,13 +27,13 @@ use trace_types::outcomes::Outcome;
 use trace_types::sequence::Sequence;
 
 /// Operations with their outcomes, and the heap where they begin, if that is kept: as a checkpoint, as an anchor, or as both. It may be kept
-/// as an older one with a layer over it. The versions of a run share all of it: one more of a segment takes a count for each.
+/// as an older one with layers over it. The versions of a run share all of it: one more of a segment takes a count for each.
 #[derive(Drop)]
 pub struct Segment {
     mark: Option<Arc<Heap>>,
     anchor: Option<Arc<Heap>>,
     // what is laid over both
-    layer: Option<Arc<Layer>>,
+    cover: Cover,
     // what was told of the operations that they touch, move or copy, and neither they nor their outcomes name, if that is known: in any
     // order, and perhaps more than once
     keys: Option<Arc<Vec<Key>>>,
@@ -56,11 +57,11 @@ impl Model for Segment {
     ghost use Rattle.run_engine.specs.inner.Parts.{AreBetween};
     ghost use Rattle.run_engine.specs.inner.Cleared.{last_name};
     ghost use Rattle.run_engine.specs.inner.Touching.{shared_keys, IsFiltered};
-    ghost use Rattle.run_engine.specs.inner.Layered.{with_layers, AreLaidBelow};
+    ghost use Rattle.run_engine.specs.inner.Layered.{with_all, AreLaidBelow};
 
     ghost view = { λ s. record {
-      mark = option_map (with_layers (option_map arc_value s.layer)) (option_map arc_value s.mark);
-      anchor = option_map (with_layers (option_map arc_value s.layer)) (option_map arc_value s.anchor);
+      mark = option_map (with_all s.cover) (option_map arc_value s.mark);
+      anchor = option_map (with_all s.cover) (option_map arc_value s.anchor);
       keys = shared_keys s.keys;
       ops = (arc_value s.body).ops.items;
       outcomes = (arc_value s.body).outcomes;
@@ -69,8 +70,8 @@ impl Model for Segment {
     ghost invariant = { λ s.
         AreBetween s.bounds.least s.bounds.greatest (arc_value s.body).ops.items
         × (s.last ≡ last_name (arc_value s.body).ops.items)
-        × AreLaidBelow (option_map arc_value s.layer) (option_map arc_value s.mark)
-        × AreLaidBelow (option_map arc_value s.layer) (option_map arc_value s.anchor)
+        × AreLaidBelow s.cover (option_map arc_value s.mark)
+        × AreLaidBelow s.cover (option_map arc_value s.anchor)
         × IsFiltered (option_map arc_value s.filter) (shared_keys s.keys)
         (arc_value s.body).ops.items (arc_value s.body).outcomes };
 }
@@ -96,7 +97,7 @@ impl Segment {
         Ok(Segment {
             mark: Some(mark),
             anchor,
-            layer: None,
+            cover: Cover::nothing(),
             keys: Some(Arc::try_clone(chunk.keys())?),
             body: Arc::try_clone(chunk.replayed())?,
             filter: None,
@@ -132,7 +133,7 @@ impl Segment {
         Ok(Segment {
             mark: None,
             anchor,
-            layer: None,
+            cover: Cover::nothing(),
             keys: Some(Arc::new(alloc, told)?),
             body: Arc::new(alloc, Replayed { ops, outcomes })?,
             filter: None,
@@ -161,7 +162,7 @@ impl Segment {
         Ok(Segment {
             mark: share_of(&self.mark)?,
             anchor: share_of(&self.anchor)?,
-            layer: shared_layer(&self.layer)?,
+            cover: self.cover.share()?,
             keys: keys_of(&self.keys)?,
             body: Arc::try_clone(&self.body)?,
             filter: shared_filter(&self.filter)?,
@@ -177,7 +178,7 @@ impl Segment {
         Ok(Segment {
             mark: None,
             anchor: share_of(&self.anchor)?,
-            layer: shared_layer(&self.layer)?,
+            cover: self.cover.share()?,
             keys: keys_of(&self.keys)?,
             body: Arc::try_clone(&self.body)?,
             filter: shared_filter(&self.filter)?,
@@ -187,9 +188,8 @@ impl Segment {
     }
 
     /// The same operations and outcomes where they begin with the heap that a layer makes of their own one: all
-    /// is shared, and no heap is made. Where no heap is kept it is the same segment. None if something is laid over it already that is not among the
-    /// layer's keys.
-    pub fn under(&self, layer: &Arc<Layer>) -> Result<Option<Self>, AllocError>
+    /// is shared, and no heap is made. Where no heap is kept it is the same segment. None if too much is laid over it already.
+    pub fn under(&self, alloc: Global, layer: &Arc<Layer>) -> Result<Option<Self>, AllocError>
         requires { MayStand (arc_value layer.now) self.now }
         ensures { IfOk result (λ o. IfSome o (λ s. (new : State) →
             CanStand (arc_value layer.now) self.now new → s ≡ standing_at new self.now)) }
@@ -197,13 +197,13 @@ impl Segment {
         if !self.has_heap() {
             return Ok(Some(self.share()?));
         }
-        if !is_within(&self.layer, layer) {
+        let Some(cover) = self.cover.under(alloc, layer)? else {
             return Ok(None);
-        }
+        };
         Ok(Some(Segment {
             mark: share_of(&self.mark)?,
             anchor: share_of(&self.anchor)?,
-            layer: Some(Arc::try_clone(layer)?),
+            cover,
             keys: keys_of(&self.keys)?,
             body: Arc::try_clone(&self.body)?,
             filter: shared_filter(&self.filter)?,
@@ -222,7 +222,7 @@ impl Segment {
         Ok(Segment {
             mark: Some(mark),
             anchor,
-            layer: None,
+            cover: Cover::nothing(),
             keys: keys_of(&self.keys)?,
             body: Arc::try_clone(&self.body)?,
             filter: shared_filter(&self.filter)?,
@@ -254,9 +254,9 @@ impl Segment {
         self.mark.is_some() || self.anchor.is_some()
     }
 
-    /// What is laid over its checkpoint and its anchor, if anything is. It is a hint.
-    pub fn layer(&self) -> Option<&Layer> {
-        layer_in(&self.layer)
+    /// What is laid over its checkpoint and its anchor. It is a hint.
+    pub fn cover(&self) -> &Cover {
+        &self.cover
     }
 
     /// The heap that is kept for its checkpoint, before anything is laid over it. It is a hint.
@@ -340,7 +340,7 @@ impl Segment {
     {
         match &self.anchor {
             None => None,
-            Some(heap) => Some(Kept::new(heap, layer_in(&self.layer))),
+            Some(heap) => Some(Kept::new(heap, &self.cover)),
         }
     }
 
@@ -357,7 +357,7 @@ impl Segment {
     {
         match &self.mark {
             None => None,
-            Some(heap) => Some(Kept::new(heap, layer_in(&self.layer))),
+            Some(heap) => Some(Kept::new(heap, &self.cover)),
         }
     }
 }

@@ -10,6 +10,7 @@ ghost use Rattle.run_engine.specs.inner.Touching.{IsFiltered};
 ghost use Rattle.run_engine.specs.inner.Blocks.{laid_over, AreSoundBelow};
 ghost use Rattle.run_engine.specs.inner.Layered.{standing_at, started_at, CanStand, MayStand};
 
+use crate::segments::cover::Cover;
 use crate::segments::mark::Mark;
 use crate::segments::segment::Segment;
 use agreement::Exchange;
@@ -128,8 +129,8 @@ impl<'a> Standing<'a> {
     }
 
     /// The same operations and outcomes where they begin with the heap that a layer makes of their own one: all
-    /// is shared, and no heap is made. None if something is laid over it that is not among the layer's keys, or is exchanged.
-    pub fn under(&self, layer: &Arc<Layer>) -> Result<Option<Segment>, AllocError>
+    /// is shared, and no heap is made. None if too much is laid over it, or something is exchanged.
+    pub fn under(&self, alloc: Global, layer: &Arc<Layer>) -> Result<Option<Segment>, AllocError>
         requires { MayStand (arc_value layer.now) self.now }
         ensures { IfOk result (λ o. IfSome o (λ s. (new : State) →
             CanStand (arc_value layer.now) self.now new → s ≡ standing_at new self.now)) }
@@ -139,9 +140,9 @@ impl<'a> Standing<'a> {
         }
         if self.is_given_up {
             let bare = self.segment.without_mark()?;
-            return bare.under(layer);
+            return bare.under(alloc, layer);
         }
-        self.segment.under(layer)
+        self.segment.under(alloc, layer)
     }
 
     /// Its operations with their outcomes as a chunk, from the heap where they begin to the one behind them: all is shared. None if it isn't known what
@@ -158,9 +159,9 @@ impl<'a> Standing<'a> {
         }
     }
 
-    /// What is laid over its checkpoint and its anchor, if anything is. It is a hint.
-    pub fn layer(&self) -> Option<&'a Layer> {
-        self.segment.layer()
+    /// What is laid over its checkpoint and its anchor. It is a hint.
+    pub fn cover(&self) -> &'a Cover {
+        self.segment.cover()
     }
 
     /// The heap that is kept for its checkpoint, before anything is laid over it or exchanged. It is a hint.

@@ -2,18 +2,12 @@ use Rattle.std.proofs.Common.{◌≡◌, true, ap, sym, subst, ◌∙◌}
 use Rattle.ownership_model.specs.declared.key.Key.{Key}
 use Rattle.heap_difference.specs.KeySets.{is_among}
 use Rattle.heap_difference.specs.Layers.{LayerView, IsLaidBy}
-use Rattle.run_engine.proofs.LayeredLemmas.{layer-laid, first-of-both}
-use Rattle.run_engine.proofs.replay.untouched.layer_of.Goals.{in-None+in_ok-all-in-None, in-Some+in_ok-all-in-Some}
+use Rattle.run_engine.proofs.LayeredLemmas.{layer-laid}
 use Rattle.run_engine.proofs.replay.untouched.layer_of.Goals as goal
 
 -- the layer has the keys
 within : (c : goal.In_ok-new) → (x : Key) → is_among c.args.keys.now x ≡ true → is_among c.in_ok-layer.layer.keys x ≡ true
-within c x t =
-    ap (λ d. is_among d x) c.in_ok-layer.ensures.keys
-    ∙ elim c.match-layer.branch [
-      | in-None+in_ok-all-in-None w ↦ rw w.all-is (w.in_ok-all-in-None.ensures x ∙ first-of-both _ _ t)
-      | in-Some+in_ok-all-in-Some w ↦ rw w.all-is (w.in_ok-all-in-Some.ensures x ∙ first-of-both _ _ t)
-    ]
+within c x t = ap (λ d. is_among d x) c.in_ok-layer.ensures.keys ∙ c.in_ok-all.ensures x t
 
 pub returns-clause-within : goal.returns-clause-within
 returns-clause-within c = λ x t. subst (λ (l : LayerView). is_among l.keys x ≡ true) (sym c.in_ok-new.ensures.ok) (within c x t)

@@ -6,7 +6,7 @@ pub invariant_of-result : goal.invariant_of-result
 invariant_of-result c = (
   search rules,
   search rules,
-  tt,
-  none-laid _,
+  rw c.nothing.ensures tt,
+  rw c.nothing.ensures (none-laid _),
   tt,
 )

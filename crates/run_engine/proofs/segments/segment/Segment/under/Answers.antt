@@ -2,40 +2,41 @@ use Rattle.std.proofs.Common.{◌≡◌, sym, subst, ◌∙◌}
 use Rattle.std.specs.Prelude.{IfSome, option_map}
 use Rattle.std.specs.Arc.{arc_value}
 use Rattle.ownership_model.specs.State.{State}
-use Rattle.heap_difference.specs.Layers.{with_layer}
 use Rattle.run_engine.specs.SegmentView.{SegmentView}
-use Rattle.run_engine.specs.inner.Layered.{Makes, IsWithin, CanStand, standing_at}
+use Rattle.run_engine.specs.inner.Layered.{with_all, Makes, IsOver, CanStand, standing_at}
 use Rattle.run_engine.specs.inner.Touching.{shared_keys}
 use Rattle.run_engine.proofs.LayeredLemmas.{StandsOver, stands-over, stands-bare}
 use Rattle.run_engine.proofs.segments.segment.Segment.under.Goals as goal
 
--- the layer makes the new state of the checkpoint that is kept
-mark-over : (c : goal.After-result-3-1) → (new : State) → CanStand (arc_value c.args.layer.now) c.args.self.now new → StandsOver (option_map arc_value c.self.inside.layer) (arc_value c.args.layer.now) (option_map arc_value c.self.inside.mark) new
+-- the layer lies over those that stay
+over : (c : goal.After-result-3-1) → IsOver c.self.inside.cover (arc_value c.args.layer.now) c.in-Some.cover
+over c = subst (λ o. IfSome o (IsOver c.self.inside.cover (arc_value c.args.layer.now))) c.in-Some.is c.in_ok-cover.ensures
+
+-- they make the new state of the checkpoint that is kept
+mark-over : (c : goal.After-result-3-1) → (new : State) → CanStand (arc_value c.args.layer.now) c.args.self.now new → StandsOver c.self.inside.cover c.in-Some.cover (option_map arc_value c.self.inside.mark) new
 mark-over c new can =
-    stands-over (option_map arc_value c.self.inside.layer) (arc_value c.args.layer.now) (option_map arc_value c.self.inside.mark) new
-    (subst (IsWithin (option_map arc_value c.self.inside.layer)) c.deref.ensures (c.is_within.ensures c.if-not-is_within.false))
+    stands-over c.self.inside.cover c.in-Some.cover (arc_value c.args.layer.now) (option_map arc_value c.self.inside.mark) new (over c)
     c.self.invariant.2
     (subst (λ (s : SegmentView). IfSome s.mark (Makes (arc_value c.args.layer.now) new)) (sym c.self.view_is) can.mark)
 
 -- and of the anchor
-anchor-over : (c : goal.After-result-3-1) → (new : State) → CanStand (arc_value c.args.layer.now) c.args.self.now new → StandsOver (option_map arc_value c.self.inside.layer) (arc_value c.args.layer.now) (option_map arc_value c.self.inside.anchor) new
+anchor-over : (c : goal.After-result-3-1) → (new : State) → CanStand (arc_value c.args.layer.now) c.args.self.now new → StandsOver c.self.inside.cover c.in-Some.cover (option_map arc_value c.self.inside.anchor) new
 anchor-over c new can =
-    stands-over (option_map arc_value c.self.inside.layer) (arc_value c.args.layer.now) (option_map arc_value c.self.inside.anchor) new
-    (subst (IsWithin (option_map arc_value c.self.inside.layer)) c.deref.ensures (c.is_within.ensures c.if-not-is_within.false))
+    stands-over c.self.inside.cover c.in-Some.cover (arc_value c.args.layer.now) (option_map arc_value c.self.inside.anchor) new (over c)
     c.self.invariant.3
     (subst (λ (s : SegmentView). IfSome s.anchor (Makes (arc_value c.args.layer.now) new)) (sym c.self.view_is) can.anchor)
 
 pub invariant_of-result : goal.invariant_of-result
 invariant_of-result c =
-    rw (c.in_ok-share_of.ensures, c.in_ok-share_of-2.ensures, c.in_ok-try_clone.ensures, c.in_ok-try_clone-2.ensures, c.in_ok-keys_of.ensures, c.in_ok-shared_filter.ensures)
+    rw (c.in_ok-share_of.ensures, c.in_ok-share_of-2.ensures, c.cover.view_is, c.in_ok-try_clone.ensures, c.in_ok-keys_of.ensures, c.in_ok-shared_filter.ensures)
     (c.self.invariant.0, c.self.invariant.1, (mark-over c c.requires.new c.requires.is).below, (anchor-over c c.requires.new c.requires.is).below, c.self.invariant.4)
 
 pub returns : goal.returns
 returns c = λ new can.
-    rw (c.in_ok-share_of.ensures, c.in_ok-share_of-2.ensures, c.in_ok-try_clone.ensures, c.in_ok-keys_of.ensures, c.in_ok-try_clone-2.ensures)
+    rw (c.in_ok-share_of.ensures, c.in_ok-share_of-2.ensures, c.in_ok-try_clone.ensures, c.in_ok-keys_of.ensures, c.cover.view_is)
     (subst (λ (s : SegmentView). record {
-      mark = option_map (with_layer (arc_value c.args.layer.now)) (option_map arc_value c.self.inside.mark);
-      anchor = option_map (with_layer (arc_value c.args.layer.now)) (option_map arc_value c.self.inside.anchor);
+      mark = option_map (with_all c.in-Some.cover) (option_map arc_value c.self.inside.mark);
+      anchor = option_map (with_all c.in-Some.cover) (option_map arc_value c.self.inside.anchor);
       keys = shared_keys c.self.inside.keys;
       ops = (arc_value c.self.inside.body).ops.items;
       outcomes = (arc_value c.self.inside.body).outcomes;
