@@ -1,6 +1,6 @@
 //! A difference that lasts to the end: what doesn't touch it is taken over, and what touches it is stepped.
 use crate::small_runs::{counts, did, is_replay, tells, with_both, with_edited};
-use crate::small_traces::{add, add_pairs, batch, change, insertion, new, two};
+use crate::small_traces::{add, add_of, add_pairs, batch, change, insertion, new, op_of, two};
 use run_engine::Run;
 use std::alloc::Global;
 use std::process::Abort;
@@ -62,6 +62,31 @@ fn handle_fewer_stays(rt: HostRuntime) -> Result<(), Fail> {
     let alloc = rt.alloc();
     let edits = batch(alloc, Edit::Remove { id: 4 })?;
     assert_stepped(&rt, alloc, Kind::Counts { h: 0 }, edits, 63)
+}
+
+// These, then sixty handles of another scope, and pairs of operations.
+fn with_sixty(alloc: Global) -> Result<Trace, Fail> {
+    let mut trace = Trace::new(alloc);
+    add_first(alloc, &mut trace)?;
+    for id in 5..=64u32 {
+        add_of(&mut trace, id, 1, Kind::Null { to: 100 + id })?;
+    }
+    add_pairs(alloc, &mut trace, 65, 4_100)?;
+    Ok(trace)
+}
+
+// A handle more at the bottom of that scope, under the sixty.
+#[test]
+fn handle_under_sixty_stays(rt: HostRuntime) -> Result<(), Fail> {
+    let alloc = rt.alloc();
+    let op = op_of(5_000, 1, Kind::Null { to: 30 })?;
+    let edits = batch(alloc, Edit::Insert { after: 4, op })?;
+    let trace = with_sixty(alloc)?;
+    with_both(alloc, trace, edits, |_, edited, steps| {
+        assert_eq!(rt; steps, 65);
+        assert!(rt; is_replay(alloc, edited)?);
+        Ok(())
+    })
 }
 
 // The object has one holder more. The last stretch, of five operations, asks for that.

@@ -39,7 +39,7 @@ const MOST_LAID: usize = 64;
 const MOST_STRETCHES: usize = 256;
 
 /// How many handles are gone over at most to find the place of one in its scope.
-const NEAR: usize = 32;
+const NEAR: usize = 128;
 
 /// The old stretches, one behind the other, that begin at an old checkpoint, to go on with from a heap that differs there at some keys: each
 /// is one segment, ends at the next checkpoint, and is known to touch none of these keys. A handle that differs is to be found soon in its
