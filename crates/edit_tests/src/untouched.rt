@@ -184,6 +184,33 @@ fn all_is_stepped_after_many_looks_in_vain(rt: HostRuntime) -> Result<(), Fail> 
     assert_asked(&rt, alloc, 64, 2_048, 4_097)
 }
 
+// In each stretch one operation asks for the first object's counts by the handle just under one that is more. So many operations are stepped if
+// the trace ends with this one.
+fn assert_used(rt: &impl Abort, alloc: Global, last: Kind, due: u64) -> Result<(), Fail> {
+    let edits = batch(alloc, insertion(1, 5_000, Kind::Null { to: 30 })?)?;
+    let mut trace = asked(alloc, 5, 4_097)?;
+    add(&mut trace, 4_097, last)?;
+    with_both(alloc, trace, edits, |_, edited, steps| {
+        assert_eq!(rt; steps, due);
+        assert!(rt; is_replay(alloc, edited)?);
+        Ok(())
+    })
+}
+
+// The handle under it is used everywhere, and stays where it stands: all stretches but the first are taken over.
+#[test]
+fn handle_under_one_more_is_used(rt: HostRuntime) -> Result<(), Fail> {
+    let alloc = rt.alloc();
+    assert_used(&rt, alloc, Kind::Clone { from: 0, to: 31 }, 65)
+}
+
+// It ends in the last stretch, of one operation: this is stepped too.
+#[test]
+fn handle_under_one_more_ends(rt: HostRuntime) -> Result<(), Fail> {
+    let alloc = rt.alloc();
+    assert_used(&rt, alloc, Kind::Drop { h: 0 }, 66)
+}
+
 // An object by handle 0, which holds itself and one by handle 1, and pairs of operations up to one with a number. Among these the first
 // handle ends.
 fn cycle_left(alloc: Global) -> Result<Trace, Fail> {

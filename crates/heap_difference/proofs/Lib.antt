@@ -5,6 +5,8 @@ pub mod NamingLemmas
 pub mod SiftLemmas
 pub mod FoundLemmas
 pub mod LawLemmas
+pub mod EndingLemmas
+pub mod MayEndLemmas
 pub mod PutLemmas
 pub mod LaidLemmas
 pub mod PuttingLemmas

@@ -33,7 +33,7 @@ distinct_scope t [] once = tt
 distinct_scope t (s ∷ ss) once =
     distinct_next t s ss (s.label == t) (absent s.handle t ss (no_times s ss s.handle once (itself s.handle))) (distinct_scope t ss (once_rest s ss once))
 
-some_same : (a b : ℕ) → Some a ≡ Some b → a ≡ b
+pub some_same : (a b : ℕ) → Some a ≡ Some b → a ≡ b
 some_same a b e = ap (λ (x : Option ℕ). of x) e
   where
     of : Option ℕ → ℕ

@@ -15,7 +15,7 @@ use Rattle.heap_difference.specs.declared.key_set.KeySet.{KeySet}
 use Rattle.heap_difference.specs.KeySets.{is_among, meet}
 use Rattle.heap_difference.specs.Differences.{IsDifference}
 use Rattle.heap_difference.specs.Laws.{HasTouched}
-use Rattle.heap_difference.specs.Puts.{ArePuts, AreUndersApart}
+use Rattle.heap_difference.specs.Puts.{ArePuts, DoUndersStay}
 use Rattle.heap_difference.specs.Laid.{IsLaid, CanBeLaid}
 
 -- keys, the state that has what is laid at them, and its handles among them, with where they stand
@@ -51,13 +51,13 @@ CanBeLaidBy l old = CanBeLaid l.keys old l.from l.puts
 
 -- What is known of layers. Where a state is an old one with a layer laid over it, it is what laying makes. A set with more keys than a
 -- difference is one as well. What a state has at its difference from an old one can be laid over that, and makes the state itself. So it
--- stays for what both become by operations that touch none of the keys, and no handle just under one that is put in. What makes the new state
--- of a middle one makes it of an old one too, if old and middle differ at its keys alone
+-- stays for what both become by operations that touch none of the keys, and none of the handles just under those that are put in, or may end none
+-- of these by what they name. What makes the new state of a middle one makes it of an old one too, if old and middle differ at its keys alone
 pub record LayersHold : Type 0 where
   pub made : (l : LayerView) (old m : State) → IsLaidBy l old m → IsSound old [] → with_layer l old ≡ m
   pub more : (d e : KeySet) (m n : State) → IsDifference d m n → ((x : Key) → is_among d x ≡ true → is_among e x ≡ true) → IsDifference e m n
   pub start : (d : KeySet) (old new : State) (puts : List Put) → IsDifference d old new → IsSound new [] → ArePuts (λ h. has h d.handles) new puts → IsLaid d old new puts new
-  pub on : (d keys : KeySet) (from old new : State) (puts : List Put) (ops : List Operation) → IsLaid d old from puts new → HasTouched keys old ops → meet d keys ≡ false → AreUndersApart keys puts
+  pub on : (d keys : KeySet) (from old new : State) (puts : List Put) (ops : List Operation) → IsLaid d old from puts new → HasTouched keys old ops → meet d keys ≡ false → DoUndersStay keys ops puts
       → IsSound old [] → IsTrue (has_distinct_numbers ops) → AreUnused old ops → AreUnused new ops → IsLaid d (end_from old ops) from puts (end_from new ops)
   pub through : (d e : KeySet) (from other old mid new : State) (puts others : List Put) → IsLaid d old other others mid → ((x : Key) → is_among d x ≡ true → is_among e x ≡ true)
       → IsLaid e mid from puts new → IsLaid e old from puts new

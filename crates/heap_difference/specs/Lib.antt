@@ -3,6 +3,7 @@ pub mod Differences
 pub mod Laws
 pub mod Naming
 pub mod Sifts
+pub mod Endings
 pub mod Puts
 pub mod Laid
 pub mod Layers

@@ -1,6 +1,6 @@
 -- How the scopes of the new state are made out of the old ones: all handles that differ go, and those that the new state holds are put in,
 -- one after another (profile of this project).
-use Rattle.std.specs.Prelude.{ℕ, ◌≡◌, ◌==◌, List, [], ◌∷◌, Option, Some, None, Bool, true, false, not, filter, flat_map, option_to_list, if◌then◌else◌, IsTrue}
+use Rattle.std.specs.Prelude.{ℕ, ◌≡◌, ◌==◌, ◌⊎◌, List, [], ◌∷◌, Option, Some, None, Bool, true, false, not, filter, flat_map, option_to_list, if◌then◌else◌, IsTrue}
 use Rattle.std.specs.FinMap.{get}
 use Rattle.trace_types.specs.Operation.{Operation}
 use Rattle.trace_types.specs.Trace.{has_distinct_numbers}
@@ -15,6 +15,7 @@ use Rattle.object_heap.specs.declared.put.Put.{Put}
 use Rattle.heap_difference.specs.KeySets.{is_among, meet}
 use Rattle.heap_difference.specs.Differences.{IsDifference, AreScopesAlike, less}
 use Rattle.heap_difference.specs.Laws.{HasTouched}
+use Rattle.heap_difference.specs.Endings.{may_end_any}
 
 -- the scope of a label, once these handles are put in
 abbrev pub put_all : List Put → ℕ → List ℕ → List ℕ
@@ -44,15 +45,19 @@ abbrev pub AreUndersApart : KeySet → List Put → Type 0
 AreUndersApart keys [] = Unit {0}
 AreUndersApart keys (p ∷ ps) = IsUnderApart keys p × AreUndersApart keys ps
 
--- Over operations that touch no key that differs, and no handle under one that is put in, the puts stay as they are
-abbrev pub PutsStay : Type 0
-PutsStay = (d keys : KeySet) (old new : State) (puts : List Put) (ops : List Operation) → IsDifference d old new → HasTouched keys old ops → meet d keys ≡ false → AreUndersApart keys puts
-    → IsSound old [] → IsSound new [] → IsTrue (has_distinct_numbers ops) → AreUnused old ops → AreUnused new ops
-    → ArePuts (λ h. has h d.handles) new puts → ArePuts (λ h. has h d.handles) (end_from new ops) puts
-
--- For private functions alone: the handles under those that are put in
+-- the handles under those that are put in
 abbrev pub unders : List Put → List ℕ
 unders puts = flat_map (λ p. option_to_list p.under) puts
+
+-- none of the handles under those that are put in is touched, or by what the operations name they may end none of them
+abbrev pub DoUndersStay : KeySet → List Operation → List Put → Type 0
+DoUndersStay keys ops puts = AreUndersApart keys puts ⊎ (may_end_any ops (unders puts) ≡ false)
+
+-- Over operations that touch no key that differs, and under which the handles under those that are put in stay, the puts stay as they are
+abbrev pub PutsStay : Type 0
+PutsStay = (d keys : KeySet) (old new : State) (puts : List Put) (ops : List Operation) → IsDifference d old new → HasTouched keys old ops → meet d keys ≡ false → DoUndersStay keys ops puts
+    → IsSound old [] → IsSound new [] → IsTrue (has_distinct_numbers ops) → AreUnused old ops → AreUnused new ops
+    → ArePuts (λ h. has h d.handles) new puts → ArePuts (λ h. has h d.handles) (end_from new ops) puts
 
 -- For private functions alone: the put of a handle of the set, if the state holds it
 abbrev pub IsPutOf : (ℕ → Bool) → State → ℕ → Option Put → Type 0

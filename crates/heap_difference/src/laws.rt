@@ -18,7 +18,8 @@ pub fn puts_law()
     ensures { PutsMakeScopes }
 {}
 
-/// Over operations that touch nothing that differs, and no handle just under one that is put in, what is put in stays as it is.
+/// What is put in stays as it is over operations that touch nothing that differs, if they touch none of the handles just under those that are put
+/// in, or by what they name may end none of them.
 pub fn puts_stay_law()
     ensures { PutsStay }
 {}

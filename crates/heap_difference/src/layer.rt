@@ -5,9 +5,10 @@ ghost use Rattle.ownership_model.specs.Reach.{has};
 ghost use Rattle.heap_difference.specs.KeySets.{handles_alone, is_among, set_of, meet};
 ghost use Rattle.heap_difference.specs.Naming.{with_names};
 ghost use Rattle.heap_difference.specs.Filters.{HasKeys};
-ghost use Rattle.heap_difference.specs.Puts.{ArePuts, AreUndersApart, unders};
+ghost use Rattle.heap_difference.specs.Puts.{ArePuts, AreUndersApart, DoUndersStay, unders};
 ghost use Rattle.heap_difference.specs.Layers.{with_layer, CanBeLaidBy};
 
+use crate::endings::may_end_under;
 use crate::filter::Filter;
 use crate::key_set::KeySet;
 use crate::laying::laid;
@@ -84,14 +85,17 @@ impl Layer {
         &self.keys
     }
 
-    /// Whether operations touch none of the keys, and no handle just under one that is put in: by the keys that were told of them, and by
-    /// those that they and their outcomes name. Each is looked up until one is there.
+    /// Whether operations touch none of the keys, and either none of the handles just under those that are put in, or may end none of these by what
+    /// they name: by the keys that were told of them, and by those that they and their outcomes name. Each is looked up until one is there.
     pub fn is_apart(&self, told: &[Key], ops: &[Op], outcomes: &[Outcome]) -> bool
         ensures { IsTrue result ↔ ((meet self.now.keys
             (set_of (with_names told.now ops.now outcomes.now)) ≡ false)
-            × AreUndersApart (set_of (with_names told.now ops.now outcomes.now)) self.now.puts) }
+            × DoUndersStay (set_of (with_names told.now ops.now outcomes.now)) ops.now self.now.puts) }
     {
-        !self.avoided.touches_all(told, ops, outcomes)
+        if !self.avoided.touches_all(told, ops, outcomes) {
+            return true;
+        }
+        !self.keys.touches_all(told, ops, outcomes) && !may_end_under(&self.puts, ops)
     }
 
     /// Whether a filter tells that whatever keys it has are none of these keys, and no handle just under one that is put in. If not, that says nothing.

@@ -1,6 +1,7 @@
 //! Where two heaps differ, as a set of keys: whether a stretch of operations touches any of them, and what differs behind it.
 #![tactic(auto)]
 
+mod endings;
 mod filter;
 mod finding;
 mod handles;

@@ -19,7 +19,7 @@ use Rattle.heap_difference.specs.KeySets.{is_among, meet, set_of}
 use Rattle.heap_difference.specs.Differences.{outside, IsDifference}
 use Rattle.heap_difference.specs.Laws.{HasTouched, IsPassed}
 use Rattle.heap_difference.specs.Naming.{with_names}
-use Rattle.heap_difference.specs.Puts.{AreUndersApart}
+use Rattle.heap_difference.specs.Puts.{DoUndersStay}
 use Rattle.heap_difference.specs.Layers.{LayerView, with_layer, IsLaidBy}
 use Rattle.heap_difference.proofs.KeyLemmas.{meet_listed}
 use Rattle.heap_difference.proofs.LawLemmas.{meet_none, stretches_pass}
@@ -105,7 +105,7 @@ record IsUnderHere (old : List SegmentView) (i : ℕ) (m new : State) (s : Segme
   distinct_here : IsTrue (has_distinct_numbers (ops_of s))
   touched : HasTouched (set_of keys) m (ops_of s)
   apart : meet l.keys (set_of keys) ≡ false
-  unders : AreUndersApart (set_of keys) l.puts
+  unders : DoUndersStay (set_of keys) (ops_of s) l.puts
 
 -- an old state is sound
 pub sound-at : (old : List SegmentView) (i : ℕ) → IsTrue (has_distinct_numbers (trace_of old)) → IsSound (end_from nothing_held (trace_of (take i old))) []
@@ -115,7 +115,7 @@ sound-at old i distinct =
     (soundness.replays nothing_held prefix soundness.start (appends.distinct_front prefix (trace_of (drop i old)) whole) (soundness.unused prefix)).1
 
 clear-here : (old : List SegmentView) (i : ℕ) (m new : State) (s : SegmentView) (l : LayerView) (keys : List Key) → IsAt old i m s → IsTrue (has_distinct_numbers (trace_of old)) → IsLaidBy l m new → AreUnused new (trace_of (drop i old))
-    → HasTouched (set_of keys) m (ops_of s) → (meet l.keys (set_of keys) ≡ false) × AreUndersApart (set_of keys) l.puts → IsUnderHere old i m new s l keys
+    → HasTouched (set_of keys) m (ops_of s) → (meet l.keys (set_of keys) ≡ false) × DoUndersStay (set_of keys) (ops_of s) l.puts → IsUnderHere old i m new s l keys
 clear-here old i m new s l keys h distinct laid unused touched apart =
     let prefix : List Operation = trace_of (take i old) in
     let rest : List Operation = trace_of (drop (i + 1) old) in

@@ -10,7 +10,7 @@ use Rattle.agreement.specs.Agreement.{Agree}
 use Rattle.heap_difference.specs.declared.key_set.KeySet.{KeySet}
 use Rattle.heap_difference.specs.KeySets.{is_among, set_of, meet}
 use Rattle.heap_difference.specs.Naming.{with_names}
-use Rattle.heap_difference.specs.Puts.{AreUndersApart}
+use Rattle.heap_difference.specs.Puts.{DoUndersStay}
 use Rattle.heap_difference.specs.Differences.{outside, IsDifference}
 use Rattle.heap_difference.specs.Layers.{LayerView, IsLaidBy}
 use Rattle.run_engine.specs.SegmentView.{SegmentView}
@@ -30,12 +30,13 @@ AreTakenOver old marks start ops [] = Unit {0}
 AreTakenOver old marks start ops (s ∷ segments) =
     IsTakenOver old marks start ops s × AreTakenOver old marks (end_from start (ops_of s)) (drop (length (ops_of s)) ops) segments
 
--- the keys that a segment touches are known, and none of them is one of the layer's, nor a handle just under one that is put in
+-- the keys that a segment touches are known, and none of them is one of the layer's, nor a handle just under one that is put in, unless by what its
+-- operations name they may end none of these
 pub record IsClear (s : SegmentView) (l : LayerView) : Type 0 where
   pub told : List Key
   pub known : Some told ≡ s.keys
   pub apart : meet l.keys (set_of (with_names told s.ops s.outcomes)) ≡ false
-  pub unders : AreUndersApart (set_of (with_names told s.ops s.outcomes)) l.puts
+  pub unders : DoUndersStay (set_of (with_names told s.ops s.outcomes)) s.ops l.puts
 
 -- a layer makes the state at the old segment at an index new, and the operations from there on may be carried out from the new one
 pub record CanBeUnder (old : List SegmentView) (l : LayerView) (i : ℕ) (new : State) : Type 0 where

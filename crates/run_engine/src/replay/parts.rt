@@ -131,8 +131,7 @@ fn part_under(
     done.append(alloc, open)
 }
 
-// The old segment at an index, with the heap that the layer is of as its checkpoint, if it touches no key of the layer, nor a handle just under one that
-// is put in.
+// The old segment at an index, with the heap that the layer is of as its checkpoint, if it is clear of the layer.
 fn first_under(
     alloc: Global,
     revision: &Revision,
@@ -151,8 +150,7 @@ fn first_under(
     segment.started(alloc, heap.share()?)
 }
 
-// The old segment at an index, which has no checkpoint, as it stands under the layer, if it touches no key of the layer, nor a handle just under
-// one that is put in.
+// The old segment at an index, which has no checkpoint, as it stands under the layer, if it is clear of that.
 fn bare_under(
     alloc: Global,
     revision: &Revision,

@@ -7,7 +7,7 @@ ghost use Rattle.op_step.specs.Chunk.{Chunk};
 ghost use Rattle.ownership_model.specs.declared.key.Key.{Key};
 ghost use Rattle.heap_difference.specs.KeySets.{is_among, set_of, meet};
 ghost use Rattle.heap_difference.specs.Naming.{with_names};
-ghost use Rattle.heap_difference.specs.Puts.{AreUndersApart};
+ghost use Rattle.heap_difference.specs.Puts.{DoUndersStay};
 ghost use Rattle.heap_difference.specs.Differences.{IsDifference};
 ghost use Rattle.heap_difference.specs.Layers.{IsLaidBy};
 ghost use Rattle.run_engine.specs.inner.OldRun.{old_trace};
@@ -146,7 +146,7 @@ fn stretches_under(
 }
 
 // The old segment at an index as it begins under the layer, if it may be taken over: it has its checkpoint, and so has the next one, or it is
-// the last, and it touches no key of the layer, nor a handle just under one that is put in.
+// the last; and it is clear of the layer.
 fn stretch_under(
     alloc: Global,
     revision: &Revision,
@@ -171,7 +171,8 @@ fn stretch_under(
     segment.under(alloc, layer)
 }
 
-/// Whether it is known that a segment touches no key of the layer, nor a handle just under one that is put in.
+/// Whether it is known that a segment is clear of a layer: it touches none of its keys, and none of the handles just under those that are put in, or
+/// may end none of these by what its operations name.
 pub fn is_clear(segment: &Standing, layer: &Layer) -> bool
     ensures { IsTrue result → IsClear segment.now layer.now }
 {
@@ -181,13 +182,14 @@ pub fn is_clear(segment: &Standing, layer: &Layer) -> bool
     is_apart_from(segment, touched, layer)
 }
 
-// Whether what a segment touches is no key of the layer, nor a handle just under one that is put in: by its filter, or else key by key.
+// Whether a segment that touches these keys is clear of the layer: by its filter, or else key by key.
 fn is_apart_from(segment: &Standing, touched: &[Key], layer: &Layer) -> bool
     requires { Some touched.now ≡ segment.now.keys }
     ensures apart { IsTrue result → meet layer.now.keys
         (set_of (with_names touched.now segment.now.ops segment.now.outcomes)) ≡ false }
-    ensures unders { IsTrue result → AreUndersApart
-        (set_of (with_names touched.now segment.now.ops segment.now.outcomes)) layer.now.puts }
+    ensures unders { IsTrue result → DoUndersStay
+        (set_of (with_names touched.now segment.now.ops segment.now.outcomes)) segment.now.ops
+        layer.now.puts }
 {
     if let Some(filter) = segment.filter() {
         if layer.is_apart_by(filter) {
