@@ -20,10 +20,10 @@ use trace_types::ops::Op;
 use trace_types::outcomes::Outcome;
 use trace_types::sequence::Sequence;
 
-/// Operations that were replayed, with their outcomes.
+/// Operations that were replayed, with their outcomes. Who replays the same operations again from elsewhere may share them.
 #[derive(Drop)]
 pub struct Replayed {
-    pub ops: Vec<Op>,
+    pub ops: Arc<Vec<Op>>,
     pub outcomes: Sequence<Outcome>,
 }
 
@@ -49,14 +49,14 @@ impl Model for ChunkRun {
 
     ghost coded = { chunk_code };
 
-    ghost view = { λ c. record { start = c.start; ops = (arc_value c.replayed).ops.items } };
+    ghost view = { λ c. record { start = c.start; ops = (arc_value (arc_value c.replayed).ops).items } };
 
     ghost invariant = { λ c. IsReplayOf (record {
       start = c.start;
-      ops = (arc_value c.replayed).ops.items;
+      ops = (arc_value (arc_value c.replayed).ops).items;
     }) (arc_value c.replayed).outcomes c.end
-        × HasTouched (set_of (with_names (arc_value c.keys).items (arc_value c.replayed).ops.items
-        (arc_value c.replayed).outcomes)) c.start (arc_value c.replayed).ops.items };
+        × HasTouched (set_of (with_names (arc_value c.keys).items (arc_value (arc_value c.replayed).ops).items
+        (arc_value c.replayed).outcomes)) c.start (arc_value (arc_value c.replayed).ops).items };
 }
 
 /// Replays operations from a heap. Their numbers are distinct, and no object of the heap has one of them.
@@ -75,28 +75,28 @@ pub fn run(
     ensures never_less { meter.old ≤ meter.new }
     ensures never_more { meter.new ≤ meter.old + length ops.now }
 {
-    let copies = copy_ops(alloc, ops)?;
+    let copies = Arc::new(alloc, copy_ops(alloc, ops)?)?;
     run_of(alloc, start, copies, meter)
 }
 
-/// As `run`, of operations that it takes.
+/// As `run`, of operations that it shares: none is copied.
 pub fn run_of(
     alloc: Global,
     start: &Heap,
-    ops: Vec<Op>,
+    ops: Arc<Vec<Op>>,
     meter: &mut Meter,
 ) -> Result<ChunkRun, AllocError>
-    requires distinct { IsTrue (has_distinct_numbers ops.items) }
-    requires unused { AreUnused start.now ops.items }
-    ensures chunk { IfOk result (λ c. c ≡ record { start = start.now; ops = ops.items }) }
-    ensures counted { OnOk result (meter.new ≡ raised meter.old (length ops.items)) }
+    requires distinct { IsTrue (has_distinct_numbers (arc_value ops).items) }
+    requires unused { AreUnused start.now (arc_value ops).items }
+    ensures chunk { IfOk result (λ c. c ≡ record { start = start.now; ops = (arc_value ops).items }) }
+    ensures counted { OnOk result (meter.new ≡ raised meter.old (length (arc_value ops).items)) }
     ensures never_less { meter.old ≤ meter.new }
-    ensures never_more { meter.new ≤ meter.old + length ops.items }
+    ensures never_more { meter.new ≤ meter.old + length (arc_value ops).items }
 {
     start.show_sound();
     // Room for two keys of each operation: the list grows where they are more.
     let mut told = Vec::with_capacity(alloc, ops.len().saturating_mul(2))?;
-    let (outcomes, end) = replay_told(alloc, start.share()?, &ops, meter, &mut told)?;
+    let (outcomes, end) = replay_told(alloc, start.share()?, ops.as_slice(), meter, &mut told)?;
     let replayed = Replayed { ops, outcomes };
     Ok(ChunkRun {
         start: start.share()?,
@@ -121,12 +121,12 @@ impl ChunkRun {
     /// The chunk of operations that were replayed already: the heap where they begin, the operations with their outcomes, the heap behind them,
     /// and the keys that their replay told. Nothing is copied.
     pub fn of(start: Heap, replayed: Arc<Replayed>, end: Heap, keys: Arc<Vec<Key>>) -> ChunkRun
-        requires replay { IsReplayOf (record { start = start; ops = (arc_value replayed).ops.items })
+        requires replay { IsReplayOf (record { start = start; ops = (arc_value (arc_value replayed).ops).items })
             (arc_value replayed).outcomes end }
         requires touched { HasTouched (set_of (with_names (arc_value keys).items
-            (arc_value replayed).ops.items (arc_value replayed).outcomes)) start
-            (arc_value replayed).ops.items }
-        ensures { result ≡ record { start = start; ops = (arc_value replayed).ops.items } }
+            (arc_value (arc_value replayed).ops).items (arc_value replayed).outcomes)) start
+            (arc_value (arc_value replayed).ops).items }
+        ensures { result ≡ record { start = start; ops = (arc_value (arc_value replayed).ops).items } }
     {
         ChunkRun {
             start,
@@ -162,7 +162,7 @@ impl ChunkRun {
 
     /// The operations and their outcomes, which a share has without a copy.
     pub fn replayed(&self) -> &Arc<Replayed>
-        ensures ops { (arc_value result.now).ops.items ≡ self.now.ops }
+        ensures ops { (arc_value (arc_value result.now).ops).items ≡ self.now.ops }
         ensures outcomes { (arc_value result.now).outcomes
             ≡ outcomes_from self.now.start self.now.ops }
     {

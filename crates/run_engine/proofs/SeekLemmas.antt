@@ -26,6 +26,14 @@ ops-there segments place i at s lt is there le few =
     joined-from parts i (place - at) place (ops_of s) (omega (arith, length-map segments ops_of)) (ap ops_of is ∙ sym (get_or-map ops_of segments i s (ops_of s) lt)) (omega arith) few
     ∙ ap (λ ops. take (length (drop (place - at) (ops_of s))) (drop place ops)) (joined-ops segments)
 
+-- the operations of a segment that begins at a place
+pub ops-whole : (segments : List SegmentView) (place i : ℕ) (s : SegmentView) → i < length segments → s ≡ get_or segments i s → length (trace_of (take i segments)) ≡ place
+    → ops_of s ≡ take (length (ops_of s)) (drop place (trace_of segments))
+ops-whole segments place i s lt is there =
+    let none : place - place ≡ zero = omega arith in
+    subst (λ (n : ℕ). drop n (ops_of s) ≡ take (length (drop n (ops_of s))) (drop place (trace_of segments))) none
+    (ops-there segments place i place s lt is there (omega arith) (omega arith))
+
 pub even-all : (m : State) (segments : List SegmentView) → AreReplayFrom m segments → length (outcomes_in segments) ≡ length (trace_of segments)
 even-all m segments replay = ap length (outcomes_in-replay m segments replay) ∙ appends.lengths m (trace_of segments)
 

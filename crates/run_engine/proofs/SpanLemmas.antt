@@ -3,7 +3,7 @@ use Rattle.std.proofs.Common.{◌≡◌, ℕ, suc, ◌+◌, ◌-◌, ◌<◌, �
 use Rattle.std.specs.Prelude.{insert, remove, slice_set}
 use Rattle.std.proofs.lemmas.Bool.{cases_lt}
 use mathlib.Core.Logic.{⊎_elim}
-use Rattle.std.proofs.Math.Seq.{take-add, drop-append-add}
+use Rattle.std.proofs.Math.Seq.{take-add, take-length, drop-append-add}
 use Rattle.std.proofs.lemmas.List.{append-nil, take_more, length-take, length-drop, length-take-le, take_at, drop_at, set_at, set_split, drop-drop, drop-take, drop-append-le, take-append-le, drop_more, take_all}
 use Rattle.std.proofs.lemmas.List.Concat.{flat_map-append}
 use Rattle.trace_types.specs.Operation.{Operation}
@@ -165,6 +165,14 @@ from-old base ops more from len rest few is le short within fits =
     ap (take few) is ∙ take-shorter few (length ops) d le
     ∙ sym (ap (λ n. take n (drop rest (take len (drop from base)) ++ more)) long
     ∙ ap (λ xs. take few (xs ++ more)) inner ∙ take-append-le few (take (len - rest) d) more wide ∙ take-shorter few (len - rest) d short)
+
+-- the same where they are wanted to the last
+pub whole-old : (base ops more : List Operation) (from len rest : ℕ) → ops ≡ take (length ops) (drop (from + rest) base) → length ops ≤ len - rest → rest ≤ len → from + len ≤ length base
+    → ops ≡ take (length ops) (drop rest (take len (drop from base)) ++ more)
+whole-old base ops more from len rest is short within fits =
+    let all : take (length ops) ops ≡ ops = take-length ops in
+    subst (λ (os : List Operation). os ≡ take (length os) (drop rest (take len (drop from base)) ++ more)) all
+    (from-old base ops more from len rest (length ops) is (omega arith) short within fits)
 
 -- a new span
 pub insert-laid : (base : List Operation) (spans : List Span) (i place : ℕ) (s : Span) (x : Operation) → AreFit (length base) spans → total (take i spans) ≡ place → ops_in base s ≡ x ∷ []

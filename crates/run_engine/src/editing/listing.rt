@@ -1,5 +1,6 @@
 //! Operations in an order of their own: those of an original, and new ones.
 ghost use Rattle.std.specs.Prelude.{◌≡◌, ◌<◌, ◌≤◌, ◌++◌, List, length, take, drop, IfOk, OnOk, IfSome, IsTrue, slice_index_or, insert, remove, slice_set, slice_range};
+ghost use Rattle.std.specs.Arc.{arc_value};
 ghost use Rattle.trace_types.specs.Operation.{Operation};
 ghost use Rattle.trace_types.specs.Trace.{IsTrace, place_of, is_taken, has_distinct_numbers};
 ghost use Rattle.run_engine.specs.inner.Spans.{ops_in, Fits};
@@ -9,6 +10,7 @@ use crate::editing::original::Original;
 use crate::editing::spans::{Span, cut, find, split};
 use std::alloc::{AllocError, Global};
 use std::marker::Model;
+use std::sync::Arc;
 use trace_types::limits::MAX_OPS;
 use trace_types::ops::Op;
 
@@ -140,6 +142,42 @@ impl<'a> Listing<'a> {
             at += few;
         }
         Ok(copies)
+    }
+
+    /// The operations from one place to another, to share: where they are all of a segment of the original, the segment's own; else copies.
+    pub fn shared(&self, alloc: Global, from: usize, to: usize) -> Result<Arc<Vec<Op>>, AllocError>
+        requires order { from ≤ to }
+        requires within { to ≤ length self.now.ops }
+        ensures { IfOk result (λ o. (arc_value o).items ≡ slice_range self.now.ops from to) }
+    {
+        if let Some(own) = self.whole(from, to) {
+            return Ok(Arc::try_clone(own)?);
+        }
+        Ok(Arc::new(alloc, self.copies(alloc, from, to)?)?)
+    }
+
+    // The operations from one place to another, if they are all of a segment of the original, as the segment has them.
+    fn whole(&self, from: usize, to: usize) -> Option<&'a Arc<Vec<Op>>>
+        requires { to ≤ length self.now.ops }
+        ensures { IfSome result (λ o. (arc_value o.now).items ≡ slice_range self.now.ops from to) }
+    {
+        if from >= to {
+            return None;
+        }
+        let (i, rest) = find(&self.spans, from);
+        match &self.spans[i] {
+            Span::New(_) => None,
+            Span::Old(begin, len) => {
+                if to - from > *len - rest {
+                    return None;
+                }
+                let ops = self.base.whole(*begin + rest)?;
+                if ops.len() != to - from {
+                    return None;
+                }
+                Some(ops)
+            }
+        }
     }
 
     /// Where the operation with this number stands, from 0.

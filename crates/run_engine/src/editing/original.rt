@@ -1,11 +1,13 @@
 //! The operations that edits begin with, where they stand.
-ghost use Rattle.std.specs.Prelude.{◌≡◌, ◌<◌, ◌≤◌, length, take, drop, slice_index_or};
+ghost use Rattle.std.specs.Prelude.{◌≡◌, ◌<◌, ◌≤◌, IfSome, length, take, drop, slice_index_or};
+ghost use Rattle.std.specs.Arc.{arc_value};
 ghost use Rattle.trace_types.specs.Trace.{IsTrace, place_of};
 ghost use Rattle.run_engine.specs.Segments.{trace_of};
 
 use crate::segments::blocks::Segments;
-use crate::segments::seek::ops_from;
+use crate::segments::seek::{ops_from, whole_at};
 use std::marker::Model;
+use std::sync::Arc;
 use trace_types::limits::MAX_OPS;
 use trace_types::ops::Op;
 use trace_types::trace::Trace;
@@ -75,6 +77,17 @@ impl<'a> Original<'a> {
         match &self.source {
             Source::Trace(trace) => ops_behind(trace.as_slice(), place),
             Source::Segments(segments) => ops_from(segments, place),
+        }
+    }
+
+    /// The operations of the segment that begins at a place, if one does, as the segment has them.
+    pub fn whole(&self, place: usize) -> Option<&'a Arc<Vec<Op>>>
+        ensures { IfSome result (λ o. (arc_value o.now).items
+            ≡ take (length (arc_value o.now).items) (drop place self.now)) }
+    {
+        match &self.source {
+            Source::Trace(_) => None,
+            Source::Segments(segments) => whole_at(segments, place),
         }
     }
 

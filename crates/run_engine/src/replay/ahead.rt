@@ -1,5 +1,6 @@
 //! A replay where no old stretch can serve: its cuts are known before it is stepped.
 ghost use Rattle.std.specs.Prelude.{◌≡◌, ℕ, List, [], ◌∷◌, ◌+◌, ◌<◌, ◌≤◌, IfOk, length, slice_range};
+ghost use Rattle.std.specs.Arc.{arc_value};
 ghost use Rattle.trace_types.specs.Operation.{Operation};
 ghost use Rattle.trace_types.specs.Trace.{IsTrace};
 ghost use Rattle.run_engine.specs.Guesses.{Reusable};
@@ -17,6 +18,7 @@ use crate::segments::names::is_among;
 use mark_shelf::MarkShelf;
 use op_step::Meter;
 use std::alloc::{AllocError, Global};
+use std::sync::Arc;
 use trace_types::ops::Op;
 
 /// Goes on with the replay to a position: the names of all checkpoints on the way are touched first. Where a name is answered by then,
@@ -67,7 +69,7 @@ fn step_ahead(
     let mut prefix = prefix;
     while prefix.len < to {
         let len = (to - prefix.len).min(STRIDE);
-        let next = ops.copies(alloc, prefix.len, prefix.len + len)?;
+        let next = ops.shared(alloc, prefix.len, prefix.len + len)?;
         prefix = next_cut(alloc, ops, prefix, next, shelf, meter)?;
     }
     Ok(prefix)
@@ -79,25 +81,25 @@ fn next_cut(
     alloc: Global,
     ops: &Listing,
     prefix: Prefix,
-    next: Vec<Op>,
+    next: Arc<Vec<Op>>,
     shelf: &mut MarkShelf,
     meter: &mut Meter,
 ) -> Result<Prefix, AllocError>
-    requires may { MayGoOn ops.now.ops prefix (prefix.len + length next.items) }
-    requires some { 0 < length next.items }
-    requires small { length next.items ≤ 64 }
-    requires next { next.items
-        ≡ slice_range ops.now.ops prefix.len (prefix.len + length next.items) }
+    requires may { MayGoOn ops.now.ops prefix (prefix.len + length (arc_value next).items) }
+    requires some { 0 < length (arc_value next).items }
+    requires small { length (arc_value next).items ≤ 64 }
+    requires next { (arc_value next).items
+        ≡ slice_range ops.now.ops prefix.len (prefix.len + length (arc_value next).items) }
     requires trace { IsTrace ops.now.ops }
     requires placed { IsPlaced shelf.old.chunks prefix }
     ensures goes_ahead { IfOk result (λ f. GoesAhead ops.now.ops prefix f (prefix.len ∷ [])) }
     ensures placed { IfOk result (IsPlaced shelf.new.chunks) }
     ensures searched { IsSearched shelf.old shelf.new }
     ensures taken { (old : List Operation) (marks : List ℕ) → IfOk result (λ _.
-        AreTaken old marks shelf.old.chunks prefix.end next.items (length next.items)
+        AreTaken old marks shelf.old.chunks prefix.end (arc_value next).items (length (arc_value next).items)
         meter.old meter.new) }
-    ensures len { IfOk result (λ f. f.len ≡ prefix.len + length next.items) }
-    ensures metered { IsMetered meter.old meter.new 0 (length next.items) }
+    ensures len { IfOk result (λ f. f.len ≡ prefix.len + length (arc_value next).items) }
+    ensures metered { IsMetered meter.old meter.new 0 (length (arc_value next).items) }
 {
     let is_anchored = prefix.anchoring.is_due(prefix.len);
     let known = found(

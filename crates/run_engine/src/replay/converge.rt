@@ -134,7 +134,7 @@ fn next_piece(
         }
     }
     let len = (to - prefix.len).min(STRIDE);
-    let next = revision.ops.copies(alloc, prefix.len, prefix.len + len)?;
+    let next = revision.ops.shared(alloc, prefix.len, prefix.len + len)?;
     let is_anchored = prefix.anchoring.is_due(prefix.len);
     let known = found(
         alloc,

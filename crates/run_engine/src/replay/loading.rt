@@ -19,6 +19,7 @@ use object_heap::Heap;
 use op_step::{Meter, copy_ops};
 use std::alloc::{AllocError, Global};
 use std::collections::BTreeSet;
+use std::sync::Arc;
 use trace_types::ops::Op;
 use trace_types::trace::Trace;
 
@@ -49,7 +50,7 @@ pub fn loaded(
     while prefix.len < ops.len() {
         let at = prefix.len;
         let to = at + (ops.len() - at).min(STRIDE);
-        let copies = copy_ops(alloc, &ops[at..to])?;
+        let copies = Arc::new(alloc, copy_ops(alloc, &ops[at..to])?)?;
         if is_given_up(flags, at) {
             let anchor = prefix.anchoring.anchor(&prefix.end, at);
             prefix = replayed_on(alloc, prefix, copies, anchor, true, meter)?;

@@ -1,5 +1,6 @@
 //! What was replayed so far, and what comes after it.
 ghost use Rattle.std.specs.Prelude.{◌≡◌, ◌++◌, ◌+◌, ◌^◌, ◌<◌, ◌≤◌, ℕ, List, ◌∷◌, [], IfOk, OnOk, IfSome, IsTrue, length};
+ghost use Rattle.std.specs.Arc.{arc_value};
 ghost use Rattle.std.specs.Map.{lookup};
 ghost use Rattle.trace_types.specs.Trace.{has_distinct_numbers};
 ghost use Rattle.ownership_model.specs.Step.{end_from, AreUnused};
@@ -24,6 +25,7 @@ use object_heap::Heap;
 use op_step::{ChunkRun, Meter, replay_told, run_of};
 use std::alloc::{AllocError, Global};
 use std::collections::BTreeSet;
+use std::sync::Arc;
 use trace_types::ops::Op;
 
 /// How many operations stand between neighbouring checkpoints where they are stepped.
@@ -119,18 +121,18 @@ pub fn joined(alloc: Global, prefix: Prefix, next: NextStretch) -> Result<Prefix
 pub fn stepped(
     alloc: Global,
     heap: &Heap,
-    ops: Vec<Op>,
+    ops: Arc<Vec<Op>>,
     is_anchored: bool,
     is_filtered: bool,
     meter: &mut Meter,
 ) -> Result<NextStretch, AllocError>
-    requires some { 0 < length ops.items }
-    requires distinct { IsTrue (has_distinct_numbers ops.items) }
-    requires unused { AreUnused heap.now ops.items }
-    ensures piece { IfOk result (λ p. IsPiece heap.now ops.items p.segments p.end p.len) }
-    ensures whole { IfOk result (λ p. p.len ≡ length ops.items) }
+    requires some { 0 < length (arc_value ops).items }
+    requires distinct { IsTrue (has_distinct_numbers (arc_value ops).items) }
+    requires unused { AreUnused heap.now (arc_value ops).items }
+    ensures piece { IfOk result (λ p. IsPiece heap.now (arc_value ops).items p.segments p.end p.len) }
+    ensures whole { IfOk result (λ p. p.len ≡ length (arc_value ops).items) }
     ensures count { IfOk result (λ p. meter.new ≡ raised meter.old p.len) }
-    ensures metered { IsMetered meter.old meter.new 0 (length ops.items) }
+    ensures metered { IsMetered meter.old meter.new 0 (length (arc_value ops).items) }
     ensures next { (chunks : List (ℕ × Chunk)) → IfOk result (IsNext chunks heap.now) }
 {
     let chunk = run_of(alloc, heap, ops, meter)?;
@@ -174,28 +176,28 @@ pub fn found(
 pub fn replayed_on(
     alloc: Global,
     prefix: Prefix,
-    ops: Vec<Op>,
+    ops: Arc<Vec<Op>>,
     anchor: Option<Heap>,
     is_filtered: bool,
     meter: &mut Meter,
 ) -> Result<Prefix, AllocError>
-    requires fits { prefix.len + length ops.items < 2 ^ 64 }
-    requires distinct { IsTrue (has_distinct_numbers ops.items) }
-    requires unused { AreUnused prefix.end ops.items }
+    requires fits { prefix.len + length (arc_value ops).items < 2 ^ 64 }
+    requires distinct { IsTrue (has_distinct_numbers (arc_value ops).items) }
+    requires unused { AreUnused prefix.end (arc_value ops).items }
     ensures segments { IfOk result
-        (λ p. HasBare prefix.segments anchor prefix.end ops.items p.segments) }
-    ensures end { IfOk result (λ p. p.end ≡ end_from prefix.end ops.items) }
-    ensures len { IfOk result (λ p. p.len ≡ prefix.len + length ops.items) }
+        (λ p. HasBare prefix.segments anchor prefix.end (arc_value ops).items p.segments) }
+    ensures end { IfOk result (λ p. p.end ≡ end_from prefix.end (arc_value ops).items) }
+    ensures len { IfOk result (λ p. p.len ≡ prefix.len + length (arc_value ops).items) }
     ensures answered { IfOk result (λ p. p.answered ≡ prefix.answered) }
     ensures placed { (chunks : List (ℕ × Chunk)) → IfOk result (IsPlaced chunks) }
-    ensures count { OnOk result (meter.new ≡ raised meter.old (length ops.items)) }
-    ensures metered { IsMetered meter.old meter.new 0 (length ops.items) }
+    ensures count { OnOk result (meter.new ≡ raised meter.old (length (arc_value ops).items)) }
+    ensures metered { IsMetered meter.old meter.new 0 (length (arc_value ops).items) }
 {
     let len = prefix.len + ops.len();
     let anchoring = prefix.anchoring.behind(prefix.len);
     prefix.end.show_sound();
     let mut told = Vec::new(alloc);
-    let (outcomes, end) = replay_told(alloc, prefix.end, &ops, meter, &mut told)?;
+    let (outcomes, end) = replay_told(alloc, prefix.end, ops.as_slice(), meter, &mut told)?;
     let bare = Segment::bare(alloc, anchor, ops, outcomes, told)?;
     let filtered = bare.filtered(alloc, is_filtered)?;
     let segments = prefix.segments.push(alloc, filtered)?;

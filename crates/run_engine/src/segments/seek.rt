@@ -1,10 +1,12 @@
 //! Finds a place among segments.
 ghost use Rattle.std.specs.Prelude.{◌≡◌, ◌<◌, ◌≤◌, IfSome, IfNone, length, slice_get, take, drop};
+ghost use Rattle.std.specs.Arc.{arc_value};
 ghost use Rattle.std.specs.Option.{option_copied};
 ghost use Rattle.ownership_model.specs.State.{nothing_held};
 ghost use Rattle.run_engine.specs.Segments.{trace_of, outcomes_in, AreFull, AreReplayFrom, IsNoMark};
 
 use crate::segments::blocks::Segments;
+use std::sync::Arc;
 use trace_types::limits::MAX_OPS;
 use trace_types::ops::Op;
 use trace_types::outcomes::Outcome;
@@ -25,6 +27,18 @@ pub fn ops_from(segments: &Segments, place: usize) -> &[Op]
         return &ops[rest..];
     }
     &[]
+}
+
+/// The operations of the segment that begins at a place, if one does, as the segment has them.
+pub fn whole_at(segments: &Segments, place: usize) -> Option<&Arc<Vec<Op>>>
+    ensures { IfSome result (λ o. (arc_value o.now).items
+        ≡ take (length (arc_value o.now).items) (drop place (trace_of segments.now))) }
+{
+    let (i, at) = segments.last_from(place);
+    if i == segments.len() || at != place {
+        return None;
+    }
+    Some(segments.at(i).shared_ops())
 }
 
 /// The operation at a place.

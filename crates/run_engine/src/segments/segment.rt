@@ -63,17 +63,17 @@ impl Model for Segment {
       mark = option_map (with_all s.cover) (option_map arc_value s.mark);
       anchor = option_map (with_all s.cover) (option_map arc_value s.anchor);
       keys = shared_keys s.keys;
-      ops = (arc_value s.body).ops.items;
+      ops = (arc_value (arc_value s.body).ops).items;
       outcomes = (arc_value s.body).outcomes;
     } };
 
     ghost invariant = { λ s.
-        AreBetween s.bounds.least s.bounds.greatest (arc_value s.body).ops.items
-        × (s.last ≡ last_name (arc_value s.body).ops.items)
+        AreBetween s.bounds.least s.bounds.greatest (arc_value (arc_value s.body).ops).items
+        × (s.last ≡ last_name (arc_value (arc_value s.body).ops).items)
         × AreLaidBelow s.cover (option_map arc_value s.mark)
         × AreLaidBelow s.cover (option_map arc_value s.anchor)
         × IsFiltered (option_map arc_value s.filter) (shared_keys s.keys)
-        (arc_value s.body).ops.items (arc_value s.body).outcomes };
+        (arc_value (arc_value s.body).ops).items (arc_value s.body).outcomes };
 }
 
 impl Segment {
@@ -111,7 +111,7 @@ impl Segment {
     pub fn bare(
         alloc: Global,
         anchor: Option<Heap>,
-        ops: Vec<Op>,
+        ops: Arc<Vec<Op>>,
         outcomes: Sequence<Outcome>,
         told: Vec<Key>,
     ) -> Result<Self, AllocError>
@@ -120,7 +120,7 @@ impl Segment {
               mark = None;
               anchor = anchor;
               keys = Some told.items;
-              ops = ops.items;
+              ops = (arc_value ops).items;
               outcomes = outcomes;
             }) }
     {
@@ -274,6 +274,13 @@ impl Segment {
         self.body.ops.as_slice()
     }
 
+    /// The operations, which a share has without a copy.
+    pub fn shared_ops(&self) -> &Arc<Vec<Op>>
+        ensures { (arc_value result.now).items ≡ self.now.ops }
+    {
+        &self.body.ops
+    }
+
     /// Bounds of the operations' numbers.
     pub fn bounds(&self) -> Bounds
         ensures { AreBetween result.least result.greatest self.now.ops }
@@ -390,7 +397,7 @@ fn filter_of(
     body: &Replayed,
 ) -> Result<Option<Arc<Filter>>, AllocError>
     ensures { IfOk result (λ o. IsFiltered (option_map arc_value o) (shared_keys keys.now)
-        body.now.ops.items body.now.outcomes) }
+        (arc_value body.now.ops).items body.now.outcomes) }
 {
     let Some(told) = keys else {
         return Ok(None);

@@ -72,6 +72,13 @@ impl<'a> Standing<'a> {
         self.segment.ops()
     }
 
+    /// The operations, which a share has without a copy.
+    pub fn shared_ops(&self) -> &'a Arc<Vec<Op>>
+        ensures { (arc_value result.now).items ≡ self.now.ops }
+    {
+        self.segment.shared_ops()
+    }
+
     /// The number of the last operation, which is kept beside them: they aren't looked at.
     pub fn last_id(&self) -> Option<u32>
         ensures { result ≡ last_name self.now.ops }

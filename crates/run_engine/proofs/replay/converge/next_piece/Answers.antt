@@ -1,5 +1,6 @@
 use Rattle.std.proofs.Common.{◌≡◌, ◌+◌, ◌-◌, length, take, drop, refl, sym, subst, arith}
 use Rattle.std.specs.Prelude.{slice_range}
+use Rattle.std.specs.Arc.{arc_value}
 use mathlib.Core.Logic.{inl, inr}
 use Rattle.run_engine.specs.Memo.{IsAmong}
 use Rattle.run_engine.proofs.MemoLemmas.{IsSearched-none}
@@ -15,15 +16,15 @@ stepped-requires-clause-unused c = rw c.in_ok-next.ensures (unused-slice_range c
 
 pub returns-in-Some-known-clause-taken : goal.returns-in-Some-known-clause-taken
 returns-in-Some-known-clause-taken c =
-    let there : IsAmong c.args.shelf.now.chunks c.args.progress.now.prefix.end c.in_ok-next.next.items = rw (c.in-Some-known.is, c.deref.ensures.value) at c.in_ok-known.ensures.there in
-    let whole : c.in-Some-known.piece.len ≡ length c.in_ok-next.next.items = rw (c.in-Some-known.is, c.deref.ensures.value) at c.in_ok-known.ensures.whole in
-    let first : take c.in-Some-known.piece.len (slice_range c.args.revision.now.ops.now.ops c.args.progress.now.prefix.len c.args.to) ≡ c.in_ok-next.next.items =
-    take-next c.args.revision.now.ops.now.ops c.in_ok-next.next.items c.args.progress.now.prefix.len c.min-len.result c.args.to c.in-Some-known.piece.len c.in_ok-next.ensures whole (omega arith) c.requires.may.within in
+    let there : IsAmong c.args.shelf.now.chunks c.args.progress.now.prefix.end (arc_value c.in_ok-next.next).items = rw (c.in-Some-known.is, c.deref-2.ensures.value, c.deref.ensures) at c.in_ok-known.ensures.there in
+    let whole : c.in-Some-known.piece.len ≡ length (arc_value c.in_ok-next.next).items = rw (c.in-Some-known.is, c.deref-2.ensures.value, c.deref.ensures) at c.in_ok-known.ensures.whole in
+    let first : take c.in-Some-known.piece.len (slice_range c.args.revision.now.ops.now.ops c.args.progress.now.prefix.len c.args.to) ≡ (arc_value c.in_ok-next.next).items =
+    take-next c.args.revision.now.ops.now.ops (arc_value c.in_ok-next.next).items c.args.progress.now.prefix.len c.min-len.result c.args.to c.in-Some-known.piece.len c.in_ok-next.ensures whole (omega arith) c.requires.may.within in
     inl (inr (IsAmong-chunk c.args.revision.now.guesses.now c.args.shelf.now.chunks c.args.progress.now.prefix.end _ (subst (IsAmong c.args.shelf.now.chunks c.args.progress.now.prefix.end) (sym first) there)), refl)
 
 pub returns-in-Some-known-clause-piece : goal.returns-in-Some-known-clause-piece
 returns-in-Some-known-clause-piece c =
-    let piece = rw (c.in-Some-known.is, c.deref.ensures.value, c.in_ok-next.ensures) at c.in_ok-known.ensures.piece in
+    let piece = rw (c.in-Some-known.is, c.deref-2.ensures.value, c.deref.ensures, c.in_ok-next.ensures) at c.in_ok-known.ensures.piece in
     IsPiece-of-more c.args.progress.now.prefix.end _ (drop c.args.progress.now.prefix.len c.args.revision.now.ops.now.ops) (c.args.progress.now.prefix.len + c.min-len.result - c.args.progress.now.prefix.len) (c.args.to - c.args.progress.now.prefix.len) _ _ (omega arith) piece
 
 pub returns-in-Some-stretch-clause-taken : goal.returns-in-Some-stretch-clause-taken

@@ -38,14 +38,14 @@ returns c = λ new can.
       mark = option_map (with_all c.in-Some.cover) (option_map arc_value c.self.inside.mark);
       anchor = option_map (with_all c.in-Some.cover) (option_map arc_value c.self.inside.anchor);
       keys = shared_keys c.self.inside.keys;
-      ops = (arc_value c.self.inside.body).ops.items;
+      ops = (arc_value (arc_value c.self.inside.body).ops).items;
       outcomes = (arc_value c.self.inside.body).outcomes;
     } ≡ standing_at new s) c.self.view_is
     (λ i. record {
       mark = (mark-over c new can).is i;
       anchor = (anchor-over c new can).is i;
       keys = shared_keys c.self.inside.keys;
-      ops = (arc_value c.self.inside.body).ops.items;
+      ops = (arc_value (arc_value c.self.inside.body).ops).items;
       outcomes = (arc_value c.self.inside.body).outcomes;
     }))
 
