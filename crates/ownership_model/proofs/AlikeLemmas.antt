@@ -102,7 +102,7 @@ module _ (k : Key → Bool) where
   same_count m n s p e = omega (arith, e)
 
   -- an item whose object is alike brings about the same in both
-  same_fate : (m n : State) (x : Item) (rest : List Item) → AreAlike k m n → AreWithin k (item_keys x) → fate m x rest ≡ fate n x rest
+  pub same_fate : (m n : State) (x : Item) (rest : List Item) → AreAlike k m n → AreWithin k (item_keys x) → fate m x rest ≡ fate n x rest
   same_fate m n (item.Slot Nothing) rest a c = refl
   same_fate m n (item.Slot Dangling) rest a c = refl
   same_fate m n (item.Slot (Strong o)) rest a c = λ i. if same_count m n (Strong o) rest (a.strongs o c.0) i == 0 then fall o (a.entries o c.0 i) else Stays

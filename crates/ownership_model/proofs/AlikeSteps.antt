@@ -36,13 +36,13 @@ use Rattle.ownership_model.proofs.AlikeLemmas.{within_front, within_back, move_n
 module _ (k : Key → Bool) where
   -- ---- one change
   -- both have made a change alike
-  record Met (m n later_m later_n : State) : Type 0 where
+  pub record Met (m n later_m later_n : State) : Type 0 where
     pub have : HaveAlike k later_m later_n
     pub moves : WeightsMoveAlike m later_m n later_n
     pub scopes : ScopesMoveAlike k m.scopes later_m.scopes n.scopes later_n.scopes
 
   -- a change of a place that is alike is made alike in both
-  change_alike : (c : Change) (m n : State) → k (change_key c) ≡ true → HaveAlike k m n → Met m n (changed_by m c) (changed_by n c)
+  pub change_alike : (c : Change) (m n : State) → k (change_key c) ≡ true → HaveAlike k m n → Met m n (changed_by m c) (changed_by n c)
   change_alike (SetHandle t h x) m n c a =
       let there : get m.handles h ≡ get n.handles h = a.handles h c in
       let s : ScopesMoveAlike k m.scopes (kept_or_entered (get m.handles h) t h m.scopes) n.scopes (kept_or_entered (get n.handles h) t h n.scopes) =
@@ -113,7 +113,7 @@ module _ (k : Key → Bool) where
   change_alike (TurnHusk o) m n c a = record { have = have_put k m n o Husk a; moves = move_put m n o Husk (a.entries o c); scopes = scope_none k m.scopes n.scopes }
 
   -- and it moves the same slots
-  moved_alike : (c : Change) (m n : State) → k (change_key c) ≡ true → HaveAlike k m n → moved_by m c ≡ moved_by n c
+  pub moved_alike : (c : Change) (m n : State) → k (change_key c) ≡ true → HaveAlike k m n → moved_by m c ≡ moved_by n c
   moved_alike (SetHandle t h x) m n c a = ap (λ y. holding_keys (Some x) ++ holding_keys y) (a.handles h c)
   moved_alike (EndHandle h) m n c a = ap holding_keys (a.handles h c)
   moved_alike (SetCell e x) m n c a = ap (λ y. slot_keys x ++ cell_keys y) (a.cells e c)
@@ -145,17 +145,17 @@ module _ (k : Key → Bool) where
 
   -- ---- what an operation reads
   -- a handle of the set, if one is named, holds the same in both
-  held_alike : (m n : State) (h : Option ℕ) → AreAlike k m n → AreWithin k (map Handle (option_to_list h)) → held_by m h ≡ held_by n h
+  pub held_alike : (m n : State) (h : Option ℕ) → AreAlike k m n → AreWithin k (map Handle (option_to_list h)) → held_by m h ≡ held_by n h
   held_alike m n None a c = refl
   held_alike m n (Some h) a c = a.handles h c.0
 
   -- so does a cell
-  cell_alike : (m n : State) (e : Option ℕ) → AreAlike k m n → AreWithin k (map Cell (option_to_list e)) → cell_of m e ≡ cell_of n e
+  pub cell_alike : (m n : State) (e : Option ℕ) → AreAlike k m n → AreWithin k (map Cell (option_to_list e)) → cell_of m e ≡ cell_of n e
   cell_alike m n None a c = refl
   cell_alike m n (Some e) a c = a.cells e c.0
 
   -- so do the handles among fields
-  elements_alike : (m n : State) (fs : List Field) → AreAlike k m n → AreWithin k (map Handle (held_fields fs)) → elements_of m fs ≡ elements_of n fs
+  pub elements_alike : (m n : State) (fs : List Field) → AreAlike k m n → AreWithin k (map Handle (held_fields fs)) → elements_of m fs ≡ elements_of n fs
   elements_alike m n [] a c = refl
   elements_alike m n (field.Held h ∷ fs) a c = λ i. Read h (a.handles h c.0 i) ∷ elements_alike m n fs a c.1 i
   elements_alike m n (field.Null ∷ fs) a c = ap (λ es. Null ∷ es) (elements_alike m n fs a c)
@@ -183,7 +183,7 @@ module _ (k : Key → Bool) where
       )
 
   -- scope_end names the same handles, where the scope of its label is alike; others name their own
-  members_alike : (t : ℕ) (kd : Kind) (m n : State) → AreAlike k m n → AreWithin k (scope_keys t kd) → members (scope_of t m.scopes) kd ≡ members (scope_of t n.scopes) kd
+  pub members_alike : (t : ℕ) (kd : Kind) (m n : State) → AreAlike k m n → AreWithin k (scope_keys t kd) → members (scope_of t m.scopes) kd ≡ members (scope_of t n.scopes) kd
   members_alike t kind.ScopeEnd m n a c = ap (λ hs. members hs kind.ScopeEnd) (a.scopes t c.0)
   members_alike t kd m n a c = refl
 

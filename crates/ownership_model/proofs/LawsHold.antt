@@ -4,6 +4,7 @@ use Rattle.std.proofs.Common.{arith}
 use Rattle.ownership_model.specs.Laws.{AgreementHolds, AgreementStays, PatchesHold, SoundnessHolds, ReleasesInTurn, CascadeHolds, BoundsHold, AppendsHold, TouchedHolds, ScopesHold}
 use Rattle.ownership_model.specs.Before.{OldTracesReplayAsBefore}
 use Rattle.ownership_model.specs.FootprintLaws.{FootprintsHold, StretchesAreTaken, PartsStayAlike}
+use Rattle.ownership_model.specs.NearLaws.{NearHolds, PlacesKeepArcs, BlindHolds}
 use Rattle.ownership_model.specs.ReachLaws.{ReachIsLeast, NamedAreReached, LeakedAreUnreached, HoldersHold}
 use Rattle.ownership_model.proofs.ReleaseLemmas.{release-nil, release-cons, work_drops}
 use Rattle.ownership_model.proofs.DropLemmas.{sound-drop_first, sound-release}
@@ -20,7 +21,10 @@ use Rattle.ownership_model.proofs.TouchedLemmas.{end_outside}
 use Rattle.ownership_model.proofs.AlikeLemmas.{release_alike, taken-nil, taken-cons}
 use Rattle.ownership_model.proofs.AlikeSteps.{step_alike}
 use Rattle.ownership_model.proofs.OutsideLemmas.{step_kept, run_kept}
+use Rattle.ownership_model.proofs.PlaceLemmas.{places_kept}
 use Rattle.ownership_model.proofs.TakenLemmas.{replay_alike, stretches_taken, parts_alike}
+use Rattle.ownership_model.proofs.NearSteps.{near_holds}
+use Rattle.ownership_model.proofs.BlindLemmas.{blind_holds}
 use Rattle.ownership_model.proofs.FitLemmas.{bounds_hold}
 use Rattle.ownership_model.proofs.BeforeLemmas.{as_before}
 use Rattle.ownership_model.proofs.ScopeLemmas.{changed_scoped}
@@ -91,6 +95,15 @@ taken_over = stretches_taken
 
 pub parts_stay : PartsStayAlike
 parts_stay = parts_alike
+
+pub near : NearHolds
+near = near_holds
+
+pub blind : BlindHolds
+blind = blind_holds
+
+pub places : PlacesKeepArcs
+places = places_kept
 
 pub old_traces : OldTracesReplayAsBefore
 old_traces = as_before

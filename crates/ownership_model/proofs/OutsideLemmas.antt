@@ -39,7 +39,7 @@ use Rattle.ownership_model.proofs.AlikeLemmas.{within_front, within_back, IsOf, 
 use Rattle.ownership_model.proofs.AlikeSteps.{step_alike}
 
 -- a number that passes a test is another one than a number that does not
-apart : (p : ℕ → Bool) (o q : ℕ) → p o ≡ true → p q ≡ false → (o == q) ≡ false
+pub apart : (p : ℕ → Bool) (o q : ℕ) → p o ≡ true → p q ≡ false → (o == q) ≡ false
 apart p o q a b = elim (o == q) as (λ t. (o == q) ≡ t → (o == q) ≡ false) [
   | true ↦ λ t. let same : p o ≡ p q = ap p (grind (arith, nat_tests)) in absurd cc
   | false ↦ λ f. f
@@ -58,7 +58,7 @@ module _ (m : State) (xs : List Item) where
   same_fall o (Some (Alive fields)) is w = omega (arith, total-set (entry_weight w) m.objects o Husk (Some (Alive fields)) is, items_weight-drops w fields (item.End o ∷ xs))
 
   -- a husk weighs nothing
-  husk_weight : (w : Slot → ℕ) (e : Option Entry) → is_husk e ≡ true → weight_at (entry_weight w) e ≡ 0
+  pub husk_weight : (w : Slot → ℕ) (e : Option Entry) → is_husk e ≡ true → weight_at (entry_weight w) e ≡ 0
   husk_weight w None is = refl
   husk_weight w (Some (Alive fields)) is = absurd cc
   husk_weight w (Some Husk) is = refl
@@ -81,11 +81,11 @@ module _ (m : State) (xs : List Item) where
 
 module _ (k : Key → Bool) where
   -- only slots that name what is outside of the set weigh anything
-  abbrev IsApart : (Slot → ℕ) → Type 0
+  abbrev pub IsApart : (Slot → ℕ) → Type 0
   IsApart w = (s : Slot) → AreWithin k (slot_keys s) → w s ≡ 0
 
   -- an Arc to an object outside of the set is no slot to one of the set
-  strong_apart : (o : ℕ) → k (Object o) ≡ false → IsApart (names_alike (Strong o))
+  pub strong_apart : (o : ℕ) → k (Object o) ≡ false → IsApart (names_alike (Strong o))
   strong_apart o d Nothing c = refl
   strong_apart o d (Strong p) c = other_strong o p (apart (λ x. k (Object x)) p o c.0 d)
   strong_apart o d (Weak p) c = refl
@@ -100,23 +100,23 @@ module _ (k : Key → Bool) where
 
   module _ (w : Slot → ℕ) (none : IsApart w) where
     -- slots that name objects of the set alone weigh nothing
-    slots_apart : (fields : List Slot) → AreWithin k (slots_keys fields) → slots_weight w fields ≡ 0
+    pub slots_apart : (fields : List Slot) → AreWithin k (slots_keys fields) → slots_weight w fields ≡ 0
     slots_apart [] c = refl
     slots_apart (s ∷ fields) c = omega (arith, none s (within_front k (slot_keys s) _ c), slots_apart fields (within_back k (slot_keys s) _ c))
 
     -- nor does what a handle holds
-    holding_apart : (x : Option Holding) → AreWithin k (holding_keys x) → weight_at (holding_weight w) x ≡ 0
+    pub holding_apart : (x : Option Holding) → AreWithin k (holding_keys x) → weight_at (holding_weight w) x ≡ 0
     holding_apart None c = refl
     holding_apart (Some (holding.Slot s)) c = none s c
     holding_apart (Some (holding.Bare fields)) c = slots_apart fields c
 
     -- nor what a cell holds
-    cell_apart : (x : Option Slot) → AreWithin k (cell_keys x) → weight_at w x ≡ 0
+    pub cell_apart : (x : Option Slot) → AreWithin k (cell_keys x) → weight_at w x ≡ 0
     cell_apart None c = refl
     cell_apart (Some s) c = none s c
 
     -- nor an object by its fields
-    entry_apart : (e : Option Entry) → AreWithin k (slots_keys (fields_of e)) → weight_at (entry_weight w) e ≡ 0
+    pub entry_apart : (e : Option Entry) → AreWithin k (slots_keys (fields_of e)) → weight_at (entry_weight w) e ≡ 0
     entry_apart None c = refl
     entry_apart (Some Husk) c = refl
     entry_apart (Some (Alive fields)) c = slots_apart fields c
@@ -138,7 +138,7 @@ module _ (k : Key → Bool) where
     set_apart (f ∷ fields) (suc i) s a b = omega (arith, set_apart fields i s a b)
 
     -- so may a field of an object
-    field_apart : (e : Option Entry) (i : ℕ) (s : Slot) → w s ≡ 0 → weight_at w (slice_get (fields_of e) i) ≡ 0 → entry_weight w (with_field e i s) ≡ weight_at (entry_weight w) e
+    pub field_apart : (e : Option Entry) (i : ℕ) (s : Slot) → w s ≡ 0 → weight_at w (slice_get (fields_of e) i) ≡ 0 → entry_weight w (with_field e i s) ≡ weight_at (entry_weight w) e
     field_apart None i s a b = refl
     field_apart (Some Husk) i s a b = refl
     field_apart (Some (Alive fields)) i s a b = set_apart fields i s a b
@@ -216,7 +216,7 @@ module _ (k : Key → Bool) where
 
   -- ---- a cascade
   -- what a set has of each of two lists it has of both together
-  both : (a b : List Key) → AreWithin k a → AreWithin k b → AreWithin k (a ++ b)
+  pub both : (a b : List Key) → AreWithin k a → AreWithin k b → AreWithin k (a ++ b)
   both [] b c d = d
   both (x ∷ a) b c d = (c.0, both a b c.1 d)
 
@@ -238,13 +238,13 @@ module _ (k : Key → Bool) where
   left_entries m xs (Goes o) c q d = get_cut_other m.objects o q (apart (λ x. k (Object x)) o q c d)
 
   -- a cascade of items that name objects of the set: outside nothing changed
-  record Dropped (m later : State) (p : List Item) : Type 0 where
+  pub record Dropped (m later : State) (p : List Item) : Type 0 where
     pub entries : (o : ℕ) → k (Object o) ≡ false → get later.objects o ≡ get m.objects o
     pub weights : (w : Slot → ℕ) → IsApart w → weight w later [] ≡ weight w m p
     pub pending : AreWithin k (flat_map item_keys p)
 
   -- item by item, with any fuel that is enough
-  within_kept : (f : ℕ) (m : State) (p : List Item) → work m p ≤ f → IsSound m p → AreWithin k (flat_map item_keys (taken_within f m p)) → Dropped m (release_within f m p).state p
+  pub within_kept : (f : ℕ) (m : State) (p : List Item) → work m p ≤ f → IsSound m p → AreWithin k (flat_map item_keys (taken_within f m p)) → Dropped m (release_within f m p).state p
   within_kept f m [] g h c = record { entries = λ o d. refl; weights = λ w d. refl; pending = tt }
   within_kept zero m (x ∷ xs) g h c = absurd (omega arith)
   within_kept (suc f) m (x ∷ xs) g h c =

@@ -22,5 +22,7 @@ pub mod Footprint
 pub mod Leaks
 pub mod Falling
 pub mod FootprintLaws
+pub mod Near
+pub mod NearLaws
 pub mod Laws
 pub mod ReachLaws
