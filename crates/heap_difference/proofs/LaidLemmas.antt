@@ -1,6 +1,6 @@
 -- A difference that is laid over the old state makes the new one.
 use Rattle.std.proofs.Common.{◌≡◌, ℕ, ◌≤◌, List, [], ◌∷◌, refl, ap, ◌∙◌, sym, subst, arith, Bool, true, false}
-use Rattle.std.specs.Prelude.{◌==◌, ◌||◌, Option, Some, None, if◌then◌else◌, filter, not}
+use Rattle.std.specs.Prelude.{◌==◌, ◌||◌, ◌&&◌, Option, Some, None, if◌then◌else◌, filter, not}
 use Rattle.std.specs.Cmp.{nat_cmp_total}
 use Rattle.std.specs.Ordering.{nat_cmp}
 use Rattle.std.specs.FinMap.{FinMap, get, same_map, nat_cmp-IsAntisymmetric}
@@ -10,27 +10,32 @@ use Rattle.trace_types.specs.declared.slots.Holding.{Holding}
 use Rattle.trace_types.specs.declared.slots.Entry.{Entry}
 use Rattle.trace_types.specs.declared.slots.Scoped.{Scoped}
 use Rattle.trace_types.specs.declared.slots.Change.TheVariants.{EndHandle}
-use Rattle.ownership_model.specs.declared.key.Key.TheVariants.{Handle}
+use Rattle.ownership_model.specs.declared.key.Key.TheVariants.{Handle, Object}
 use Rattle.ownership_model.specs.State.{State, IsSound, IsScoped}
 use Rattle.ownership_model.specs.Scopes.{scope_of, times_in, times_held}
 use Rattle.ownership_model.specs.Bounds.{IsBounded, LabelsFit, HandleFits, HoldingFits}
 use Rattle.ownership_model.specs.Reach.{has}
+use Rattle.ownership_model.specs.Near.{AreEntriesNear}
 use Rattle.ownership_model.proofs.Counting.{same_number, get_inserted, get_removed}
 use Rattle.ownership_model.proofs.Scoping.{hit_is, same_scopes}
 use Rattle.ownership_model.proofs.LawsHold.{scopes}
 use Rattle.object_heap.specs.declared.put.Put.{Put}
+use Rattle.object_heap.specs.declared.put.FieldPut.{FieldPut}
 use Rattle.object_heap.specs.Links.{first_of, label_in, under, put_above, entered_above, IsAbove}
-use Rattle.object_heap.specs.Laid.{ended_at, without_handles, with_put, with_puts, CanPut, PutFits, PutsFit, cell_ended, with_cell, with_cells, with_entry, with_entries, laid_over}
+use Rattle.object_heap.specs.Laid.{ended_at, without_handles, with_put, with_puts, CanPut, PutFits, PutsFit, cell_ended, with_cell, with_cells, with_entry, with_entries, laid_over, with_fields, CanSet}
 use Rattle.object_heap.proofs.UnderLemmas.{AreOnce, absent}
 use Rattle.object_heap.proofs.AboveLemmas.{scope_own, scope_other, times_above, from_above}
 use Rattle.heap_difference.specs.declared.key_set.KeySet.{KeySet}
 use Rattle.heap_difference.specs.Differences.{outside, less}
+use Rattle.heap_difference.specs.declared.shifts.Shift.{Shift}
+use Rattle.heap_difference.specs.Alikes.{is_alike, is_loose}
 use Rattle.heap_difference.specs.Puts.{ArePuts}
-use Rattle.heap_difference.specs.Laid.{IsLaid}
+use Rattle.heap_difference.specs.Laid.{IsLaid, IsWhole}
 use Rattle.heap_difference.proofs.Tests.{clash, not_false, not_true, itself, filter_keeps, filter_drops, filter_all}
 use Rattle.heap_difference.proofs.ScopeLemmas.{after, in_own, label_of_member, under_after, filter_has, has_filtered, first_in, after_has}
 use Rattle.heap_difference.proofs.FoundLemmas.{once_sound}
 use Rattle.heap_difference.proofs.PutLemmas.{one_put, without}
+use Rattle.heap_difference.proofs.FieldLemmas.{fields_rest, fields_get, fields_others, can_set}
 
 -- ---- handles that go
 -- a filter after another
@@ -294,7 +299,7 @@ label_fits t q (s ∷ ss) fit here = at (s.label == t) refl here (λ e. label_fi
 handle_fits : (h : ℕ) (x : Holding) (o : Option Holding) → o ≡ Some x → HandleFits h o → (h ≤ MAX_NAME) × HoldingFits x
 handle_fits h x o is fit = subst (λ (y : Option Holding). HandleFits h y) is fit
 
-module _ (d : KeySet) (old new : State) (puts : List Put) (m : State) (sound : IsSound old []) (is : IsLaid d old new puts m) where
+module _ (d : KeySet) (firm : List ℕ) (shifts : List Shift) (fields : List FieldPut) (old new : State) (puts : List Put) (m : State) (whole : IsWhole d firm shifts fields) (sound : IsSound old []) (is : IsLaid d shifts fields old new puts m) where
   abbrev ended : State
   ended = without_handles d.handles old
 
@@ -309,8 +314,8 @@ module _ (d : KeySet) (old new : State) (puts : List Put) (m : State) (sound : I
   pub laid_can : CanPut ended puts
   laid_can = can_put m is.sound puts (λ h. has h d.handles) ended is.stand but
 
-  abbrev whole : State
-  whole = laid_over new d.handles d.cells d.objects puts old
+  abbrev base : State
+  base = laid_over new d.handles d.cells firm puts old
 
   abbrev held : State
   held = with_puts puts ended
@@ -318,15 +323,33 @@ module _ (d : KeySet) (old new : State) (puts : List Put) (m : State) (sound : I
   abbrev filled : State
   filled = with_cells new d.cells held
 
-  pub laid_is : whole ≡ m
+  -- of the objects that have a shift nothing was laid before
+  object_at : (q : ℕ) (b c : Bool) → has q d.objects ≡ b → is_alike shifts q ≡ c → get base.objects q ≡ (if b && not c then get new.objects q else get old.objects q)
+  object_at q b c e f =
+      entries_get new firm filled q
+      ∙ (λ i. if (whole.firm q ∙ (λ j. e j && not (f j))) i then get new.objects q else get filled.objects q)
+      ∙ ap (λ (x : Option Entry). if b && not c then get new.objects q else x) (ap (λ (x : FinMap nat_cmp Entry). get x q) ((cells_rest new d.cells held).2 ∙ (puts_rest puts ended).1 ∙ (without_rest d.handles old).1))
+
+  near_base : (q : ℕ) → is_alike shifts q ≡ true → AreEntriesNear (is_loose fields q) (get base.objects q) (get m.objects q)
+  near_base q here = subst (λ (e : Option Entry). AreEntriesNear (is_loose fields q) e (get m.objects q)) (sym (object_at q (has q d.objects) true refl here ∙ never (has q d.objects))) (is.near q here)
+    where
+      never : (b : Bool) → (if b && false then get new.objects q else get old.objects q) ≡ get old.objects q
+      never true = refl
+      never false = refl
+
+  pub laid_can_set : CanSet base fields
+  laid_can_set = can_set (is_alike shifts) m fields base is.holds whole.own near_base
+
+  pub laid_is : with_fields fields base ≡ m
   laid_is =
       let placed = puts_same m is.sound puts (λ h. has h d.handles) ended is.stand but in
-      let a = entries_rest new d.objects filled in
+      let a = entries_rest new firm filled in
       let b = cells_rest new d.cells held in
-      let handles : whole.handles ≡ m.handles = a.0 ∙ b.0 ∙ placed.0 in
-      let scopes : whole.scopes ≡ m.scopes = a.1 ∙ b.1 ∙ placed.1 in
-      let cells : whole.cells ≡ m.cells = a.2 ∙ same_map nat_cmp_total nat_cmp-IsAntisymmetric filled.cells m.cells (λ q. cells_get new d.cells held q ∙ cell_at q (has q d.cells) refl) in
-      let objects : whole.objects ≡ m.objects = same_map nat_cmp_total nat_cmp-IsAntisymmetric whole.objects m.objects (λ q. entries_get new d.objects filled q ∙ object_at q (has q d.objects) refl) in
+      let f = fields_rest fields base in
+      let handles : (with_fields fields base).handles ≡ m.handles = f.0 ∙ a.0 ∙ b.0 ∙ placed.0 in
+      let scopes : (with_fields fields base).scopes ≡ m.scopes = f.1 ∙ a.1 ∙ b.1 ∙ placed.1 in
+      let cells : (with_fields fields base).cells ≡ m.cells = f.2 ∙ a.2 ∙ same_map nat_cmp_total nat_cmp-IsAntisymmetric filled.cells m.cells (λ q. cells_get new d.cells held q ∙ cell_at q (has q d.cells) refl) in
+      let objects : (with_fields fields base).objects ≡ m.objects = same_map nat_cmp_total nat_cmp-IsAntisymmetric (with_fields fields base).objects m.objects (λ q. at q (is_alike shifts q) refl) in
       λ i. record { handles = handles i; cells = cells i; objects = objects i; scopes = scopes i }
     where
       cell_at : (q : ℕ) (b : Bool) → has q d.cells ≡ b → (if b then get new.cells q else get held.cells q) ≡ get m.cells q
@@ -334,10 +357,13 @@ module _ (d : KeySet) (old new : State) (puts : List Put) (m : State) (sound : I
       cell_at q false e =
           ap (λ (c : FinMap nat_cmp Slot). get c q) ((puts_rest puts ended).0 ∙ (without_rest d.handles old).0) ∙ is.difference.cells q (not_false (has q d.cells) e)
 
-      object_at : (q : ℕ) (b : Bool) → has q d.objects ≡ b → (if b then get new.objects q else get filled.objects q) ≡ get m.objects q
-      object_at q true e = sym (is.stays.entries q (not_true (has q d.objects) e))
-      object_at q false e =
-          ap (λ (c : FinMap nat_cmp Entry). get c q) ((cells_rest new d.cells held).2 ∙ (puts_rest puts ended).1 ∙ (without_rest d.handles old).1) ∙ is.difference.entries q (not_false (has q d.objects) e)
+      firm_at : (q : ℕ) (b : Bool) → is_alike shifts q ≡ false → has q d.objects ≡ b → (if b && true then get new.objects q else get old.objects q) ≡ get m.objects q
+      firm_at q true out e = sym (is.stays.entries q ((λ i. out i || outside d (Object q)) ∙ not_true (has q d.objects) e))
+      firm_at q false out e = is.difference.entries q (not_false (has q d.objects) e)
+
+      at : (q : ℕ) (c : Bool) → is_alike shifts q ≡ c → get (with_fields fields base).objects q ≡ get m.objects q
+      at q true e = fields_get (is_alike shifts) m fields base is.holds near_base q e
+      at q false e = fields_others (is_alike shifts) m fields base whole.own q e ∙ object_at q (has q d.objects) false refl e ∙ firm_at q (has q d.objects) e refl
 
   -- the limits of what is put
   put_fits : IsBounded new → (p : Put) → has p.handle d.handles ≡ true → get m.handles p.handle ≡ Some p.holding → label_in p.handle m.scopes ≡ Some p.label → PutFits p
@@ -361,12 +387,19 @@ module _ (d : KeySet) (old new : State) (puts : List Put) (m : State) (sound : I
   laid_fits bounded = puts_fit bounded puts (λ h. has h d.handles) (λ h here. here) is.stand
 
 -- the same, of the lists that hold the set
-module _ (d : KeySet) (old new : State) (puts : List Put) (hs cs os : List ℕ) (h : hs ≡ d.handles) (c : cs ≡ d.cells) (o : os ≡ d.objects) (sound : IsSound old []) (m : State) (is : IsLaid d old new puts m) where
+module _ (d : KeySet) (firm : List ℕ) (shifts : List Shift) (fields : List FieldPut) (old new : State) (puts : List Put) (hs cs os : List ℕ) (h : hs ≡ d.handles) (c : cs ≡ d.cells) (o : os ≡ firm) (whole : IsWhole d firm shifts fields)
+    (sound : IsSound old []) (m : State) (is : IsLaid d shifts fields old new puts m) where
   pub made_can : CanPut (without_handles hs old) puts
-  made_can = subst (λ xs. CanPut (without_handles xs old) puts) (sym h) (laid_can d old new puts m sound is)
+  made_can = subst (λ xs. CanPut (without_handles xs old) puts) (sym h) (laid_can d firm shifts fields old new puts m whole sound is)
 
-  pub made_is : laid_over new hs cs os puts old ≡ m
-  made_is = (λ i. laid_over new (h i) (c i) (o i) puts old) ∙ laid_is d old new puts m sound is
+  made_base : laid_over new hs cs os puts old ≡ laid_over new d.handles d.cells firm puts old
+  made_base = λ i. laid_over new (h i) (c i) (o i) puts old
 
-  pub made_sound : IsSound (laid_over new hs cs os puts old) []
+  pub made_set : CanSet (laid_over new hs cs os puts old) fields
+  made_set = subst (λ (x : State). CanSet x fields) (sym made_base) (laid_can_set d firm shifts fields old new puts m whole sound is)
+
+  pub made_is : with_fields fields (laid_over new hs cs os puts old) ≡ m
+  made_is = ap (with_fields fields) made_base ∙ laid_is d firm shifts fields old new puts m whole sound is
+
+  pub made_sound : IsSound (with_fields fields (laid_over new hs cs os puts old)) []
   made_sound = subst (λ (k : State). IsSound k []) (sym made_is) is.sound

@@ -49,12 +49,12 @@ pub within_front : (k : Key → Bool) (a b : List Key) → AreWithin k (a ++ b) 
 within_front k [] b c = tt
 within_front k (x ∷ a) b c = (c.0, within_front k a b c.1)
 
-within_back : (k : Key → Bool) (a b : List Key) → AreWithin k (a ++ b) → AreWithin k b
+pub within_back : (k : Key → Bool) (a b : List Key) → AreWithin k (a ++ b) → AreWithin k b
 within_back k [] b c = c
 within_back k (x ∷ a) b c = within_back k a b c.1
 
 -- what all keys are in, they are in where more is
-within_more : (j k : Key → Bool) (keys : List Key) → ((x : Key) → j x ≡ true → k x ≡ true) → AreWithin j keys → AreWithin k keys
+pub within_more : (j k : Key → Bool) (keys : List Key) → ((x : Key) → j x ≡ true → k x ≡ true) → AreWithin j keys → AreWithin k keys
 within_more j k [] more c = tt
 within_more j k (x ∷ keys) more c = (more x c.0, within_more j k keys more c.1)
 

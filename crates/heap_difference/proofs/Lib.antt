@@ -8,8 +8,12 @@ pub mod LawLemmas
 pub mod EndingLemmas
 pub mod MayEndLemmas
 pub mod PutLemmas
+pub mod AlikeLemmas
+pub mod HolderLemmas
+pub mod FieldLemmas
 pub mod LaidLemmas
 pub mod PuttingLemmas
-pub mod LayerLemmas
-pub mod MergeLemmas
 pub mod FilterLemmas
+pub mod LayerLemmas
+pub mod PassingLemmas
+pub mod MergeLemmas

@@ -1,7 +1,7 @@
 -- How the new scopes are made out of the old ones, and that this stays so over operations that touch nothing of it.
 use Rattle.std.proofs.Common.{◌≡◌, ℕ, List, [], ◌∷◌, ◌++◌, refl, ap, ◌∙◌, sym, subst, Bool, true, false}
 use mathlib.Core.Logic.{⊎_elim}
-use Rattle.std.specs.Prelude.{◌==◌, ◌||◌, ◌&&◌, Option, Some, None, if◌then◌else◌, filter, not, is_some, option_to_list}
+use Rattle.std.specs.Prelude.{◌==◌, ◌||◌, ◌&&◌, Option, Some, None, if◌then◌else◌, filter, not, is_some, option_to_list, IsTrue}
 use Rattle.std.specs.List.{AllByRecursion, list_any}
 use Rattle.std.specs.FinMap.{get}
 use Rattle.trace_types.specs.declared.slots.Scoped.{Scoped}
@@ -13,7 +13,8 @@ use Rattle.ownership_model.specs.declared.key.Key.TheVariants.{Handle, Cell, Obj
 use Rattle.ownership_model.specs.Reach.{has}
 use Rattle.ownership_model.specs.State.{State, IsSound}
 use Rattle.ownership_model.specs.Scopes.{scope_of, times_held}
-use Rattle.ownership_model.specs.Step.{end_from}
+use Rattle.trace_types.specs.Trace.{has_distinct_numbers}
+use Rattle.ownership_model.specs.Step.{end_from, AreUnused}
 use Rattle.ownership_model.specs.Alike.{AreAlike, AreWithin, ScopesMoveAlike}
 use Rattle.ownership_model.specs.Footprint.{footprints_from, moved_from}
 use Rattle.ownership_model.specs.FootprintLaws.{ReplaysAlike}
@@ -26,7 +27,7 @@ use Rattle.heap_difference.specs.declared.key_set.KeySet.{KeySet}
 use Rattle.object_heap.specs.declared.put.Put.{Put}
 use Rattle.heap_difference.specs.KeySets.{is_among}
 use Rattle.heap_difference.specs.Differences.{outside, less}
-use Rattle.heap_difference.specs.Puts.{put_all, ArePuts, PutsMakeScopes, AreUndersApart, unders, PutsStay}
+use Rattle.heap_difference.specs.Puts.{put_all, ArePuts, PutsMakeScopes, AreUndersApart, DoUndersStay, unders, PutsStay}
 use Rattle.heap_difference.specs.Endings.{may_end, may_end_any}
 use Rattle.heap_difference.proofs.Tests.{clash, not_false, not_true, is_false, left_false, right_false, or_right, has_first, filter_keeps, filter_drops, filter_all, filter_skip}
 use Rattle.heap_difference.proofs.ScopeLemmas.{after, distinct_scope, some_same, in_own, in_no_other, label_of_member, under_after, filter_same, filter_put, filter_has}
@@ -242,27 +243,34 @@ outside_but keys us (p ∷ ps) all = (
     none : (b : ℕ) → has b us ≡ true → (is_among keys (Handle b) && not (has b us)) ≡ false
     none b here = and_false (is_among keys (Handle b)) (not (has b us)) (not_true (has b us) here)
 
+-- where the scopes move alike and no handle of the set is touched, the puts stay
+pub puts_stay_by : (d keys : KeySet) (old new : State) (puts : List Put) (ops : List Operation) → ((h : ℕ) → has h d.handles ≡ true → is_among keys (Handle h) ≡ false)
+    → ScopesMoveAlike (is_among keys) old.scopes (end_from old ops).scopes new.scopes (end_from new ops).scopes → AreWithin (is_among keys) (footprints_from new ops) → DoUndersStay keys ops puts
+    → IsSound new [] → IsTrue (has_distinct_numbers ops) → AreUnused new ops → ArePuts (λ h. has h d.handles) new puts → ArePuts (λ h. has h d.handles) (end_from new ops) puts
+puts_stay_by d keys old new puts ops untouched moves feet stay sound distinct unused are =
+    let kept = footprints.kept_by_replay (is_among keys) new ops sound distinct unused feet in
+    let later = (soundness.replays new ops sound distinct unused).1 in
+    let own : ℕ → Bool = λ h. has h d.handles in
+    ⊎_elim
+    (λ (apart : AreUndersApart keys puts).
+    all_stay (is_among keys) new (end_from new ops) old.scopes (end_from old ops).scopes sound later moves puts own
+    (λ h here. (untouched h here, kept.0.handles h (untouched h here)))
+    (outside_apart keys puts apart) are)
+    (λ (ends : may_end_any ops (unders puts) ≡ false).
+    let us : ℕ → Bool = λ h. has h (unders puts) in
+    let moved = run_moves us (is_among keys) ops new (none_end ops (unders puts) ends) feet (unders_held new sound puts own are) in
+    all_stay (but us (is_among keys)) new (end_from new ops) new.scopes (end_from new ops).scopes sound later moved.scopes puts own
+    (λ h here. (ap (λ c. c && not (us h)) (untouched h here), kept.0.handles h (untouched h here)))
+    (outside_but keys (unders puts) puts (λ h here. here)) are)
+    stay
+
 pub puts_stay : PutsStay
 puts_stay d keys old new puts ops differ touched none stay sound sound_too distinct unused unused_too are =
     let feet : AreWithin (is_among keys) (footprints_from old ops) = within_front (is_among keys) (footprints_from old ops) (moved_from old ops) touched in
     let alike : AreAlike (is_among keys) old new = alike_less (is_among keys) (outside d) old new (meet_none d keys none) differ in
     let r : ReplaysAlike (is_among keys) old new ops = footprints.replays (is_among keys) old new ops alike feet in
     let feet_too : AreWithin (is_among keys) (footprints_from new ops) = subst (λ ks. AreWithin (is_among keys) ks) r.footprints feet in
-    let kept = footprints.kept_by_replay (is_among keys) new ops sound_too distinct unused_too feet_too in
-    let later = (soundness.replays new ops sound_too distinct unused_too).1 in
-    let own : ℕ → Bool = λ h. has h d.handles in
-    ⊎_elim
-    (λ (apart : AreUndersApart keys puts).
-    all_stay (is_among keys) new (end_from new ops) old.scopes (end_from old ops).scopes sound_too later r.scopes puts own
-    (λ h here. (apart_at h here (is_among keys (Handle h)) refl, kept.0.handles h (apart_at h here (is_among keys (Handle h)) refl)))
-    (outside_apart keys puts apart) are)
-    (λ (ends : may_end_any ops (unders puts) ≡ false).
-    let us : ℕ → Bool = λ h. has h (unders puts) in
-    let moved = run_moves us (is_among keys) ops new (none_end ops (unders puts) ends) feet_too (unders_held new sound_too puts own are) in
-    all_stay (but us (is_among keys)) new (end_from new ops) new.scopes (end_from new ops).scopes sound_too later moved.scopes puts own
-    (λ h here. (ap (λ c. c && not (us h)) (apart_at h here (is_among keys (Handle h)) refl), kept.0.handles h (apart_at h here (is_among keys (Handle h)) refl)))
-    (outside_but keys (unders puts) puts (λ h here. here)) are)
-    stay
+    puts_stay_by d keys old new puts ops (λ h here. apart_at h here (is_among keys (Handle h)) refl) r.scopes feet_too stay sound_too distinct unused_too are
   where
     apart_at : (h : ℕ) → has h d.handles ≡ true → (b : Bool) → is_among keys (Handle h) ≡ b → b ≡ false
     apart_at h here true e = absurd (clash (has h d.handles) here (is_false (has h d.handles) (meet_none d keys none (Handle h) e)))

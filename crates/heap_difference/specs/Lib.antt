@@ -8,3 +8,8 @@ pub mod Puts
 pub mod Laid
 pub mod Layers
 pub mod Filters
+pub mod Alikes
+pub mod Blind
+pub mod Recounted
+pub mod Holders
+pub mod Passing

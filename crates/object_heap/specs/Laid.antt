@@ -1,4 +1,4 @@
--- A state over which parts of another one are laid: some handles, cells and objects (profile of this project).
+-- A state over which parts of another one are laid: some handles, cells and objects, and then fields (profile of this project).
 use Rattle.std.specs.Prelude.{ℕ, ◌≡◌, ◌≤◌, List, [], ◌∷◌, Option, Some, None, length, take}
 use Rattle.std.specs.List.{AllByRecursion}
 use Rattle.std.specs.FinMap.{get, insert, remove}
@@ -7,11 +7,14 @@ use Rattle.trace_types.specs.declared.slots.Slot.{Slot}
 use Rattle.trace_types.specs.declared.slots.Holding.{Holding}
 use Rattle.trace_types.specs.declared.slots.Entry.{Entry}
 use Rattle.trace_types.specs.declared.slots.Entry.TheVariants.{Alive, Husk}
+use Rattle.trace_types.specs.declared.slots.Change.TheVariants.{SetField}
 use Rattle.ownership_model.specs.State.{State, IsPointer}
 use Rattle.ownership_model.specs.Scopes.{left}
 use Rattle.ownership_model.specs.Bounds.{IsBounded, HoldingFits}
+use Rattle.ownership_model.specs.Changes.{changed_by, HasField}
 use Rattle.object_heap.specs.declared.draft.Draft.{Draft}
 use Rattle.object_heap.specs.declared.put.Put.{Put}
+use Rattle.object_heap.specs.declared.put.FieldPut.{FieldPut}
 use Rattle.object_heap.specs.Counted.{drafted, IsCounted}
 use Rattle.object_heap.specs.Exchange.{without_object, with_object}
 use Rattle.object_heap.specs.Links.{entered_above, IsAbove}
@@ -75,6 +78,20 @@ with_entries n (o ∷ os) m = with_entries n os (with_entry (get n.objects o) o 
 -- the state m, without these handles, with these puts, and with these cells and objects of the state n
 abbrev pub laid_over : State → (handles cells objects : List ℕ) → List Put → State → State
 laid_over n hs cs os ps m = with_entries n os (with_cells n cs (with_puts ps (without_handles hs m)))
+
+-- a field of an object holds this
+abbrev pub with_field_put : FieldPut → State → State
+with_field_put f m = changed_by m (SetField f.object f.index f.slot)
+
+-- so do fields, one after another
+abbrev pub with_fields : List FieldPut → State → State
+with_fields [] m = m
+with_fields (f ∷ fs) m = with_fields fs (with_field_put f m)
+
+-- each field is there when its turn comes
+abbrev pub CanSet : State → List FieldPut → Type 0
+CanSet m [] = Unit {0}
+CanSet m (f ∷ fs) = HasField (get m.objects f.object) f.index × CanSet (with_field_put f m) fs
 
 -- For private functions alone: a draft holds this state, with its counts
 pub record IsDrafted (new : Draft) (m : State) : Type 0 where

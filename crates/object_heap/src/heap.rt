@@ -15,13 +15,13 @@ ghost use Rattle.ownership_model.specs.Patch.{patched};
 ghost use Rattle.ownership_model.specs.Alike.{Covers};
 ghost use Rattle.object_heap.specs.Exchange.{AreWithinLimits};
 ghost use Rattle.object_heap.specs.Told.{release_keys, event_keys};
-ghost use Rattle.object_heap.specs.Laid.{without_handles, CanPut, PutsFit, laid_over};
+ghost use Rattle.object_heap.specs.Laid.{without_handles, CanPut, PutsFit, laid_over, with_fields, CanSet};
 ghost use Rattle.object_heap.specs.Links.{first_of, earlier_in, label_in};
 
 use crate::counters::Counters;
 use crate::draft::Draft;
 use crate::object::same_kept;
-use crate::put::Put;
+use crate::put::{FieldPut, Put};
 use ownership_model::Key;
 use ownership_model::remaining::Remaining;
 use share_tree::ShareTree;
@@ -405,10 +405,11 @@ impl Heap {
     }
 
     /// The heap without some handles, with others put into their scopes, and with the cells and objects of another heap at these numbers.
-    /// None of what is put is held then, and the result is to be sound.
+    /// None of what is put is held then. Last, fields of objects are set, one after another: each is there when its turn comes. The result is
+    /// to be sound.
     ///
-    /// The work is that of these handles, cells and objects, and of their fields: the rest isn't looked at, but for a scope at whose end a
-    /// handle is put. What this heap alone holds is changed in place.
+    /// The work is that of these handles, cells and objects, of their fields, and of the fields that are set: the rest isn't looked at, but for
+    /// a scope at whose end a handle is put. What this heap alone holds is changed in place.
     pub fn laid(
         self,
         alloc: Global,
@@ -417,16 +418,19 @@ impl Heap {
         cells: &[u32],
         objects: &[u32],
         puts: &[Put],
+        fields: &[FieldPut],
     ) -> Result<Heap, AllocError>
         requires can { CanPut (without_handles handles.now self) puts.now }
         requires fits { PutsFit puts.now }
-        requires sound { IsSound (laid_over from.now handles.now cells.now objects.now puts.now
-            self) [] }
-        ensures { IfOk result (λ h. h
-            ≡ laid_over from.now handles.now cells.now objects.now puts.now self) }
+        requires set { CanSet (laid_over from.now handles.now cells.now objects.now puts.now self)
+            fields.now }
+        requires sound { IsSound (with_fields fields.now (laid_over from.now handles.now cells.now
+            objects.now puts.now self)) [] }
+        ensures { IfOk result (λ h. h ≡ with_fields fields.now
+            (laid_over from.now handles.now cells.now objects.now puts.now self)) }
     {
         let Heap { mut draft } = self;
-        draft.lay(alloc, &from.draft, handles, cells, objects, puts)?;
+        draft.lay(alloc, &from.draft, handles, cells, objects, puts, fields)?;
         Ok(Heap { draft })
     }
 }

@@ -1,24 +1,25 @@
-//! Parts of one state laid over another: some of its handles, cells and objects.
+//! Parts of one state laid over another: some of its handles, cells and objects, and then fields that are set.
 ghost use Rattle.std.specs.Prelude.{◌≡◌, ◌≢◌, ◌↔◌, ◌<◌, ◌≤◌, [], None, Some, length, slice_get, take, IsTrue, OnOk};
 ghost use Rattle.std.specs.Option.{option_copied};
 ghost use Rattle.std.specs.FinMap as map;
 ghost use Rattle.trace_types.specs.declared.slots.Entry.TheVariants.{Alive};
 ghost use Rattle.ownership_model.specs.Bounds.{IsBounded, AreFew, CellFits, ObjectFits};
+ghost use Rattle.ownership_model.specs.Changes.{HasField};
 ghost use Rattle.object_heap.specs.Counted.{drafted, IsCounted, IsKept};
 ghost use Rattle.object_heap.specs.Links.{IsAbove};
 ghost use Rattle.object_heap.specs.Exchange.{with_object};
-ghost use Rattle.object_heap.specs.Laid.{ended_at, without_handles, with_put, with_puts, CanPut, PutFits, PutsFit, cell_ended, with_cell, with_cells, with_entry, with_entries, laid_over, IsDrafted, MayHold, BeginAlike};
+ghost use Rattle.object_heap.specs.Laid.{ended_at, without_handles, with_put, with_puts, CanPut, PutFits, PutsFit, with_field_put, with_fields, CanSet, cell_ended, with_cell, with_cells, with_entry, with_entries, laid_over, IsDrafted, MayHold, BeginAlike};
 
 use crate::counting::hold_holding;
 use crate::draft::Draft;
 use crate::object::same_entry;
-use crate::put::Put;
+use crate::put::{FieldPut, Put};
 use std::alloc::{AllocError, Global};
 use trace_types::slots::{Entry, Slot};
 
 impl Draft {
-    /// Handles go, others are put in, and cells and objects are as in another draft. Where memory runs out the draft is unspecified: let it
-    /// go.
+    /// Handles go, others are put in, and cells and objects are as in another draft. Then fields are set, one after another. Where memory
+    /// runs out the draft is unspecified: let it go.
     pub fn lay(
         &mut self,
         alloc: Global,
@@ -27,19 +28,24 @@ impl Draft {
         cells: &[u32],
         objects: &[u32],
         puts: &[Put],
+        fields: &[FieldPut],
     ) -> Result<(), AllocError>
         requires counted { IsCounted self.old.objects.counts (drafted self.old) [] }
         requires bounded { IsBounded (drafted self.old) }
         requires from { IsKept from.now }
         requires can { CanPut (without_handles handles.now (drafted self.old)) puts.now }
         requires fits { PutsFit puts.now }
-        ensures { OnOk result (IsDrafted self.new (laid_over (drafted from.now)
-            handles.now cells.now objects.now puts.now (drafted self.old))) }
+        requires set { CanSet (laid_over (drafted from.now) handles.now cells.now objects.now
+            puts.now (drafted self.old)) fields.now }
+        ensures { OnOk result (IsDrafted self.new (with_fields fields.now
+            (laid_over (drafted from.now) handles.now cells.now objects.now puts.now
+            (drafted self.old)))) }
     {
         self.end_each(alloc, handles)?;
         self.put_each(alloc, puts)?;
         self.copy_cells(alloc, from, cells)?;
-        self.copy_objects(alloc, from, objects)
+        self.copy_objects(alloc, from, objects)?;
+        self.put_fields(alloc, fields)
     }
 
     fn end_each(&mut self, alloc: Global, handles: &[u32]) -> Result<(), AllocError>
@@ -151,6 +157,29 @@ impl Draft {
             self.put_entry(alloc, *object, from.objects.get(*object))?;
         }
         Ok(())
+    }
+
+    // Each field is there when its turn comes, and is set then.
+    fn put_fields(&mut self, alloc: Global, fields: &[FieldPut]) -> Result<(), AllocError>
+        requires counted { IsCounted self.old.objects.counts (drafted self.old) [] }
+        requires bounded { IsBounded (drafted self.old) }
+        requires set { CanSet (drafted self.old) fields.now }
+        ensures { OnOk result (IsDrafted self.new (with_fields fields.now (drafted self.old))) }
+    {
+        for field in fields {
+            self.put_field(alloc, field)?;
+        }
+        Ok(())
+    }
+
+    // A field of an object that is alive is set.
+    fn put_field(&mut self, alloc: Global, field: &FieldPut) -> Result<(), AllocError>
+        requires counted { IsCounted self.old.objects.counts (drafted self.old) [] }
+        requires bounded { IsBounded (drafted self.old) }
+        requires can { HasField (map.get self.old.objects.entries field.now.object) field.now.index }
+        ensures { OnOk result (IsDrafted self.new (with_field_put field.now (drafted self.old))) }
+    {
+        self.set_field(alloc, field.object, field.index, field.slot)
     }
 
     // This stands for an object, or nothing does. Where it is so already nothing is done: to put the same again would count all its fields

@@ -25,5 +25,5 @@ mod updates;
 mod weight;
 
 pub use heap::Heap;
-pub use put::Put;
+pub use put::{FieldPut, Put};
 pub use told::{take_back, tell_once};

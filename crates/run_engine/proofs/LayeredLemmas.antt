@@ -1,29 +1,27 @@
 -- Segments whose heaps are kept as older ones, over which layers lie.
-use Rattle.std.proofs.Common.{◌≡◌, ◌++◌, ◌∷◌, ◌<◌, ◌+◌, ℕ, List, [], ap, refl, subst, sym, ◌∙◌, true, take, drop, length}
+use Rattle.std.proofs.Common.{◌≡◌, ◌++◌, ◌∷◌, ◌<◌, ◌+◌, ℕ, List, [], ap, refl, subst, sym, ◌∙◌, take, drop, length}
 use Rattle.std.specs.Prelude.{Option, Some, None, IfSome, option_map, map}
 use Rattle.std.proofs.Math.ListN.{get_or}
 use Rattle.std.proofs.lemmas.List.{take_more, drop_more, get_or-map, length-map}
-use Rattle.ownership_model.specs.declared.key.Key.{Key}
 use Rattle.ownership_model.specs.State.{State, IsSound}
 use Rattle.ownership_model.specs.Reach.{has}
 use Rattle.heap_difference.specs.declared.key_set.KeySet.{KeySet}
-use Rattle.heap_difference.specs.KeySets.{is_among}
+use Rattle.heap_difference.specs.Alikes.{AreEntriesAlike, HoldFields}
 use Rattle.heap_difference.specs.Differences.{IsDifference}
 use Rattle.heap_difference.specs.Puts.{ArePuts}
-use Rattle.heap_difference.specs.Laid.{IsLaid}
-use Rattle.heap_difference.specs.Layers.{LayerView, with_layer, IsLaidBy}
+use Rattle.heap_difference.specs.Layers.{LayerView, IsLayer, with_layer, IsLaidBy, Covers, AreAmong}
 use Rattle.heap_difference.proofs.LayerLemmas.{layers_hold}
 use Rattle.run_engine.specs.SegmentView.{SegmentView}
 use Rattle.run_engine.specs.inner.Layered.{with_all, Makes, AreLaid, AreLaidBelow, AreWithin, IsOver, standing_at}
 
--- what the layer makes of a state under others, whose keys it has, it makes of the state that is kept
-makes-below : (others : List LayerView) (l : LayerView) (m new : State) → AreWithin others l.keys → AreLaid others m → Makes l new (with_all others m) → Makes l new m
+-- what the layer makes of a state under others, all of which it covers, it makes of the state that is kept
+makes-below : (others : List LayerView) (l : LayerView) (m new : State) → AreWithin others l → AreLaid others m → Makes l new (with_all others m) → Makes l new m
 makes-below [] l m new within below makes = makes
 makes-below (o ∷ os) l m new within below makes =
     let rest : Makes l new (with_layer o m) = makes-below os l (with_layer o m) new within.1 below.1 makes in
     record {
       sound = below.0.sound;
-      laid = layers_hold.through o.keys l.keys l.from o.from m (with_layer o m) new l.puts o.puts below.0.laid within.0 rest.laid;
+      laid = layers_hold.through l o m (with_layer o m) new below.0.laid within.0 rest.laid;
     }
 
 -- layers one behind the other
@@ -64,15 +62,15 @@ stands-over own new l (Some m) made over below makes =
       below = subst (λ ls. AreLaid ls m) (sym over.new_is) (one-more over.below l m (lower-laid over.below over.others m own-laid) (subst (λ n. Makes l n base) (sym is) here));
     }
 
--- one more layer whose keys are among these, behind others
-pub within-more : (ls : List LayerView) (l : LayerView) (keys : KeySet) → AreWithin ls keys → ((x : Key) → is_among l.keys x ≡ true → is_among keys x ≡ true) → AreWithin (ls ++ l ∷ []) keys
-within-more [] l keys within here = (here, tt)
-within-more (o ∷ os) l keys within here = (within.0, within-more os l keys within.1 here)
+-- one more layer that is covered, behind others
+pub within-more : (ls : List LayerView) (l other : LayerView) → AreWithin ls other → Covers other l → AreWithin (ls ++ l ∷ []) other
+within-more [] l other within here = (here, tt)
+within-more (o ∷ os) l other within here = (within.0, within-more os l other within.1 here)
 
 -- the lower layers and the last one
-pub within-both : (ls others : List LayerView) (keys : KeySet) → AreWithin ls keys → AreWithin others keys → AreWithin (ls ++ others) keys
-within-both [] others keys within rest = rest
-within-both (o ∷ os) others keys within rest = (within.0, within-both os others keys within.1 rest)
+pub within-both : (ls others : List LayerView) (other : LayerView) → AreWithin ls other → AreWithin others other → AreWithin (ls ++ others) other
+within-both [] others other within rest = rest
+within-both (o ∷ os) others other within rest = (within.0, within-both os others other within.1 rest)
 
 -- the heap that the lower ones make, which the last one can be laid over
 pub last-laid : (lower : List LayerView) (l : LayerView) (m : State) → AreLaid (lower ++ l ∷ []) m → Makes l (with_layer l (with_all lower m)) (with_all lower m)
@@ -102,12 +100,13 @@ to-place f xs now i x l whole lt is here =
     let many = as-many f xs now i whole lt in
     subst (λ ls. take (i + 1) ls ≡ take i ls ++ l ∷ []) whole (take_more (map f xs) i (f x) many ∙ ap (λ v. take i (map f xs) ++ v ∷ []) (at-place f xs i x l (subst (λ n. i < n) (length-map xs f) many) is here))
 
--- what stands in a heap at some keys and at others can be laid over each state that differs from it at no more than those, and makes the heap
-pub layer-laid : (l : LayerView) (keys : KeySet) (old heap : State) → l.from ≡ heap → ((x : Key) → is_among keys x ≡ true → is_among l.keys x ≡ true) → IsSound heap [] → ArePuts (λ h. has h l.keys.handles) l.from l.puts
-    → IsDifference keys old heap → IsLaidBy l old heap
-layer-laid l keys old heap from within sound puts differ =
-    subst (λ (m : State). IsLaid l.keys old m l.puts heap) (sym from)
-    (layers_hold.start l.keys old heap l.puts (layers_hold.more keys l.keys old heap differ within) sound (subst (λ (m : State). ArePuts (λ h. has h l.keys.handles) m l.puts) from puts))
+-- what stands in a heap at some keys and at others can be laid over a state that differs from it at no more than those, and makes the heap
+pub layer-laid : (l : LayerView) (keys : KeySet) (old heap : State) → l.from ≡ heap → IsLayer l → AreAmong keys l → AreEntriesAlike l.shifts l.fields old heap → HoldFields l.fields heap → IsSound heap []
+    → ArePuts (λ h. has h l.keys.handles) l.from l.puts → IsDifference keys old heap → IsLaidBy l old heap
+layer-laid l keys old heap from layer within near holds sound puts differ =
+    subst (IsLaidBy l old) from
+    (subst (λ (m : State). IsDifference l.keys old m → AreEntriesAlike l.shifts l.fields old m → HoldFields l.fields m → IsSound m [] → IsLaidBy l old l.from) from
+    (λ differs alike held sound_here. layers_hold.start l old layer differs alike held sound_here puts) (layers_hold.more keys l.keys old heap differ within) near holds sound)
 
 -- a heap with nothing over it stands as it is
 pub none-laid : (kept : Option State) → AreLaidBelow [] kept

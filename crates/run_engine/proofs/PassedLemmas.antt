@@ -10,11 +10,16 @@ use Rattle.trace_types.specs.Trace.{has_distinct_numbers}
 use Rattle.ownership_model.specs.declared.key.Key.{Key}
 use Rattle.ownership_model.specs.State.{State, IsSound, nothing_held}
 use Rattle.ownership_model.specs.Step.{end_from, AreUnused}
-use Rattle.ownership_model.specs.Alike.{AreAlike, AreWithin}
+use Rattle.ownership_model.specs.Alike.{AreWithin}
+use Rattle.ownership_model.specs.Near.{AreNear, AreBlindFrom}
 use Rattle.ownership_model.specs.Footprint.{footprints_from, moved_from}
-use Rattle.ownership_model.proofs.LawsHold.{appends}
+use Rattle.ownership_model.proofs.LawsHold.{appends, blind}
 use Rattle.heap_difference.specs.declared.key_set.KeySet.{KeySet}
+use Rattle.heap_difference.specs.declared.holders.Holders.{Holders}
+use Rattle.heap_difference.specs.Alikes.{is_alike, is_loose, AreShifts}
 use Rattle.heap_difference.specs.Differences.{outside, IsDifference}
+use Rattle.heap_difference.specs.Laid.{beside_firm}
+use Rattle.heap_difference.specs.Passing.{IsUnderWay, ReadTheSame}
 use Rattle.heap_difference.specs.Layers.{LayerView, with_layer, IsLaidBy}
 use Rattle.heap_difference.proofs.LayerLemmas.{layers_hold}
 use Rattle.run_engine.specs.declared.replay.prefix.NextStretch.{NextStretch}
@@ -22,7 +27,7 @@ use Rattle.run_engine.specs.declared.replay.rejoin.OldMark.{OldMark}
 use Rattle.run_engine.specs.SegmentView.{SegmentView}
 use Rattle.run_engine.specs.Segments.{ops_of, trace_of, mark_here, marks_from, all_marks, has_mark, BeginsMarked, IsPiece}
 use Rattle.run_engine.specs.Steps.{IsUntouchedStretch}
-use Rattle.run_engine.specs.inner.Untouched.{CanBeUnder, IsPassedOver, IsPartUnder, IsWhole, IsNextPart}
+use Rattle.run_engine.specs.inner.Untouched.{CanBeUnder, IsPassedOver, IsPartUnder, IsPartOnWay, IsWhole, IsNextPart}
 use Rattle.run_engine.proofs.ListingLemmas.{around}
 use Rattle.run_engine.proofs.SegmentLemmas.{trace_of-append, marks_from-append, AreReplayFrom-append}
 use Rattle.run_engine.proofs.DifferenceLemmas.{footprints-append, moved-append, within-prefix, within-back, within-both}
@@ -97,6 +102,13 @@ touched-append k m n ops more is h then =
     within-both k (footprints_from m (ops ++ more)) (moved_from m (ops ++ more))
     (subst (AreWithin k) (sym (footprints-append m ops more)) feet) (subst (AreWithin k) (sym (moved-append m ops more)) moves)
 
+-- so it is with operations that read the same
+same-append : (l : LayerView) (m n : State) (ops more : List Operation) → n ≡ end_from m ops → ReadTheSame l m ops → ReadTheSame l n more → ReadTheSame l m (ops ++ more)
+same-append l m n ops more is h then = record {
+  within = touched-append (beside_firm l.keys l.shifts) m n ops more is h.within then.within;
+  blind = blind.appends (is_alike l.shifts) (is_loose l.fields) m ops more h.blind (subst (λ (k : State). AreBlindFrom (is_alike l.shifts) (is_loose l.fields) k more) is then.blind);
+}
+
 -- ---- one behind the other
 -- no segment is taken over yet
 pub part-none : (old : List SegmentView) (l : LayerView) (index : ℕ) (start : State) (segments : List SegmentView) → segments ≡ [] → index ≤ length old
@@ -112,27 +124,27 @@ part-none old l index start segments none within laid unused =
       old_bare = λ at. refl;
       trace = ap (λ n. trace_of (drop n old)) here;
       end_is = ap (λ n. end_from nothing_held (trace_of (take n old))) (sym here);
-      touched = tt;
+      same = record { within = tt; blind = tt };
       laid = subst (λ n. IsLaidBy l (end_from nothing_held (trace_of (take n old))) start) here laid;
       differs = λ d among differ. subst (λ n. IsDifference d (end_from nothing_held (trace_of (take n old))) start) here differ;
       unused = subst (λ n. AreUnused start (trace_of (drop n old))) here unused;
     })
 
 -- the next one may be
-pub part-may : (old : List SegmentView) (l : LayerView) (index i : ℕ) (start : State) (segments : List SegmentView) → i ≡ index + length segments → i < length old → IsPartUnder old l index start segments
-    → CanBeUnder old l i (end_from start (trace_of segments))
-part-may old l index i start segments place lt h = record {
+pub part-may : (old : List SegmentView) (l : LayerView) (h : Holders) (index i : ℕ) (start : State) (segments : List SegmentView) → i ≡ index + length segments → i < length old → IsPartOnWay old l h index start segments
+    → CanBeUnder old l h i (end_from start (trace_of segments))
+part-may old l h index i start segments place lt on = record {
   within = lt;
-  laid = subst (λ n. IsLaidBy l (end_from nothing_held (trace_of (take n old))) (end_from start (trace_of segments))) (sym place) h.laid;
-  unused = subst (λ n. AreUnused (end_from start (trace_of segments)) (trace_of (drop n old))) (sym place) h.unused;
+  way = subst (λ n. IsUnderWay l h (end_from nothing_held (trace_of (take n old))) (end_from start (trace_of segments))) (sym place) on.way;
+  unused = subst (λ n. AreUnused (end_from start (trace_of segments)) (trace_of (drop n old))) (sym place) on.part.unused;
 }
 
 -- one more is
-part-more : (old : List SegmentView) (l : LayerView) (index i : ℕ) (start : State) (segments : List SegmentView) (s : SegmentView) (marked : Bool) → i ≡ index + length segments → i < length old
-    → IsPartUnder old l index start segments → IsPassedOver old l i (end_from start (trace_of segments)) marked s → BeginsMarked (segments ++ s ∷ [])
+part-more : (old : List SegmentView) (l : LayerView) (after : Holders) (index i : ℕ) (start : State) (segments : List SegmentView) (s : SegmentView) (marked : Bool) → i ≡ index + length segments → i < length old
+    → IsPartUnder old l index start segments → IsPassedOver old l after i (end_from start (trace_of segments)) marked s → BeginsMarked (segments ++ s ∷ [])
     → ((at : ℕ) → marks_from at (drop 1 (segments ++ s ∷ [])) ≡ []) → ((at : ℕ) → marks_from at (take (length (segments ++ s ∷ []) - 1) (drop (index + 1) old)) ≡ [])
-    → IsPartUnder old l index start (segments ++ s ∷ [])
-part-more old l index i start segments s marked place lt h next begins bare old_bare =
+    → IsPartOnWay old l after index start (segments ++ s ∷ [])
+part-more old l after index i start segments s marked place lt h next begins bare old_bare =
     let more : List SegmentView = segments ++ s ∷ [] in
     let m : State = end_from nothing_held (trace_of (take index old)) in
     let n : State = end_from nothing_held (trace_of (take i old)) in
@@ -141,45 +153,50 @@ part-more old l index i start segments s marked place lt h next begins bare old_
     let end : end_from (end_from start (trace_of segments)) (ops_of s) ≡ end_from start (trace_of (segments ++ s ∷ [])) = sym (appends.end start (trace_of segments) (ops_of s)) ∙ ap (end_from start) (sym ops) in
     let behind : trace_of (drop index old) ≡ trace_of segments ++ trace_of (drop i old) = h.trace ∙ ap (λ k. trace_of segments ++ trace_of (drop k old)) (sym place) in
     let here : n ≡ end_from m (trace_of segments) = ap (λ k. end_from nothing_held (trace_of (take k old))) place ∙ h.end_is in
+    let way : IsUnderWay l after (end_from nothing_held (trace_of (take (index + length (segments ++ s ∷ [])) old))) (end_from start (trace_of (segments ++ s ∷ []))) =
+    subst (IsUnderWay l after (end_from nothing_held (trace_of (take (index + length (segments ++ s ∷ [])) old)))) end
+    (subst (λ k. IsUnderWay l after (end_from nothing_held (trace_of (take k old))) (end_from (end_from start (trace_of segments)) (ops_of s))) there next.way) in
     record {
-      within = omega (arith, there, lt);
-      replay = AreReplayFrom-append start segments (s ∷ []) h.replay (next.segment, tt);
-      full = AreFull-append segments (s ∷ []) h.full (next.full, tt);
-      begins = begins;
-      bare = bare;
-      old_bare = old_bare;
-      trace = behind ∙ ap (λ os. trace_of segments ++ os) (next.trace ∙ ap (λ k. ops_of s ++ trace_of (drop k old)) there) ∙ sym (append_assoc (trace_of segments) (ops_of s) (trace_of (drop (index + length (segments ++ s ∷ [])) old)))
-          ∙ ap (λ os. os ++ trace_of (drop (index + length (segments ++ s ∷ [])) old)) (sym ops);
-      end_is = ap (λ k. end_from nothing_held (trace_of (take k old))) (sym there) ∙ next.end_is ∙ ap (λ (k : State). end_from k (ops_of s)) here ∙ sym (appends.end m (trace_of segments) (ops_of s)) ∙ ap (end_from m) (sym ops);
-      touched = subst (λ os. AreWithin (outside l.keys) (footprints_from m os ++ moved_from m os)) (sym ops) (touched-append (outside l.keys) m n (trace_of segments) (ops_of s) here h.touched next.touched);
-      laid = subst (IsLaidBy l (end_from nothing_held (trace_of (take (index + length (segments ++ s ∷ [])) old)))) end
-          (subst (λ k. IsLaidBy l (end_from nothing_held (trace_of (take k old))) (end_from (end_from start (trace_of segments)) (ops_of s))) there next.laid);
-      differs = λ d among differ.
-          subst (IsDifference d (end_from nothing_held (trace_of (take (index + length (segments ++ s ∷ [])) old)))) end
-          (subst (λ k. IsDifference d (end_from nothing_held (trace_of (take k old))) (end_from (end_from start (trace_of segments)) (ops_of s))) there
-          (next.differs d among (subst (λ k. IsDifference d (end_from nothing_held (trace_of (take k old))) (end_from start (trace_of segments))) (sym place) (h.differs d among differ))));
-      unused = subst (λ k. AreUnused k (trace_of (drop (index + length (segments ++ s ∷ [])) old))) end
-          (subst (λ k. AreUnused (end_from (end_from start (trace_of segments)) (ops_of s)) (trace_of (drop k old))) there next.unused);
+      way = way;
+      part = record {
+        within = omega (arith, there, lt);
+        replay = AreReplayFrom-append start segments (s ∷ []) h.replay (next.segment, tt);
+        full = AreFull-append segments (s ∷ []) h.full (next.full, tt);
+        begins = begins;
+        bare = bare;
+        old_bare = old_bare;
+        trace = behind ∙ ap (λ os. trace_of segments ++ os) (next.trace ∙ ap (λ k. ops_of s ++ trace_of (drop k old)) there) ∙ sym (append_assoc (trace_of segments) (ops_of s) (trace_of (drop (index + length (segments ++ s ∷ [])) old)))
+            ∙ ap (λ os. os ++ trace_of (drop (index + length (segments ++ s ∷ [])) old)) (sym ops);
+        end_is = ap (λ k. end_from nothing_held (trace_of (take k old))) (sym there) ∙ next.end_is ∙ ap (λ (k : State). end_from k (ops_of s)) here ∙ sym (appends.end m (trace_of segments) (ops_of s)) ∙ ap (end_from m) (sym ops);
+        same = subst (ReadTheSame l m) (sym ops) (same-append l m n (trace_of segments) (ops_of s) here h.same next.same);
+        laid = way.is.laid;
+        differs = λ d among differ.
+            subst (IsDifference d (end_from nothing_held (trace_of (take (index + length (segments ++ s ∷ [])) old)))) end
+            (subst (λ k. IsDifference d (end_from nothing_held (trace_of (take k old))) (end_from (end_from start (trace_of segments)) (ops_of s))) there
+            (next.differs d among (subst (λ k. IsDifference d (end_from nothing_held (trace_of (take k old))) (end_from start (trace_of segments))) (sym place) (h.differs d among differ))));
+        unused = subst (λ k. AreUnused k (trace_of (drop (index + length (segments ++ s ∷ [])) old))) end
+            (subst (λ k. AreUnused (end_from (end_from start (trace_of segments)) (ops_of s)) (trace_of (drop k old))) there next.unused);
+      };
     }
 
 -- the first is, with a checkpoint
-pub part-first : (old : List SegmentView) (l : LayerView) (index : ℕ) (start new : State) (segments more : List SegmentView) (s : SegmentView) → segments ≡ [] → more ≡ s ∷ [] → start ≡ new → index < length old
-    → IsPartUnder old l index start segments → IsPassedOver old l index new true s → IsPartUnder old l index start more
-part-first old l index start new segments more s none is same lt h next =
+pub part-first : (old : List SegmentView) (l : LayerView) (after : Holders) (index : ℕ) (start new : State) (segments more : List SegmentView) (s : SegmentView) → segments ≡ [] → more ≡ s ∷ [] → start ≡ new → index < length old
+    → IsPartUnder old l index start segments → IsPassedOver old l after index new true s → IsPartOnWay old l after index start more
+part-first old l after index start new segments more s none is same lt h next =
     let place : index ≡ index + 0 = omega arith in
-    subst (IsPartUnder old l index start) (sym is)
-    (part-more old l index index start [] s true place lt (subst (IsPartUnder old l index start) none h) (subst (λ (m : State). IsPassedOver old l index m true s) (sym same) next) next.mark (λ at. refl) (λ at. refl))
+    subst (IsPartOnWay old l after index start) (sym is)
+    (part-more old l after index index start [] s true place lt (subst (IsPartUnder old l index start) none h) (subst (λ (m : State). IsPassedOver old l after index m true s) (sym same) next) next.mark (λ at. refl) (λ at. refl))
 
 -- so is one more, with none
-pub part-next : (old : List SegmentView) (l : LayerView) (index i : ℕ) (start : State) (segments more : List SegmentView) (s : SegmentView) → i ≡ index + length segments → i < length old → 0 < length segments → more ≡ segments ++ s ∷ []
-    → has_mark old i ≡ false → IsPartUnder old l index start segments → IsPassedOver old l i (end_from start (trace_of segments)) false s → IsPartUnder old l index start more
-part-next old l index i start segments more s place lt some is none h next =
+pub part-next : (old : List SegmentView) (l : LayerView) (after : Holders) (index i : ℕ) (start : State) (segments more : List SegmentView) (s : SegmentView) → i ≡ index + length segments → i < length old → 0 < length segments → more ≡ segments ++ s ∷ []
+    → has_mark old i ≡ false → IsPartUnder old l index start segments → IsPassedOver old l after i (end_from start (trace_of segments)) false s → IsPartOnWay old l after index start more
+part-next old l after index i start segments more s place lt some is none h next =
     let k : ℕ = length segments - 1 in
     let there : index + 1 + k ≡ i = omega (arith, place, some) in
     let long : k + 1 ≡ length (segments ++ s ∷ []) - 1 = omega (arith, length-append segments (s ∷ []), some) in
     let far : has_mark (drop (index + 1) old) k ≡ false = has_mark-drop (index + 1) old k i (sym there) ∙ none in
-    subst (IsPartUnder old l index start) (sym is)
-    (part-more old l index i start segments s false place lt h next (begins-more segments s some h.begins) (λ at. bare-behind segments s next.mark h.bare at some)
+    subst (IsPartOnWay old l after index start) (sym is)
+    (part-more old l after index i start segments s false place lt h next (begins-more segments s some h.begins) (λ at. bare-behind segments s next.mark h.bare at some)
     (λ at. ap (λ n. marks_from at (take n (drop (index + 1) old))) (sym long) ∙ bare-more (drop (index + 1) old) k far h.old_bare at))
 
 -- ---- the old stretch that a part lies in
@@ -348,10 +365,18 @@ pub differs-at : (old : List SegmentView) (mark : OldMark) (heap : State) (keys 
 differs-at old mark heap keys place is differ = subst (λ (m : State). IsDifference keys m heap) (is ∙ ap (end_from nothing_held) (sym (trace_of-prefix old mark.index mark.at place))) differ
 
 -- the layer makes the heap there
-pub laid-at : (old : List SegmentView) (index : ℕ) (heap : State) (keys : KeySet) (l : LayerView) → IsDifference keys (end_from nothing_held (trace_of (take index old))) heap → l.from ≡ heap
-    → ((m : State) → IsDifference keys m heap → IsLaidBy l m heap) → IsLaidBy l (end_from nothing_held (trace_of (take index old))) l.from
-laid-at old index heap keys l differ from laid =
-    subst (IsLaidBy l (end_from nothing_held (trace_of (take index old)))) (sym from) (laid (end_from nothing_held (trace_of (take index old))) differ)
+pub laid-at : (old : List SegmentView) (mark : OldMark) (heap : State) (keys : KeySet) (l : LayerView) → length (trace_of (take mark.index old)) ≡ mark.at → mark.mark ≡ end_from nothing_held (take mark.at (trace_of old))
+    → IsDifference keys mark.mark heap → l.from ≡ heap → (IsDifference keys mark.mark heap → IsLaidBy l mark.mark heap) → IsLaidBy l (end_from nothing_held (trace_of (take mark.index old))) l.from
+laid-at old mark heap keys l place is differ from laid =
+    let here : mark.mark ≡ end_from nothing_held (trace_of (take mark.index old)) = is ∙ ap (end_from nothing_held) (sym (trace_of-prefix old mark.index mark.at place)) in
+    subst (λ (m : State). IsLaidBy l m l.from) here (subst (IsLaidBy l mark.mark) (sym from) (laid differ))
+
+-- and the counts differ there as its shifts say
+pub counts-at : (old : List SegmentView) (mark : OldMark) (heap : State) (l : LayerView) → length (trace_of (take mark.index old)) ≡ mark.at → mark.mark ≡ end_from nothing_held (take mark.at (trace_of old))
+    → l.from ≡ heap → AreShifts l.shifts mark.mark heap → AreShifts l.shifts (end_from nothing_held (trace_of (take mark.index old))) l.from
+counts-at old mark heap l place is from counts =
+    let here : mark.mark ≡ end_from nothing_held (trace_of (take mark.index old)) = is ∙ ap (end_from nothing_held) (sym (trace_of-prefix old mark.index mark.at place)) in
+    subst (λ (m : State). AreShifts l.shifts m l.from) here (subst (AreShifts l.shifts mark.mark) (sym from) counts)
 
 -- ---- what a replay goes on with
 -- the operations of a part are the first from there on
@@ -390,8 +415,7 @@ part-stretch old l index start segments begins lt laid h some enough =
     inside-at old index (length segments) len begins lt some h.old_bare (long-of-part old l index start segments h) in
     let here : m ≡ end_from nothing_held (take at (trace_of old)) = ap (end_from nothing_held) (trace_of-prefix old index at refl) in
     let ops : List Operation = take len (trace_of (drop index old)) in
-    let within : AreWithin (outside l.keys) (footprints_from m ops ++ moved_from m ops) =
-    subst (λ os. AreWithin (outside l.keys) (footprints_from m os ++ moved_from m os)) (sym (first-of-part old l index start segments h)) h.touched in
+    let same : ReadTheSame l m ops = subst (ReadTheSame l m) (sym (first-of-part old l index start segments h)) h.same in
     record {
       at = at;
       place = record {
@@ -403,8 +427,11 @@ part-stretch old l index start segments begins lt laid h some enough =
       };
       ops_are = ap (take len) (sym (trace_of-back old index at refl));
       keys = outside l.keys;
-      alike = subst (λ (n : State). AreAlike (outside l.keys) n start) here laid.difference;
-      within = subst (λ (n : State). AreWithin (outside l.keys) (footprints_from n ops ++ moved_from n ops)) here within;
+      objects = is_alike l.shifts;
+      loose = is_loose l.fields;
+      near = subst (λ (n : State). AreNear (outside l.keys) (is_alike l.shifts) (is_loose l.fields) n start) here (record { alike = laid.is.difference; near = laid.is.near });
+      blind = subst (λ (n : State). AreBlindFrom (is_alike l.shifts) (is_loose l.fields) n ops) here same.blind;
+      within = subst (λ (n : State). AreWithin (beside_firm l.keys l.shifts) (footprints_from n ops ++ moved_from n ops)) here same.within;
     }
 
 -- the heap behind a part is the old one under the layer

@@ -1,6 +1,6 @@
 -- How many operations are stepped at least.
 use Rattle.std.proofs.Common.{◌≡◌, ℕ, ◌+◌, ◌-◌, ◌<◌, ◌≤◌, List, [], ◌∷◌, ◌++◌, length, take, drop, refl, ap, sym, subst, ◌∙◌, arith, length-append}
-use Rattle.std.specs.Prelude.{Contains, slice_range}
+use Rattle.std.specs.Prelude.{Contains, slice_range, ◌||◌}
 use mathlib.Core.Logic.{⊎_elim, inl, inr}
 use Rattle.std.proofs.lemmas.Bool.{cases_lt}
 use Rattle.trace_types.specs.Operation.{Operation}
@@ -11,7 +11,8 @@ use Rattle.op_step.specs.Chunk.{Chunk}
 use Rattle.run_engine.specs.Memo.{IsAmong, AreSome}
 use Rattle.run_engine.specs.Bounds.{AgreesAt}
 use Rattle.std.specs.List.{AllByRecursion}
-use Rattle.ownership_model.specs.Alike.{AreAlike, AreWithin}
+use Rattle.ownership_model.specs.Alike.{AreWithin}
+use Rattle.ownership_model.specs.Near.{is_object_of, AreNear, AreBlindFrom}
 use Rattle.ownership_model.specs.Footprint.{footprints_from, moved_from}
 use Rattle.run_engine.specs.Steps.{IsOldStretch, IsUntouchedStretch, IsKnown, AreTaken, IsCovered, AreRising, HaveStepped, EditedReplay, MustStep, AreStepped}
 use Rattle.run_engine.proofs.ListingLemmas.{take-shorter}
@@ -78,8 +79,11 @@ wider-untouched old marks start heap ops at to len is le h =
       place = h.place;
       ops_are = h.ops_are ∙ same;
       keys = h.keys;
-      alike = subst (AreAlike h.keys m) is h.alike;
-      within = subst (λ os. AreWithin h.keys (footprints_from m os ++ moved_from m os)) same h.within;
+      objects = h.objects;
+      loose = h.loose;
+      near = subst (AreNear h.keys h.objects h.loose m) is h.near;
+      blind = subst (AreBlindFrom h.objects h.loose m) same h.blind;
+      within = subst (λ os. AreWithin (λ x. is_object_of h.objects x || h.keys x) (footprints_from m os ++ moved_from m os)) same h.within;
     }
 
 -- what is known of a part of the operations is known of all from there on, and to whoever has more chunks

@@ -1,11 +1,12 @@
 -- Which operations of an edited trace are stepped.
-use Rattle.std.specs.Prelude.{◌≡◌, ℕ, ◌+◌, ◌-◌, ◌<◌, ◌≤◌, List, [], ◌∷◌, ◌++◌, Bool, length, take, drop, Contains, ◌⊎◌}
+use Rattle.std.specs.Prelude.{◌≡◌, ℕ, ◌+◌, ◌-◌, ◌<◌, ◌≤◌, List, [], ◌∷◌, ◌++◌, Bool, length, take, drop, Contains, ◌⊎◌, ◌||◌}
 use Rattle.std.specs.List.{AllByRecursion}
 use Rattle.trace_types.specs.Operation.{Operation}
 use Rattle.ownership_model.specs.State.{State, nothing_held}
 use Rattle.ownership_model.specs.Step.{end_from}
 use Rattle.ownership_model.specs.declared.key.Key.{Key}
-use Rattle.ownership_model.specs.Alike.{AreAlike, AreWithin}
+use Rattle.ownership_model.specs.Alike.{AreWithin}
+use Rattle.ownership_model.specs.Near.{is_object_of, AreNear, AreBlindFrom}
 use Rattle.ownership_model.specs.Footprint.{footprints_from, moved_from}
 use Rattle.op_step.specs.Meter.{raised}
 use Rattle.run_engine.specs.HeadAndTail.{AreShared}
@@ -22,15 +23,19 @@ pub record IsOldStretch (old : List Operation) (marks : List ℕ) (start : State
   pub start_is : start ≡ end_from nothing_held (take place.neighbours.at old)
   pub ops_are : take len (drop place.neighbours.at old) ≡ take len ops
 
--- an old stretch between neighbouring checkpoints, or a part of one, has the first `len` of the operations, and begins with a state that differs
--- from this one only in what they don't touch, move or copy
+-- An old stretch between neighbouring checkpoints, or a part of one, has the first `len` of the operations, and begins with a state that differs
+-- from this one only in what they don't touch, move or copy; and in the counts, and some fields, of objects that are alive in both, which they touch
+-- without reading these
 pub record IsUntouchedStretch (old : List Operation) (marks : List ℕ) (start : State) (ops : List Operation) (len : ℕ) : Type 0 where
   pub at : ℕ
   pub place : IsPart marks at len
   pub ops_are : take len (drop at old) ≡ take len ops
   pub keys : Key → Bool
-  pub alike : AreAlike keys (end_from nothing_held (take at old)) start
-  pub within : AreWithin keys (footprints_from (end_from nothing_held (take at old)) (take len ops) ++ moved_from (end_from nothing_held (take at old)) (take len ops))
+  pub objects : ℕ → Bool
+  pub loose : ℕ → ℕ → Bool
+  pub near : AreNear keys objects loose (end_from nothing_held (take at old)) start
+  pub blind : AreBlindFrom objects loose (end_from nothing_held (take at old)) (take len ops)
+  pub within : AreWithin (λ x. is_object_of objects x || keys x) (footprints_from (end_from nothing_held (take at old)) (take len ops) ++ moved_from (end_from nothing_held (take at old)) (take len ops))
 
 -- an old stretch begins with the state and has the first `len` of the operations, or it differs where it begins only in what they don't
 -- touch, or one of the chunks begins so and has them

@@ -1,10 +1,8 @@
 -- Heaps of segments that are kept as older ones, over which layers lie.
-use Rattle.std.specs.Prelude.{◌≡◌, ◌++◌, ◌∷◌, [], List, true, Option, Some, None, IfSome, option_map, option_to_list}
-use Rattle.ownership_model.specs.declared.key.Key.{Key}
+use Rattle.std.specs.Prelude.{◌≡◌, ◌++◌, ◌∷◌, [], List, Option, Some, None, IfSome, option_map, option_to_list}
+use Rattle.trace_types.specs.declared.outcomes.Outcome.{Outcome}
 use Rattle.ownership_model.specs.State.{State, IsSound}
-use Rattle.heap_difference.specs.declared.key_set.KeySet.{KeySet}
-use Rattle.heap_difference.specs.KeySets.{is_among}
-use Rattle.heap_difference.specs.Layers.{LayerView, with_layer, IsLaidBy}
+use Rattle.heap_difference.specs.Layers.{LayerView, with_layer, IsLaidBy, Covers}
 use Rattle.run_engine.specs.SegmentView.{SegmentView}
 
 -- the state with the layers laid over it, the first of them first
@@ -35,21 +33,21 @@ AreLaid (l ∷ ls) m = Makes l (with_layer l m) m × AreLaid ls (with_layer l m)
 abbrev pub AreLaidBelow : List LayerView → Option State → Type 0
 AreLaidBelow ls kept = IfSome kept (AreLaid ls)
 
--- all keys of the layers are among these
-abbrev pub AreWithin : List LayerView → KeySet → Type 0
-AreWithin [] keys = Unit {0}
-AreWithin (l ∷ ls) keys = ((x : Key) → is_among l.keys x ≡ true → is_among keys x ≡ true) × AreWithin ls keys
+-- all that the layers lay is laid by the other one
+abbrev pub AreWithin : List LayerView → LayerView → Type 0
+AreWithin [] other = Unit {0}
+AreWithin (l ∷ ls) other = Covers other l × AreWithin ls other
 
--- all keys of the layer, if there is one, are among those of the other
+-- all that the layer lays, if there is one, is laid by the other
 abbrev pub IsWithin : Option LayerView → LayerView → Type 0
-IsWithin layer other = AreWithin (option_to_list layer) other.keys
+IsWithin layer other = AreWithin (option_to_list layer) other
 
--- the layer lies over the lowest of these, in place of the others, all of whose keys it has
+-- the layer lies over the lowest of these, in place of the others, and lays all that they do
 pub record IsOver (own : List LayerView) (l : LayerView) (new : List LayerView) : Type 0 where
   pub below : List LayerView
   pub others : List LayerView
   pub own_is : own ≡ below ++ others
-  pub within : AreWithin others l.keys
+  pub within : AreWithin others l
   pub new_is : new ≡ below ++ l ∷ []
 
 -- the layer makes the new state of the segment's checkpoint and anchor, if they are kept
@@ -69,3 +67,7 @@ standing_at new s = record s { mark = option_map (λ m. new) s.mark; anchor = op
 -- the same with its checkpoint there in any case
 abbrev pub started_at : State → SegmentView → SegmentView
 started_at new s = record s { mark = Some new; anchor = option_map (λ m. new) s.anchor }
+
+-- the same with these outcomes
+abbrev pub told_at : List Outcome → SegmentView → SegmentView
+told_at outcomes s = record s { outcomes = outcomes }

@@ -1,18 +1,18 @@
 -- Old stretches, and parts of them, that are taken over though the states differ.
-use Rattle.std.specs.Prelude.{◌≡◌, ℕ, ◌+◌, ◌-◌, ◌<◌, ◌≤◌, List, [], ◌∷◌, ◌++◌, length, take, drop, Bool, true, false, Some, is_some, Contains}
+use Rattle.std.specs.Prelude.{◌≡◌, ℕ, ◌+◌, ◌-◌, ◌<◌, ◌≤◌, List, [], ◌∷◌, ◌++◌, length, take, drop, flat_map, Bool, Some, true, is_some, Contains}
 use Rattle.trace_types.specs.Operation.{Operation}
+use Rattle.trace_types.specs.declared.outcomes.Outcome.{Outcome}
 use Rattle.ownership_model.specs.declared.key.Key.{Key}
 use Rattle.ownership_model.specs.State.{State, nothing_held}
 use Rattle.ownership_model.specs.Step.{end_from, AreUnused}
-use Rattle.ownership_model.specs.Alike.{AreWithin}
-use Rattle.ownership_model.specs.Footprint.{footprints_from, moved_from}
 use Rattle.agreement.specs.Agreement.{Agree}
 use Rattle.heap_difference.specs.declared.key_set.KeySet.{KeySet}
-use Rattle.heap_difference.specs.KeySets.{is_among, set_of, meet}
-use Rattle.heap_difference.specs.Naming.{with_names}
-use Rattle.heap_difference.specs.Puts.{DoUndersStay}
-use Rattle.heap_difference.specs.Differences.{outside, IsDifference}
-use Rattle.heap_difference.specs.Layers.{LayerView, IsLaidBy}
+use Rattle.heap_difference.specs.declared.holders.Holders.{Holders}
+use Rattle.heap_difference.specs.KeySets.{set_of}
+use Rattle.heap_difference.specs.Naming.{outcome_keys, with_names}
+use Rattle.heap_difference.specs.Differences.{IsDifference}
+use Rattle.heap_difference.specs.Layers.{LayerView, IsLaidBy, AreAmong}
+use Rattle.heap_difference.specs.Passing.{IsUnderWay, ReadTheSame, MayBePassed}
 use Rattle.run_engine.specs.SegmentView.{SegmentView}
 use Rattle.run_engine.specs.Segments.{ops_of, trace_of, marks_from, all_marks, has_mark, IsSegmentFrom, AreReplayFrom, AreFull, BeginsMarked, IsPiece}
 use Rattle.run_engine.specs.Bounds.{AgreesAt}
@@ -30,36 +30,32 @@ AreTakenOver old marks start ops [] = Unit {0}
 AreTakenOver old marks start ops (s ∷ segments) =
     IsTakenOver old marks start ops s × AreTakenOver old marks (end_from start (ops_of s)) (drop (length (ops_of s)) ops) segments
 
--- the keys that a segment touches are known, and none of them is one of the layer's, nor a handle just under one that is put in, unless by what its
--- operations name they may end none of these
-pub record IsClear (s : SegmentView) (l : LayerView) : Type 0 where
+-- the keys that a segment touches are known, and its operations may be passed under the layer, with these outcomes then
+pub record IsClear (s : SegmentView) (l : LayerView) (before after : Holders) (outcomes : List Outcome) : Type 0 where
   pub told : List Key
   pub known : Some told ≡ s.keys
-  pub apart : meet l.keys (set_of (with_names told s.ops s.outcomes)) ≡ false
-  pub unders : DoUndersStay (set_of (with_names told s.ops s.outcomes)) s.ops l.puts
+  pub passed : MayBePassed l before after (set_of (with_names told s.ops s.outcomes)) s.ops s.outcomes outcomes
+  pub names : flat_map outcome_keys outcomes ≡ flat_map outcome_keys s.outcomes
 
--- a layer makes the state at the old segment at an index new, and the operations from there on may be carried out from the new one
-pub record CanBeUnder (old : List SegmentView) (l : LayerView) (i : ℕ) (new : State) : Type 0 where
+-- a replay is on its way under a layer at the old segment at an index, with a new state there, and the operations from there on may be carried out from
+-- that
+pub record CanBeUnder (old : List SegmentView) (l : LayerView) (h : Holders) (i : ℕ) (new : State) : Type 0 where
   pub within : i < length old
-  pub laid : IsLaidBy l (end_from nothing_held (trace_of (take i old))) new
+  pub way : IsUnderWay l h (end_from nothing_held (trace_of (take i old))) new
   pub unused : AreUnused new (trace_of (drop i old))
 
 -- there is such a state
-pub record MayBeUnder (old : List SegmentView) (l : LayerView) (i : ℕ) : Type 0 where
+pub record MayBeUnder (old : List SegmentView) (l : LayerView) (h : Holders) (i : ℕ) : Type 0 where
   pub new : State
-  pub is : CanBeUnder old l i new
+  pub is : CanBeUnder old l h i new
 
--- the keys are among those of the layer
-abbrev pub AreAmong : KeySet → LayerView → Type 0
-AreAmong d l = (x : Key) → is_among d x ≡ true → is_among l.keys x ≡ true
-
--- the old segment at an index is taken over, where a layer makes the state there new: it makes the state behind it new, too, and a difference
--- among its keys stays
-pub record IsUnder (old : List SegmentView) (l : LayerView) (i : ℕ) (start : State) (s : SegmentView) : Type 0 where
+-- the old segment at an index is taken over, where a replay is on its way under a layer: so it is behind it, too, and a difference among the layer's keys
+-- stays
+pub record IsUnder (old : List SegmentView) (l : LayerView) (h : Holders) (i : ℕ) (start : State) (s : SegmentView) : Type 0 where
   pub begins : BeginsMarked (drop (i + 1) old)
   pub taken : IsTakenOver (trace_of old) (all_marks old) start (trace_of (drop i old)) s
   pub trace : trace_of (drop i old) ≡ ops_of s ++ trace_of (drop (i + 1) old)
-  pub laid : IsLaidBy l (end_from nothing_held (trace_of (take (i + 1) old))) (end_from start (ops_of s))
+  pub way : IsUnderWay l h (end_from nothing_held (trace_of (take (i + 1) old))) (end_from start (ops_of s))
   pub differs : (d : KeySet) → AreAmong d l → IsDifference d (end_from nothing_held (trace_of (take i old))) start → IsDifference d (end_from nothing_held (trace_of (take (i + 1) old))) (end_from start (ops_of s))
   pub unused : AreUnused (end_from start (ops_of s)) (trace_of (drop (i + 1) old))
 
@@ -86,16 +82,16 @@ pub record AreNext (old : List SegmentView) (index : ℕ) (start : State) (next 
   pub end_is : next.end ≡ end_from start (trace_of next.segments)
   pub apart : 1 < length next.segments → ¬ (Agree next.end (end_from nothing_held (trace_of (take (index + length next.segments) old))))
 
--- the old segment at an index goes on from a new state, which a layer makes of its own one, with a checkpoint there or without: it touches none
--- of the layer's keys, so the layer makes the new state behind it, too, and a difference among its keys stays
-pub record IsPassedOver (old : List SegmentView) (l : LayerView) (i : ℕ) (new : State) (marked : Bool) (s : SegmentView) : Type 0 where
+-- the old segment at an index goes on from a new state, where a replay is on its way under a layer, with a checkpoint there or without: it reads the same
+-- in both, so the replay is on its way behind it, too, and a difference among the layer's keys stays
+pub record IsPassedOver (old : List SegmentView) (l : LayerView) (h : Holders) (i : ℕ) (new : State) (marked : Bool) (s : SegmentView) : Type 0 where
   pub mark : is_some s.mark ≡ marked
   pub segment : IsSegmentFrom new s
   pub full : 0 < length (ops_of s)
   pub trace : trace_of (drop i old) ≡ ops_of s ++ trace_of (drop (i + 1) old)
   pub end_is : end_from nothing_held (trace_of (take (i + 1) old)) ≡ end_from (end_from nothing_held (trace_of (take i old))) (ops_of s)
-  pub touched : AreWithin (outside l.keys) (footprints_from (end_from nothing_held (trace_of (take i old))) (ops_of s) ++ moved_from (end_from nothing_held (trace_of (take i old))) (ops_of s))
-  pub laid : IsLaidBy l (end_from nothing_held (trace_of (take (i + 1) old))) (end_from new (ops_of s))
+  pub same : ReadTheSame l (end_from nothing_held (trace_of (take i old))) (ops_of s)
+  pub way : IsUnderWay l h (end_from nothing_held (trace_of (take (i + 1) old))) (end_from new (ops_of s))
   pub differs : (d : KeySet) → AreAmong d l → IsDifference d (end_from nothing_held (trace_of (take i old))) new → IsDifference d (end_from nothing_held (trace_of (take (i + 1) old))) (end_from new (ops_of s))
   pub unused : AreUnused (end_from new (ops_of s)) (trace_of (drop (i + 1) old))
 
@@ -110,7 +106,7 @@ pub record IsPartUnder (old : List SegmentView) (l : LayerView) (index : ℕ) (s
   pub old_bare : (at : ℕ) → marks_from at (take (length segments - 1) (drop (index + 1) old)) ≡ []
   pub trace : trace_of (drop index old) ≡ trace_of segments ++ trace_of (drop (index + length segments) old)
   pub end_is : end_from nothing_held (trace_of (take (index + length segments) old)) ≡ end_from (end_from nothing_held (trace_of (take index old))) (trace_of segments)
-  pub touched : AreWithin (outside l.keys) (footprints_from (end_from nothing_held (trace_of (take index old))) (trace_of segments) ++ moved_from (end_from nothing_held (trace_of (take index old))) (trace_of segments))
+  pub same : ReadTheSame l (end_from nothing_held (trace_of (take index old))) (trace_of segments)
   pub laid : IsLaidBy l (end_from nothing_held (trace_of (take (index + length segments) old))) (end_from start (trace_of segments))
   pub differs : (d : KeySet) → AreAmong d l → IsDifference d (end_from nothing_held (trace_of (take index old))) start
       → IsDifference d (end_from nothing_held (trace_of (take (index + length segments) old))) (end_from start (trace_of segments))
@@ -144,3 +140,13 @@ IsPast old ops at next from to = (p : ℕ) → next ≤ p → p - at + from < to
 -- the same of old checkpoints alone
 abbrev pub IsPastMarks : (old ops : List Operation) (marks : List ℕ) (at next from to : ℕ) → Type 0
 IsPastMarks old ops marks at next from to = (p : ℕ) → Contains marks p → next ≤ p → p - at + from < to → ¬ (AgreesAt old ops at from p)
+
+-- segments that are taken over while a replay is on its way under a layer: so it is behind them, too
+pub record AreOnWay (old : List SegmentView) (l : LayerView) (h : Holders) (index : ℕ) (start : State) (segments : List SegmentView) : Type 0 where
+  pub under : AreUnder old l index start segments
+  pub way : IsUnderWay l h (end_from nothing_held (trace_of (take (index + length segments) old))) (end_from start (trace_of segments))
+
+-- the same of segments that are taken over as a part of an old stretch
+pub record IsPartOnWay (old : List SegmentView) (l : LayerView) (h : Holders) (index : ℕ) (start : State) (segments : List SegmentView) : Type 0 where
+  pub part : IsPartUnder old l index start segments
+  pub way : IsUnderWay l h (end_from nothing_held (trace_of (take (index + length segments) old))) (end_from start (trace_of segments))

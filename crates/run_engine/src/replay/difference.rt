@@ -15,7 +15,7 @@ use crate::replay::progress::{Fork, Progress};
 use crate::replay::rejoin::OldMark;
 use crate::replay::revision::Revision;
 use crate::segments::blocks::Segments;
-use heap_difference::{KeySet, Numbers, add_all, found};
+use heap_difference::{Alikes, KeySet, Numbers, add_all, found};
 use object_heap::Heap;
 use ownership_model::Key;
 use std::alloc::{AllocError, Global};
@@ -25,6 +25,9 @@ use trace_types::outcomes::Outcome;
 
 /// How many keys of a kind are followed at most. To lay more of them over a heap takes as long as to step a stretch.
 const MOST_KEYS: usize = 16;
+
+/// How many objects are followed at most: of those that are alike only fields are laid.
+const MOST_OBJECTS: usize = 32;
 
 /// How many keys of a kind that either run touches are looked up at most.
 const MOST_TOUCHED: usize = 65_536;
@@ -40,6 +43,9 @@ const MOST_SEGMENTS: usize = 1024;
 
 /// How many keys of a stretch, and how many of its outcomes, are tried before all are looked up.
 const FIRST_KEYS: usize = 32;
+
+/// How many stretches are taken over at once at most.
+const MOST_STRETCHES: usize = 256;
 
 /// How many looks in a row may be in vain.
 const MOST_LOOKS: usize = 12;
@@ -61,6 +67,8 @@ pub struct Difference {
     // how many looks were in vain since the last stretch that was taken over, and how many checkpoints and anchors are passed before the next look
     vain: usize,
     wait: usize,
+    // sixteen times how many stretches are taken over at once at most
+    most: usize,
 }
 
 impl Difference {
@@ -74,6 +82,7 @@ impl Difference {
             base: fork.base,
             vain: 0,
             wait: 0,
+            most: 1,
         }
     }
 
@@ -85,6 +94,12 @@ impl Difference {
             None => None,
             Some(keys) => Some(keys),
         }
+    }
+
+    /// How many stretches are to be taken over at once at most: one the first three times, and then each time four times as many. Behind the first ones
+    /// the heaps often agree, and to find where behind many takes as many searches as halve them.
+    pub fn most(&self) -> usize {
+        (self.most / 16).max(1)
     }
 
     /// Whether the keys are known.
@@ -152,6 +167,7 @@ impl Difference {
         self.keys = Some(KeySet::none(alloc));
         self.edited = fork.edited;
         self.base = fork.base;
+        self.most = 1;
     }
 
     // The keys at which the heaps differ where a replay and an old checkpoint or anchor stand, among those that differed before and all that the
@@ -192,7 +208,7 @@ impl Difference {
             return Ok(None);
         }
         let keys = found(alloc, &old.mark, &progress.prefix.end, &all)?;
-        if are_more(&keys, MOST_KEYS) {
+        if keys.objects.len() > MOST_OBJECTS || are_more_places(&keys, MOST_KEYS) {
             return Ok(None);
         }
         Ok(Some(keys))
@@ -209,6 +225,7 @@ impl Difference {
         self.edited += len;
         self.base += len;
         self.vain = 0;
+        self.most = self.most.saturating_mul(4).min(16 * MOST_STRETCHES);
     }
 
     /// A look was in vain. From the fourth in a row on one checkpoint or anchor is passed before the next look. After too many in a row the keys are
@@ -289,12 +306,15 @@ fn named_cell(kind: &Kind) -> Option<u32> {
     }
 }
 
-// Whether two heaps are told apart at a key with little work: by whether it is there, by an object's counts, by what a cell holds.
+// Whether two heaps are told apart at a key with little work: by whether it is there, by the counts of an object that isn't alive in both with as many
+// fields, by what a cell holds.
 fn is_told_apart(kept: &Heap, heap: &Heap, key: Key) -> bool {
     match key {
         Key::Handle(handle) => kept.holding(handle).is_some() != heap.holding(handle).is_some(),
         Key::Cell(cell) => kept.cell(cell) != heap.cell(cell),
-        Key::Object(object) => kept.counts(object) != heap.counts(object),
+        Key::Object(object) => {
+            kept.counts(object) != heap.counts(object) && !Alikes::are_alike(kept, heap, object)
+        }
         Key::Scope(_) => false,
     }
 }
@@ -370,4 +390,9 @@ fn are_more(keys: &KeySet, most: usize) -> bool
         || keys.cells.len() > most
         || keys.objects.len() > most
         || keys.labels.len() > most
+}
+
+// Whether there are more handles, cells or labels than so many.
+fn are_more_places(keys: &KeySet, most: usize) -> bool {
+    keys.handles.len() > most || keys.cells.len() > most || keys.labels.len() > most
 }

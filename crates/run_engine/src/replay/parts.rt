@@ -5,6 +5,7 @@ ghost use Rattle.ownership_model.specs.State.{State, nothing_held};
 ghost use Rattle.ownership_model.specs.Step.{end_from, AreUnused};
 ghost use Rattle.op_step.specs.Chunk.{Chunk};
 ghost use Rattle.heap_difference.specs.Differences.{IsDifference};
+ghost use Rattle.heap_difference.specs.Alikes.{AreShifts};
 ghost use Rattle.heap_difference.specs.Layers.{IsLaidBy};
 ghost use Rattle.run_engine.specs.inner.OldRun.{old_trace};
 ghost use Rattle.run_engine.specs.inner.Placed.{IsNext};
@@ -16,10 +17,10 @@ use crate::replay::prefix::{NextStretch, STRIDE};
 use crate::replay::rejoin::OldMark;
 use crate::replay::revision::Revision;
 use crate::replay::stretch::heap_at;
-use crate::replay::untouched::{is_clear, is_followed, layer_of, next_of};
+use crate::replay::untouched::{is_followed, layer_of, next_of, passed, recounted};
 use crate::segments::blocks::Segments;
 use crate::segments::segment::Segment;
-use heap_difference::{KeySet, Layer};
+use heap_difference::{Holders, KeySet, Layer};
 use object_heap::Heap;
 use std::alloc::{AllocError, Global};
 use std::sync::Arc;
@@ -53,7 +54,7 @@ pub fn untouched_part(
     ensures origin { (chunks : List (ℕ × Chunk)) →
         IfOk result (λ o. IfSome o (IsNext chunks heap.now)) }
 {
-    let Some(layer) = layer_of(alloc, revision, heap, old.index, keys)? else {
+    let Some(layer) = layer_of(alloc, revision, &old.mark, heap, old.index, keys)? else {
         return Ok(None);
     };
     let part = part_under(alloc, revision, heap, old.index, &layer)?;
@@ -102,13 +103,17 @@ fn part_under(
     requires laid { IsLaidBy (arc_value layer.now)
         (end_from nothing_held (trace_of (take index revision.now.segments.now)))
         (arc_value layer.now).from }
+    requires counts { AreShifts (arc_value layer.now).shifts
+        (end_from nothing_held (trace_of (take index revision.now.segments.now)))
+        (arc_value layer.now).from }
     requires unused { AreUnused (arc_value layer.now).from
         (trace_of (drop index revision.now.segments.now)) }
     ensures { IfOk result (IsPartUnder revision.now.segments.now (arc_value layer.now)
         index (arc_value layer.now).from) }
 {
     let mut done = Segments::empty(alloc);
-    let first = first_under(alloc, revision, heap, index, layer)?;
+    let mut holders = layer.holders(alloc)?;
+    let first = first_under(alloc, revision, heap, index, layer, &mut holders)?;
     let Some(first) = first else {
         return Ok(done);
     };
@@ -122,7 +127,7 @@ fn part_under(
             done = done.append(alloc, open)?;
             open = Segments::empty(alloc);
         }
-        let next = bare_under(alloc, revision, i, layer)?;
+        let next = bare_under(alloc, revision, i, layer, &mut holders)?;
         let Some(next) = next else {
             return Ok(done);
         };
@@ -131,41 +136,49 @@ fn part_under(
     done.append(alloc, open)
 }
 
-// The old segment at an index, with the heap that the layer is of as its checkpoint, if it is clear of the layer.
+// The old segment at an index, with the heap that the layer is of as its checkpoint, if it may be passed under the layer.
 fn first_under(
     alloc: Global,
     revision: &Revision,
     heap: &Heap,
     i: usize,
     layer: &Layer,
+    holders: &mut Holders,
 ) -> Result<Option<Segment>, AllocError>
-    requires { CanBeUnder revision.now.segments.now layer.now i heap.now }
-    ensures { IfOk result (λ o. IfSome o (IsPassedOver revision.now.segments.now layer.now i
-        heap.now true)) }
+    requires { CanBeUnder revision.now.segments.now layer.now holders.old i heap.now }
+    ensures { IfOk result (λ o. IfSome o (IsPassedOver revision.now.segments.now layer.now
+        holders.new i heap.now true)) }
 {
     let segment = revision.segments.at(i);
-    if !is_clear(&segment, layer) {
+    let Some(told) = passed(alloc, &segment, layer, holders)? else {
         return Ok(None);
-    }
-    segment.started(alloc, heap.share()?)
+    };
+    let Some(started) = segment.started(alloc, heap.share()?)? else {
+        return Ok(None);
+    };
+    Ok(Some(recounted(alloc, started, told)?))
 }
 
-// The old segment at an index, which has no checkpoint, as it stands under the layer, if it is clear of that.
+// The old segment at an index, which has no checkpoint, as it stands under the layer, if it may be passed.
 fn bare_under(
     alloc: Global,
     revision: &Revision,
     i: usize,
     layer: &Arc<Layer>,
+    holders: &mut Holders,
 ) -> Result<Option<Segment>, AllocError>
-    requires may { MayBeUnder revision.now.segments.now (arc_value layer.now) i }
+    requires may { MayBeUnder revision.now.segments.now (arc_value layer.now) holders.old i }
     requires bare { has_mark revision.now.segments.now i ≡ false }
     ensures { IfOk result (λ o. IfSome o (λ s. (new : State) →
-        CanBeUnder revision.now.segments.now (arc_value layer.now) i new →
-        IsPassedOver revision.now.segments.now (arc_value layer.now) i new false s)) }
+        CanBeUnder revision.now.segments.now (arc_value layer.now) holders.old i new →
+        IsPassedOver revision.now.segments.now (arc_value layer.now) holders.new i new false s)) }
 {
     let segment = revision.segments.at(i);
-    if !is_clear(&segment, layer) {
+    let Some(told) = passed(alloc, &segment, layer, holders)? else {
         return Ok(None);
-    }
-    segment.under(alloc, layer)
+    };
+    let Some(under) = segment.under(alloc, layer)? else {
+        return Ok(None);
+    };
+    Ok(Some(recounted(alloc, under, told)?))
 }

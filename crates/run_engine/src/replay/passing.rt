@@ -56,11 +56,12 @@ fn next_untouched(
     if !did_look {
         return Ok(None);
     }
+    let most = difference.most();
     let Some(keys) = difference.keys() else {
         return Ok(None);
     };
     let heap = &progress.prefix.end;
-    let next = untouched_stretches(alloc, revision, heap, old, keys, divergence)?;
+    let next = untouched_stretches(alloc, revision, heap, old, keys, divergence, most)?;
     match &next {
         None => difference.miss(),
         Some(piece) => difference.pass(piece.len),

@@ -1,15 +1,16 @@
 //! Old stretches that are taken over though the heaps differ.
-ghost use Rattle.std.specs.Prelude.{◌≡◌, ◌+◌, ◌<◌, ◌≤◌, ℕ, List, IfOk, IfSome, IsTrue, OnOk, Some, length, take, drop, true, false};
+ghost use Rattle.std.specs.Prelude.{◌≡◌, ◌+◌, ◌<◌, ◌≤◌, ℕ, List, IfOk, IfSome, IsTrue, OnOk, length, take, drop, flat_map, true};
 ghost use Rattle.std.specs.Arc.{arc_value};
 ghost use Rattle.ownership_model.specs.State.{State, nothing_held};
 ghost use Rattle.ownership_model.specs.Step.{end_from, AreUnused};
 ghost use Rattle.op_step.specs.Chunk.{Chunk};
-ghost use Rattle.ownership_model.specs.declared.key.Key.{Key};
-ghost use Rattle.heap_difference.specs.KeySets.{is_among, set_of, meet};
-ghost use Rattle.heap_difference.specs.Naming.{with_names};
-ghost use Rattle.heap_difference.specs.Puts.{DoUndersStay};
+ghost use Rattle.ownership_model.specs.Reach.{has};
+ghost use Rattle.heap_difference.specs.Alikes.{is_alike, AreAlikes, AreShifts};
+ghost use Rattle.heap_difference.specs.Naming.{outcome_keys};
+ghost use Rattle.heap_difference.specs.Recounted.{told_or};
 ghost use Rattle.heap_difference.specs.Differences.{IsDifference};
-ghost use Rattle.heap_difference.specs.Layers.{IsLaidBy};
+ghost use Rattle.heap_difference.specs.Layers.{IsLaidBy, AreAmong};
+ghost use Rattle.run_engine.specs.inner.Layered.{told_at};
 ghost use Rattle.run_engine.specs.inner.OldRun.{old_trace};
 ghost use Rattle.run_engine.specs.inner.Placed.{IsNext};
 ghost use Rattle.run_engine.specs.inner.Divergence.{IsDivergence};
@@ -24,24 +25,23 @@ use crate::replay::rejoin::OldMark;
 use crate::replay::revision::Revision;
 use crate::replay::stretch::{begins_anchored, mark_at};
 use crate::segments::blocks::Segments;
+use crate::segments::cover::Cover;
 use crate::segments::segment::Segment;
 use crate::segments::standing::Standing;
-use heap_difference::{KeySet, Layer, Numbers};
+use heap_difference::{Alikes, Holders, KeySet, Layer, Numbers};
 use object_heap::Heap;
-use ownership_model::Key;
 use std::alloc::{AllocError, Global};
 use std::sync::Arc;
+use trace_types::outcomes::Outcome;
+use trace_types::sequence::Sequence;
 
 /// How many keys a layer has at most. Where more would lie over a heap that is kept its operations are stepped again.
 const MOST_LAID: usize = 64;
 
-/// How many stretches are taken over at once at most.
-const MOST_STRETCHES: usize = 256;
-
 /// How many handles are gone over at most to find the place of one in its scope.
 const NEAR: usize = 128;
 
-/// The old stretches, one behind the other, that begin at an old checkpoint, to go on with from a heap that differs there at some keys: each
+/// The old stretches, one behind the other and at most so many, that begin at an old checkpoint, to go on with from a heap that differs there at some keys: each
 /// is one segment, ends at the next checkpoint, and is known to touch none of these keys. A handle that differs is to be found soon in its
 /// scope, and the layer has few keys.
 ///
@@ -54,6 +54,7 @@ pub fn untouched_stretches(
     old: &OldMark,
     keys: &KeySet,
     divergence: &mut Divergence,
+    most: usize,
 ) -> Result<Option<NextStretch>, AllocError>
     requires within { old.now.index < length revision.now.segments.now }
     requires place { length (trace_of (take old.now.index revision.now.segments.now)) ≡ old.now.at }
@@ -73,10 +74,10 @@ pub fn untouched_stretches(
     ensures known { (r : Revision) → IsDivergence r divergence.old →
         OnOk result (IsDivergence r divergence.new) }
 {
-    let Some(layer) = layer_of(alloc, revision, heap, old.index, keys)? else {
+    let Some(layer) = layer_of(alloc, revision, &old.mark, heap, old.index, keys)? else {
         return Ok(None);
     };
-    let mut most = MOST_STRETCHES;
+    let mut most = most;
     while most > 0 {
         let run = stretches_under(alloc, revision, old.index, &layer, most)?;
         let count = run.len();
@@ -89,29 +90,73 @@ pub fn untouched_stretches(
     Ok(None)
 }
 
-/// What stands in a heap at some keys, and, where one more layer has no room over the heap that is kept for the old segment at an index, at the keys of
-/// all that lie there: none where these keys are too many, or where a handle is far from the end of its scope.
+/// What stands in a heap at some keys at which an old one differs, and, where one more layer has no room over the heap that is kept for the old segment at
+/// an index, at the keys of all that lie there: none where these keys are too many, or where a handle is far from the end of its scope. Of an object
+/// that is alive in both heaps with as many fields only those are laid that differ, unless it is laid there already, and the layer comes in the place of
+/// that.
 pub fn layer_of(
     alloc: Global,
     revision: &Revision,
+    old: &Heap,
     heap: &Heap,
     index: usize,
     keys: &KeySet,
 ) -> Result<Option<Arc<Layer>>, AllocError>
     requires { index < length revision.now.segments.now }
     ensures from { IfOk result (λ o. IfSome o (λ l. (arc_value l).from ≡ heap.now)) }
-    ensures within { IfOk result (λ o. IfSome o (λ l. (x : Key) →
-        is_among keys.now x ≡ true → is_among (arc_value l).keys x ≡ true)) }
-    ensures laid { IfOk result (λ o. IfSome o (λ l. (old : State) →
-        IsDifference keys.now old heap.now → IsLaidBy (arc_value l) old heap.now)) }
+    ensures within { IfOk result (λ o. IfSome o (λ l. AreAmong keys.now (arc_value l))) }
+    ensures laid { IfOk result (λ o. IfSome o (λ l.
+        IsDifference keys.now old.now heap.now → IsLaidBy (arc_value l) old.now heap.now)) }
+    ensures counts { IfOk result (λ o. IfSome o (λ l.
+        AreShifts (arc_value l).shifts old.now heap.now)) }
 {
-    let all = revision.segments.at(index).cover().wanted(alloc, keys)?;
+    let segment = revision.segments.at(index);
+    let cover = segment.cover();
+    let all = cover.wanted(alloc, keys)?;
     if all.len() > MOST_LAID || !are_near(heap, &all.handles) {
         return Ok(None);
     }
     heap.show_sound();
-    let layer = Layer::of(alloc, heap, all)?;
+    let is_over = all.len() == keys.len();
+    let alikes = alikes_of(alloc, cover, old, heap, &keys.objects, is_over)?;
+    let layer = Layer::of(alloc, heap, all, alikes)?;
     Ok(Some(Arc::new(alloc, layer)?))
+}
+
+// Those of the objects that are alive in both heaps with as many fields, or those of them that no layer there lays, if another one is to come in the place
+// of these.
+fn alikes_of(
+    alloc: Global,
+    cover: &Cover,
+    old: &Heap,
+    heap: &Heap,
+    objects: &Numbers,
+    is_over: bool,
+) -> Result<Alikes, AllocError>
+    ensures alikes { IfOk result (λ a. AreAlikes a.shifts.items a.fields.items old.now heap.now) }
+    ensures within { IfOk result (λ a. (o : ℕ) → is_alike a.shifts.items o ≡ true →
+        has o objects.now ≡ true) }
+{
+    let free = free_objects(alloc, cover, objects, is_over)?;
+    Alikes::of(alloc, old, heap, free.as_slice())
+}
+
+// The objects, or those of them that no layer there lays, if another one is to come in the place of these.
+fn free_objects(
+    alloc: Global,
+    cover: &Cover,
+    objects: &Numbers,
+    is_over: bool,
+) -> Result<Vec<u32>, AllocError>
+    ensures { IfOk result (λ v. (o : ℕ) → has o v.items ≡ true → has o objects.now ≡ true) }
+{
+    let mut free = Vec::new(alloc);
+    for object in objects.as_slice() {
+        if is_over || !cover.has_object(*object) {
+            free.push(*object)?;
+        }
+    }
+    Ok(free)
 }
 
 // The old segments from an index on as they begin under the layer, as many as may be taken over, and at most so many.
@@ -127,6 +172,9 @@ fn stretches_under(
     requires laid { IsLaidBy (arc_value layer.now)
         (end_from nothing_held (trace_of (take index revision.now.segments.now)))
         (arc_value layer.now).from }
+    requires counts { AreShifts (arc_value layer.now).shifts
+        (end_from nothing_held (trace_of (take index revision.now.segments.now)))
+        (arc_value layer.now).from }
     requires unused { AreUnused (arc_value layer.now).from
         (trace_of (drop index revision.now.segments.now)) }
     ensures under { IfOk result (AreUnder revision.now.segments.now (arc_value layer.now)
@@ -134,9 +182,10 @@ fn stretches_under(
     ensures few { IfOk result (λ run. length run ≤ most) }
 {
     let end = revision.segments.len().min(index.saturating_add(most));
+    let mut holders = layer.holders(alloc)?;
     let mut run = Segments::empty(alloc);
     for i in index..end {
-        let segment = stretch_under(alloc, revision, i, layer)?;
+        let segment = stretch_under(alloc, revision, i, layer, &mut holders)?;
         match segment {
             None => return Ok(run),
             Some(segment) => run = run.push(alloc, segment)?,
@@ -146,17 +195,18 @@ fn stretches_under(
 }
 
 // The old segment at an index as it begins under the layer, if it may be taken over: it has its checkpoint, and so has the next one, or it is
-// the last; and it is clear of the layer.
+// the last; and it may be passed.
 fn stretch_under(
     alloc: Global,
     revision: &Revision,
     i: usize,
     layer: &Arc<Layer>,
+    holders: &mut Holders,
 ) -> Result<Option<Segment>, AllocError>
-    requires { MayBeUnder revision.now.segments.now (arc_value layer.now) i }
+    requires { MayBeUnder revision.now.segments.now (arc_value layer.now) holders.old i }
     ensures { IfOk result (λ o. IfSome o (λ s. (new : State) →
-        CanBeUnder revision.now.segments.now (arc_value layer.now) i new →
-        IsUnder revision.now.segments.now (arc_value layer.now) i new s)) }
+        CanBeUnder revision.now.segments.now (arc_value layer.now) holders.old i new →
+        IsUnder revision.now.segments.now (arc_value layer.now) holders.new i new s)) }
 {
     let segment = revision.segments.at(i);
     if !segment.is_marked() {
@@ -165,38 +215,54 @@ fn stretch_under(
     if !is_followed(revision.segments, i + 1) {
         return Ok(None);
     }
-    if !is_clear(&segment, layer) {
+    let Some(told) = passed(alloc, &segment, layer, holders)? else {
         return Ok(None);
-    }
-    segment.under(alloc, layer)
+    };
+    let Some(under) = segment.under(alloc, layer)? else {
+        return Ok(None);
+    };
+    Ok(Some(recounted(alloc, under, told)?))
 }
 
-/// Whether it is known that a segment is clear of a layer: it touches none of its keys, and none of the handles just under those that are put in, or
-/// may end none of these by what its operations name.
-pub fn is_clear(segment: &Standing, layer: &Layer) -> bool
-    ensures { IsTrue result → IsClear segment.now layer.now }
+/// Whether it is known that the operations of a segment may be passed under a layer. Then it comes with their outcomes in the new run, if these are
+/// others.
+pub fn passed(
+    alloc: Global,
+    segment: &Standing,
+    layer: &Layer,
+    holders: &mut Holders,
+) -> Result<Option<Option<Sequence<Outcome>>>, AllocError>
+    ensures { IfOk result (λ o. IfSome o (λ others. IsClear segment.now layer.now holders.old holders.new
+        (told_or segment.now.outcomes others))) }
 {
     let Some(touched) = segment.keys() else {
-        return false;
+        return Ok(None);
     };
-    is_apart_from(segment, touched, layer)
+    let filter = segment.filter();
+    layer.passed(
+        alloc,
+        holders,
+        filter,
+        touched,
+        segment.ops(),
+        segment.outcomes(),
+    )
 }
 
-// Whether a segment that touches these keys is clear of the layer: by its filter, or else key by key.
-fn is_apart_from(segment: &Standing, touched: &[Key], layer: &Layer) -> bool
-    requires { Some touched.now ≡ segment.now.keys }
-    ensures apart { IsTrue result → meet layer.now.keys
-        (set_of (with_names touched.now segment.now.ops segment.now.outcomes)) ≡ false }
-    ensures unders { IsTrue result → DoUndersStay
-        (set_of (with_names touched.now segment.now.ops segment.now.outcomes)) segment.now.ops
-        layer.now.puts }
+/// A segment with other outcomes, which name the same, if such are given.
+pub fn recounted(
+    alloc: Global,
+    segment: Segment,
+    told: Option<Sequence<Outcome>>,
+) -> Result<Segment, AllocError>
+    requires { flat_map outcome_keys (told_or segment.outcomes told)
+        ≡ flat_map outcome_keys segment.outcomes }
+    ensures { IfOk result (λ s. s ≡ told_at (told_or segment.outcomes told) segment) }
 {
-    if let Some(filter) = segment.filter() {
-        if layer.is_apart_by(filter) {
-            return true;
-        }
+    match told {
+        None => Ok(segment),
+        Some(outcomes) => segment.with_outcomes(alloc, outcomes),
     }
-    layer.is_apart(touched, segment.ops(), segment.outcomes())
 }
 
 /// Whether the segment at an index begins with its checkpoint, or there is none.
@@ -217,7 +283,7 @@ fn apart(
     divergence: &mut Divergence,
 ) -> Result<Option<NextStretch>, AllocError>
     requires under { AreUnder revision.now.segments.now layer.now index layer.now.from run }
-    requires within { (x : Key) → is_among keys.now x ≡ true → is_among layer.now.keys x ≡ true }
+    requires within { AreAmong keys.now layer.now }
     requires difference { IsDifference keys.now
         (end_from nothing_held (trace_of (take index revision.now.segments.now))) layer.now.from }
     ensures next { IfOk result (λ o. IfSome o

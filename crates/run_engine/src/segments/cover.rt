@@ -73,15 +73,15 @@ impl Cover {
         }
     }
 
-    /// These layers with another one over them: in place of all if it has their keys, or else of the last one if it has the keys of that. None if none can
-    /// go, and they would be too many or have too many keys.
+    /// These layers with another one over them: in place of all if it lays all that they do, or else of the last one if it lays what that does. None if
+    /// none can go, and they would be too many or have too many keys.
     pub fn under(&self, alloc: Global, layer: &Arc<Layer>) -> Result<Option<Self>, AllocError>
         ensures { IfOk result (λ o. IfSome o (IsOver self.now (arc_value layer.now))) }
     {
         if !is_within(&self.top, layer) {
             return self.with_top(alloc, layer);
         }
-        if are_within(&self.lower, layer.keys()) {
+        if are_within(&self.lower, layer) {
             return Ok(Some(Cover {
                 lower: None,
                 top: Some(Arc::try_clone(layer)?),
@@ -120,6 +120,19 @@ impl Cover {
             return Ok(None);
         }
         Ok(Some(lower.and(alloc, top)?))
+    }
+
+    /// Whether one of them lays an object. It is a hint.
+    pub fn has_object(&self, object: u32) -> bool {
+        let below = match &self.lower {
+            None => false,
+            Some(lower) => lower.have_object(object),
+        };
+        let above = match &self.top {
+            None => false,
+            Some(top) => top.keys().objects.has(object),
+        };
+        below || above
     }
 
     /// The keys that a layer is to have so that it can lie over these and has the given ones: these alone, or with them the keys of all layers, in
@@ -172,22 +185,22 @@ fn shared_layer(layer: &Option<Arc<Layer>>) -> Result<Option<Arc<Layer>>, AllocE
     }
 }
 
-// Whether all keys of a layer, if there is one, are among those of another.
+// Whether all that a layer lays, if there is one, is laid by another.
 fn is_within(layer: &Option<Arc<Layer>>, other: &Layer) -> bool
     ensures { IsTrue result → IsWithin (option_map arc_value layer.now) other.now }
 {
     match layer {
         None => true,
-        Some(layer) => other.keys().has_all(layer.keys()),
+        Some(layer) => other.covers(layer),
     }
 }
 
-// Whether all keys of the layers, if there are any, are among these.
-fn are_within(layers: &Option<Arc<Layers>>, keys: &KeySet) -> bool
-    ensures { IsTrue result → AreWithin (stacked (option_map arc_value layers.now)) keys.now }
+// Whether all that the layers lay, if there are any, is laid by another.
+fn are_within(layers: &Option<Arc<Layers>>, layer: &Layer) -> bool
+    ensures { IsTrue result → AreWithin (stacked (option_map arc_value layers.now)) layer.now }
 {
     match layers {
         None => true,
-        Some(layers) => layers.are_within(keys),
+        Some(layers) => layers.are_within(layer),
     }
 }

@@ -81,16 +81,26 @@ impl Layers {
         self.items.len() < MOST_LAYERS && len <= MOST_KEYS
     }
 
-    /// Whether all their keys are among these.
-    pub fn are_within(&self, keys: &KeySet) -> bool
-        ensures { IsTrue result → AreWithin self.now keys.now }
+    /// Whether all that they lay is laid by another layer.
+    pub fn are_within(&self, layer: &Layer) -> bool
+        ensures { IsTrue result → AreWithin self.now layer.now }
     {
         for i in 0..self.items.len() {
-            if !keys.has_all(self.items[i].keys()) {
+            if !layer.covers(&self.items[i]) {
                 return false;
             }
         }
         true
+    }
+
+    /// Whether one of them lays an object. It is a hint.
+    pub fn have_object(&self, object: u32) -> bool {
+        for layer in &self.items {
+            if layer.keys().objects.has(object) {
+                return true;
+            }
+        }
+        false
     }
 
     /// The keys, and those of all the layers.

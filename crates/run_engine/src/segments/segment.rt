@@ -1,10 +1,11 @@
 //! A segment of a run.
-ghost use Rattle.std.specs.Prelude.{◌≡◌, false, IfOk, IfSome, IsTrue, None, Some, is_some, if◌then◌else◌};
+ghost use Rattle.std.specs.Prelude.{◌≡◌, false, IfOk, IfSome, IsTrue, None, Some, is_some, flat_map, if◌then◌else◌};
 ghost use Rattle.std.specs.Arc.{arc_value};
 ghost use Rattle.std.specs.Option.{option_map, option_copied};
 ghost use Rattle.trace_types.specs.Trace.{place_of};
 ghost use Rattle.ownership_model.specs.State.{State};
 ghost use Rattle.ownership_model.specs.Step.{outcomes_from};
+ghost use Rattle.heap_difference.specs.Naming.{outcome_keys};
 ghost use Rattle.op_step.specs.Chunk.{IsReplayOf};
 ghost use Rattle.run_engine.specs.Segments.{AreKeysFrom};
 ghost use Rattle.run_engine.specs.inner.Layered.{standing_at, started_at, CanStand, MayStand};
@@ -229,6 +230,22 @@ impl Segment {
             bounds: self.bounds,
             last: self.last,
         })
+    }
+
+    /// The same segment with other outcomes, which name the same: the operations are shared.
+    pub fn with_outcomes(
+        self,
+        alloc: Global,
+        outcomes: Sequence<Outcome>,
+    ) -> Result<Self, AllocError>
+        requires { flat_map outcome_keys outcomes ≡ flat_map outcome_keys self.outcomes }
+        ensures { IfOk result (λ s. s ≡ record self { outcomes = outcomes }) }
+    {
+        let ops = Arc::try_clone(&self.body.ops)?;
+        let body = Arc::new(alloc, Replayed { ops, outcomes })?;
+        let mut segment = self;
+        segment.body = body;
+        Ok(segment)
     }
 
     /// Its operations with their outcomes as a chunk, from the heap where they begin to the one behind them: all is shared. None if it isn't known what

@@ -26,8 +26,8 @@ loop-i-init c =
       place = omega (arith, ap length is);
       some = omega (arith, ap length is);
       part = none;
-      whole = part-first old l c.args.index l.from c.args.heap.now c.empty-done.result (c.empty-done.result ++ c.in_ok-open.open) c.in-Some.first c.empty-done.ensures is c.requires.from c.requires.within none
-          (rw (c.in-Some.is, c.deref.ensures) at c.in_ok-first.ensures);
+      whole = part-first old l c.first_under.new.holders c.args.index l.from c.args.heap.now c.empty-done.result (c.empty-done.result ++ c.in_ok-open.open) c.in-Some.first c.empty-done.ensures is c.requires.from c.requires.within none
+          (rw (c.in-Some.is, c.deref-2.ensures) at c.in_ok-first.ensures);
     }
 
 pub bare_under-requires : goal.bare_under-requires
@@ -38,7 +38,7 @@ bare_under-requires c =
     record {
       may = record {
         new = end_from l.from (trace_of (c.loop-i.done ++ c.loop-i.open));
-        is = part-may old l c.args.index c.loop-i.i l.from (c.loop-i.done ++ c.loop-i.open) c.loop-i.invariant.place lt c.loop-i.invariant.whole;
+        is = part-may old l c.loop-i.holders c.args.index c.loop-i.i l.from (c.loop-i.done ++ c.loop-i.open) c.loop-i.invariant.place lt c.loop-i.invariant.whole;
       };
       bare = has_mark-is old c.loop-i.i c.at-segment.result lt c.at-segment.ensures ∙ sym c.is_marked.ensures ∙ c.if-is_marked.false;
     }
@@ -48,8 +48,8 @@ loop-i-preserved c =
     let old = c.args.revision.now.segments.now in
     let l = arc_value c.args.layer.now in
     let lt : c.loop-i.i < length old = omega (arith, c.loop-i-test.true, c.len-i-end.ensures) in
-    let can : CanBeUnder old l c.loop-i.i (end_from l.from (trace_of (c.loop-i.done ++ c.loop-i.open))) =
-    part-may old l c.args.index c.loop-i.i l.from (c.loop-i.done ++ c.loop-i.open) c.loop-i.invariant.place lt c.loop-i.invariant.whole in
+    let can : CanBeUnder old l c.loop-i.holders c.loop-i.i (end_from l.from (trace_of (c.loop-i.done ++ c.loop-i.open))) =
+    part-may old l c.loop-i.holders c.args.index c.loop-i.i l.from (c.loop-i.done ++ c.loop-i.open) c.loop-i.invariant.place lt c.loop-i.invariant.whole in
     let none : has_mark old c.loop-i.i ≡ false = has_mark-is old c.loop-i.i c.at-segment.result lt c.at-segment.ensures ∙ sym c.is_marked.ensures ∙ c.if-is_marked.false in
     let same : c.if-is_anchored.done ++ c.if-is_anchored.open ≡ c.loop-i.done ++ c.loop-i.open = elim c.if-is_anchored.branch [
       | then-is_anchored+in_ok-done w ↦ rw (w.done-is, w.in_ok-done.ensures, w.open-is, w.empty-open.ensures) (append-nil (c.loop-i.done ++ c.loop-i.open))
@@ -62,9 +62,9 @@ loop-i-preserved c =
       place = omega (arith, c.loop-i.invariant.place, ap length more, length-append (c.loop-i.done ++ c.loop-i.open) (c.in-Some-next.next ∷ []));
       some = omega (arith, ap length more, length-append (c.loop-i.done ++ c.loop-i.open) (c.in-Some-next.next ∷ []));
       part = elim c.if-is_anchored.branch [
-        | then-is_anchored+in_ok-done w ↦ rw (w.done-is, w.in_ok-done.ensures) c.loop-i.invariant.whole
+        | then-is_anchored+in_ok-done w ↦ rw (w.done-is, w.in_ok-done.ensures) c.loop-i.invariant.whole.part
         | else-is_anchored w ↦ rw w.done-is c.loop-i.invariant.part
       ];
-      whole = part-next old l c.args.index c.loop-i.i l.from (c.loop-i.done ++ c.loop-i.open) (c.if-is_anchored.done ++ c.in_ok-open-2.open) c.in-Some-next.next c.loop-i.invariant.place lt c.loop-i.invariant.some more none c.loop-i.invariant.whole
+      whole = part-next old l c.bare_under.new.holders c.args.index c.loop-i.i l.from (c.loop-i.done ++ c.loop-i.open) (c.if-is_anchored.done ++ c.in_ok-open-2.open) c.in-Some-next.next c.loop-i.invariant.place lt c.loop-i.invariant.some more none c.loop-i.invariant.whole.part
           (segment (end_from l.from (trace_of (c.loop-i.done ++ c.loop-i.open))) can);
     }

@@ -6,13 +6,16 @@ use Rattle.heap_difference.specs.Differences.{IsDifference}
 use Rattle.heap_difference.specs.Layers.{IsLaidBy}
 use Rattle.run_engine.specs.Segments.{trace_of}
 use Rattle.run_engine.proofs.UntouchedLemmas.{full-few}
-use Rattle.run_engine.proofs.PassedLemmas.{differs-at, laid-at, end-part, is-next-part}
+use Rattle.run_engine.proofs.PassedLemmas.{differs-at, laid-at, counts-at, end-part, is-next-part}
 use Rattle.run_engine.proofs.replay.parts.untouched_part.Goals as goal
 
 pub part_under-requires-clause-laid : goal.part_under-requires-clause-laid
 part_under-requires-clause-laid c =
-    let differ = differs-at c.args.revision.now.segments.now c.args.old.now c.args.heap.now c.args.keys.now c.requires.place c.requires.mark c.requires.difference in
-    laid-at c.args.revision.now.segments.now c.args.old.now.index c.args.heap.now c.args.keys.now (arc_value c.in-Some.layer) differ (rw c.in-Some.is at c.in_ok-layer.ensures.from) (rw c.in-Some.is at c.in_ok-layer.ensures.laid)
+    laid-at c.args.revision.now.segments.now c.args.old.now c.args.heap.now c.args.keys.now (arc_value c.in-Some.layer) c.requires.place c.requires.mark c.requires.difference (rw c.in-Some.is at c.in_ok-layer.ensures.from) (rw c.in-Some.is at c.in_ok-layer.ensures.laid)
+
+pub part_under-requires-clause-counts : goal.part_under-requires-clause-counts
+part_under-requires-clause-counts c =
+    counts-at c.args.revision.now.segments.now c.args.old.now c.args.heap.now (arc_value c.in-Some.layer) c.requires.place c.requires.mark (rw c.in-Some.is at c.in_ok-layer.ensures.from) (rw c.in-Some.is at c.in_ok-layer.ensures.counts)
 
 pub is_enough-requires-clause-few : goal.is_enough-requires-clause-few
 is_enough-requires-clause-few c = omega (arith, full-few c.args.revision.now.segments.now c.args.revision.now.holds.kept.run.full, c.args.revision.now.holds.kept.trace.few)
@@ -41,7 +44,7 @@ returns-clause-next c =
     let l = arc_value c.in-Some.layer in
     let from : l.from ≡ c.args.heap.now = rw c.in-Some.is at c.in_ok-layer.ensures.from in
     let differ = differs-at old c.args.old.now c.args.heap.now c.args.keys.now c.requires.place c.requires.mark c.requires.difference in
-    let laid = laid-at old c.args.old.now.index c.args.heap.now c.args.keys.now l differ from (rw c.in-Some.is at c.in_ok-layer.ensures.laid) in
+    let laid = laid-at old c.args.old.now c.args.heap.now c.args.keys.now l c.requires.place c.requires.mark c.requires.difference from (rw c.in-Some.is at c.in_ok-layer.ensures.laid) in
     let made = c.next_of.ensures in
     rw (sym from)
     (is-next-part old l c.args.old.now.index l.from c.in_ok-end.end c.in_ok-part.part c.next_of.result c.args.revision.now.holds.kept.run.begins c.requires.within laid c.in_ok-part.ensures

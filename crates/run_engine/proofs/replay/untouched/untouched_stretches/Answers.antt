@@ -1,13 +1,16 @@
 use Rattle.std.proofs.Common.{sym, ap, ◌∙◌}
 use Rattle.std.specs.Arc.{arc_value}
 use Rattle.heap_difference.specs.Layers.{LayerView}
-use Rattle.run_engine.proofs.PassedLemmas.{differs-at, laid-at}
+use Rattle.run_engine.proofs.PassedLemmas.{differs-at, laid-at, counts-at}
 use Rattle.run_engine.proofs.replay.untouched.untouched_stretches.Goals as goal
 
 pub stretches_under-requires-clause-laid : goal.stretches_under-requires-clause-laid
 stretches_under-requires-clause-laid c =
-    let differ = differs-at c.args.revision.now.segments.now c.args.old.now c.args.heap.now c.args.keys.now c.requires.place c.requires.mark c.requires.difference in
-    laid-at c.args.revision.now.segments.now c.args.old.now.index c.args.heap.now c.args.keys.now (arc_value c.in-Some.layer) differ (rw c.in-Some.is at c.in_ok-layer.ensures.from) (rw c.in-Some.is at c.in_ok-layer.ensures.laid)
+    laid-at c.args.revision.now.segments.now c.args.old.now c.args.heap.now c.args.keys.now (arc_value c.in-Some.layer) c.requires.place c.requires.mark c.requires.difference (rw c.in-Some.is at c.in_ok-layer.ensures.from) (rw c.in-Some.is at c.in_ok-layer.ensures.laid)
+
+pub stretches_under-requires-clause-counts : goal.stretches_under-requires-clause-counts
+stretches_under-requires-clause-counts c =
+    counts-at c.args.revision.now.segments.now c.args.old.now c.args.heap.now (arc_value c.in-Some.layer) c.requires.place c.requires.mark (rw c.in-Some.is at c.in_ok-layer.ensures.from) (rw c.in-Some.is at c.in_ok-layer.ensures.counts)
 
 pub apart-requires-clause-difference : goal.apart-requires-clause-difference
 apart-requires-clause-difference c =

@@ -1,10 +1,7 @@
-use Rattle.std.proofs.Common.{◌≡◌, ◌<◌, arith, ap, take, length, sym, subst, ◌∙◌, true}
+use Rattle.std.proofs.Common.{◌<◌, arith, ap, take, length, sym, subst, ◌∙◌}
 use Rattle.std.specs.Arc.{arc_value}
 use Rattle.std.proofs.Math.Seq.{take-length}
 use Rattle.std.proofs.lemmas.List.{length-map}
-use Rattle.ownership_model.specs.declared.key.Key.{Key}
-use Rattle.heap_difference.specs.declared.key_set.KeySet.{KeySet}
-use Rattle.heap_difference.specs.KeySets.{is_among}
 use Rattle.run_engine.specs.inner.Layered.{AreWithin}
 use Rattle.run_engine.proofs.LayeredLemmas.{to-place, within-more}
 use Rattle.run_engine.proofs.segments.layers.Layers.are_within.Goals as goal
@@ -13,10 +10,9 @@ pub loop-i-preserved : goal.loop-i-preserved
 loop-i-preserved c =
     let lt : c.loop-i.i < length c.args.self.now = omega (arith, c.loop-i-test.true, c.len-i-end.ensures, ap length c.self.view_is, length-map c.self.inside.items.items arc_value) in
     let next = to-place arc_value c.self.inside.items.items c.args.self.now c.loop-i.i c.index.result.now c.deref.result.now c.self.view_is lt c.index.ensures c.deref.ensures in
-    let here : (x : Key) → is_among c.deref.result.now.keys x ≡ true → is_among c.args.keys.now x ≡ true = subst (λ (d : KeySet). (x : Key) → is_among d x ≡ true → is_among c.args.keys.now x ≡ true) c.keys.ensures (c.has_all.ensures.0 c.if-not-has_all.false) in
-    subst (λ ls. AreWithin ls c.args.keys.now) (sym next) (within-more (take c.loop-i.i c.args.self.now) c.deref.result.now c.args.keys.now c.loop-i.invariant here)
+    subst (λ ls. AreWithin ls c.args.layer.now) (sym next) (within-more (take c.loop-i.i c.args.self.now) c.deref.result.now c.args.layer.now c.loop-i.invariant (c.covers.ensures c.if-not-covers.false))
 
 pub returns : goal.returns
 returns c = λ _.
     let all = ap (λ n. take n c.args.self.now) (omega (arith, c.loop-i-test.false, c.len-i-end.ensures, c.loop-i.auto.i-end, ap length c.self.view_is, length-map c.self.inside.items.items arc_value)) ∙ take-length c.args.self.now in
-    subst (λ ls. AreWithin ls c.args.keys.now) all c.loop-i.invariant
+    subst (λ ls. AreWithin ls c.args.layer.now) all c.loop-i.invariant
