@@ -97,15 +97,16 @@ fn come_or_gone(alloc: Global, turn: usize) -> Result<Batch, Fail> {
     batch(alloc, insertion(1, 1_000, Kind::Clone { from: 0, to: 20 })?)
 }
 
-// The first edit steps all: of its cuts two lie one operation apart. As the clone goes, the 64 operations up to there are stepped, in two parts.
-// From then on what stands at the front is known in these parts, with the clone and without it.
+// The first edit steps the stretch that the clone comes into. The others tell one holder more, and are taken over. As the clone goes, all is stepped: each
+// stretch uses all handles that hold the object. As it comes again, what was stepped is found, and as it goes again, what was stepped before, but for the
+// stretches that were taken over since.
 fn assert_comes_and_goes(
     rt: &impl Abort,
     alloc: Global,
     run: &mut Run,
     shelf: &mut MarkShelf,
 ) -> Result<(), Fail> {
-    for (turn, due) in [251u64, 64, 0, 0, 0].iter().enumerate() {
+    for (turn, due) in [65u64, 250, 0, 187, 0].iter().enumerate() {
         let edits = come_or_gone(alloc, turn)?;
         assert_eq!(rt; step_over(alloc, run, &edits, shelf)?, *due);
         assert!(rt; is_replay(alloc, run)?);

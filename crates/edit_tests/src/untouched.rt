@@ -89,12 +89,20 @@ fn handle_under_sixty_stays(rt: HostRuntime) -> Result<(), Fail> {
     })
 }
 
-// The object has one holder more. The last stretch, of five operations, asks for that.
+// The object has one holder more. The last stretch, of five operations, tells that: it is taken over, and tells one more.
 #[test]
 fn counts_shift(rt: HostRuntime) -> Result<(), Fail> {
     let alloc = rt.alloc();
     let edits = batch(alloc, insertion(4, 5_000, Kind::Clone { from: 0, to: 30 })?)?;
-    assert_stepped(&rt, alloc, Kind::Counts { h: 0 }, edits, 70)
+    assert_stepped(&rt, alloc, Kind::Counts { h: 0 }, edits, 65)
+}
+
+// As above, and the last stretch asks whether it is the only one.
+#[test]
+fn counts_decide(rt: HostRuntime) -> Result<(), Fail> {
+    let alloc = rt.alloc();
+    let edits = batch(alloc, insertion(4, 5_000, Kind::Clone { from: 0, to: 30 })?)?;
+    assert_stepped(&rt, alloc, Kind::GetMut { h: 0 }, edits, 70)
 }
 
 // The value of the second object is destroyed near the front. The last operation finds no handle to it.
@@ -135,13 +143,13 @@ fn stretches_are_taken_over_twice(rt: HostRuntime) -> Result<(), Fail> {
     })
 }
 
-// These, and objects that come and go; from one operation on, in each stretch of 64 up to another, one asks for the first object's counts.
+// These, and objects that come and go; from one operation on, in each stretch of 64 up to another, one asks whether the first object has one holder.
 fn asked(alloc: Global, from: u32, to: u32) -> Result<Trace, Fail> {
     let mut trace = Trace::new(alloc);
     add_first(alloc, &mut trace)?;
     for id in 5..=4_096u32 {
         let kind = if id % 64 == 10 && from <= id && id < to {
-            Kind::Counts { h: 0 }
+            Kind::GetMut { h: 0 }
         } else if id % 2 == 1 {
             new(alloc, 9, &[])?
         } else {
