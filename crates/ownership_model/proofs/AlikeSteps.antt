@@ -23,10 +23,12 @@ use Rattle.ownership_model.specs.Changes.{changed, changed_by, with_field}
 use Rattle.ownership_model.specs.View.{Members, members, Read, Null, Me, View, held_by, cell_of, elements_of, held_fields, named_in, seen, view_at, view_of}
 use Rattle.ownership_model.specs.Table.{row, fields_of}
 use Rattle.ownership_model.specs.Step.{Stepped, step, carried_out, counts_of, outcomes_from, end_from}
+use Rattle.ownership_model.specs.Touched.{event_object}
 use Rattle.ownership_model.specs.declared.key.Key.{Key}
 use Rattle.ownership_model.specs.declared.key.Key.TheVariants.{Handle, Cell, Object}
 use Rattle.ownership_model.specs.Alike.{AreWithin, AreAlike, WeightsMoveAlike, ScopesMoveAlike}
 use Rattle.ownership_model.specs.Footprint.{item_keys, holding_keys, cell_keys, slot_keys, slots_keys, taken, change_key, moved_by, moved_by_changes, named_keys, member_keys, scope_keys, plan_keys, footprint, moved_by_plan, moved, footprints_from, moved_from}
+use Rattle.ownership_model.specs.Sets.{set_by_plan, set_by}
 use Rattle.ownership_model.proofs.TotalLemmas.{weight_at, total-insert, total-remove}
 use Rattle.ownership_model.proofs.MapLemmas.{get_inserted, get_removed}
 use Rattle.ownership_model.proofs.LeastLemmas.{kept_scopes}
@@ -200,11 +202,12 @@ module _ (k : Key → Bool) where
   counts_alike m n None a c = refl
   counts_alike m n (Some o) a c = λ i. Some (record { object = o; strong = a.strongs o c.0 i; weak = a.weaks o c.0 i })
 
-  -- both have carried out a plan alike, and touched and moved the same
+  -- both have carried out a plan alike, and touched, moved and set the same
   record Carried (m n : State) (id : ℕ) (p q : Plan) : Type 0 where
     pub steps : StepAlike m n (carried_out m id p) (carried_out n id q)
     pub keys : plan_keys m p ≡ plan_keys n q
     pub moved : moved_by_plan m p ≡ moved_by_plan n q
+    pub sets : set_by_plan m p ≡ set_by_plan n q
 
   -- a plan whose keys are alike is carried out alike in both
   carried_alike : (m n : State) (id : ℕ) (p : Plan) → AreWithin k (plan_keys m p) → AreAlike k m n → Carried m n id p p
@@ -212,6 +215,7 @@ module _ (k : Key → Bool) where
     steps = record { outcome = refl; alike = a; moves = move_none m n; scopes = scope_none k m.scopes n.scopes };
     keys = refl;
     moved = refl;
+    sets = refl;
   }
   carried_alike m n id (Act answer changes event pending object) c a =
       let past = within_back k (map change_key changes) _ c in
@@ -230,17 +234,19 @@ module _ (k : Key → Bool) where
         };
         keys = λ i. map change_key changes ++ (flat_map item_keys (e.taken i) ++ map Object (option_to_list object));
         moved = d.moved;
+        sets = λ i. map change_key changes ++ map Object (map event_object (e.events i));
       }
 
-  -- both have carried out an operation alike, and touched and moved the same
+  -- both have carried out an operation alike, and touched, moved and set the same
   pub record Steps (m n : State) (op : Operation) : Type 0 where
     pub steps : StepAlike m n (step m op) (step n op)
     pub keys : footprint m op ≡ footprint n op
     pub moved : moved m op ≡ moved n op
+    pub sets : set_by m op ≡ set_by n op
 
   -- the views are equal, so the row gives one plan, which is carried out alike
   pub step_alike : (m n : State) (op : Operation) → AreWithin k (footprint m op) → AreAlike k m n → Steps m n op
-  unfolding step footprint moved
+  unfolding step footprint moved set_by
   step_alike m n op c a =
       let x : Members = members (scope_of op.thread m.scopes) op.kind in
       let past = within_back k (scope_keys op.thread op.kind) _ c in
@@ -255,6 +261,7 @@ module _ (k : Key → Bool) where
         steps = d.steps;
         keys = λ i. scope_keys op.thread op.kind ++ (keys i ++ d.keys i);
         moved = d.moved;
+        sets = d.sets;
       }
 
   -- ---- all operations

@@ -24,6 +24,7 @@ use Rattle.ownership_model.proofs.TotalLemmas.{total-remove}
 use Rattle.ownership_model.proofs.ReleaseLemmas.{release-enough}
 use Rattle.ownership_model.proofs.DropLemmas.{sound-drop_first}
 use Rattle.ownership_model.proofs.AlikeLemmas.{within_front, within_back, have, IsOf, fate_of, same_fate, taken-enough}
+use Rattle.ownership_model.proofs.OutsideLemmas.{AreEventsOf, events_of}
 use Rattle.ownership_model.proofs.NearLemmas as near
 use Rattle.ownership_model.proofs.NearLemmas.{Frame, Fit}
 
@@ -128,16 +129,17 @@ module _ (r : Frame) where
     pub pending : a.pending ≡ b.pending
 
   -- what an item brings about is done to both alike
-  meet : (m n : State) (p : List Item) (g : Fate) → IsOf r.k g → IsOf r.touched g → Fit r m n → Met m n (left_by m p g) (left_by n p g)
+  meet : (m n : State) (p : List Item) (g : Fate) → IsOf r.k g → AreEventsOf r.set (left_by m p g).events → Fit r m n → Met m n (left_by m p g) (left_by n p g)
   meet m n p Stays c t f = record { goes = near.goes_none r m n (have r.k m n f.alike) f.near; events = refl; pending = refl }
-  meet m n p (Falls o fields) c t f = record { goes = near.goes_put r m n o Husk c t (have r.k m n f.alike) f.near; events = refl; pending = refl }
-  meet m n p (Goes o) c t f = record { goes = near.goes_cut r m n o c t (have r.k m n f.alike) f.near; events = refl; pending = refl }
+  meet m n p (Falls o fields) c t f = record { goes = near.goes_put r m n o Husk c t.0 (have r.k m n f.alike) f.near; events = refl; pending = refl }
+  meet m n p (Goes o) c t f = record { goes = near.goes_cut r m n o c t.0 (have r.k m n f.alike) f.near; events = refl; pending = refl }
 
   -- one item is dropped alike in both
-  drop_near : (m n : State) (x : Item) (p : List Item) → IsSound m (x ∷ p) → AreWithin r.touched (item_keys x) → AreSpared (drop_first m x p).events → Fit r m n → Met m n (drop_first m x p) (drop_first n x p)
-  drop_near m n x p h c spared f =
+  drop_near : (m n : State) (x : Item) (p : List Item) → IsSound m (x ∷ p) → AreWithin r.touched (item_keys x) → AreEventsOf r.set (drop_first m x p).events → AreSpared (drop_first m x p).events → Fit r m n
+      → Met m n (drop_first m x p) (drop_first n x p)
+  drop_near m n x p h c t spared f =
       let e : SameFate (fate m x p) (fate n x p) = near_fate m n p f x h.counts c spared in
-      subst (λ (g : Fate). Met m n (drop_first m x p) (left_by n p g)) e.same (meet m n p (fate m x p) e.of (fate_of r.touched m x p c) f)
+      subst (λ (g : Fate). Met m n (drop_first m x p) (left_by n p g)) e.same (meet m n p (fate m x p) e.of t f)
 
   -- ---- a cascade
   -- both cascades have dropped the same, and leave what is near
@@ -147,18 +149,20 @@ module _ (r : Frame) where
     pub taken : s ≡ t
 
   -- with any fuel
-  within_near : (u : ℕ) (m n : State) (p : List Item) → IsSound m p → AreWithin r.touched (flat_map item_keys (taken_within u m p)) → AreSpared (release_within u m p).events → Fit r m n
+  within_near : (u : ℕ) (m n : State) (p : List Item) → IsSound m p → AreWithin r.touched (flat_map item_keys (taken_within u m p)) → AreEventsOf r.set (release_within u m p).events
+      → AreSpared (release_within u m p).events → Fit r m n
       → SameEnd m n (release_within u m p) (release_within u n p) (taken_within u m p) (taken_within u n p)
-  within_near u m n [] h c spared f = record { goes = near.goes_none r m n (have r.k m n f.alike) f.near; events = refl; taken = refl }
-  within_near zero m n (x ∷ p) h c spared f = record { goes = near.goes_none r m n (have r.k m n f.alike) f.near; events = refl; taken = refl }
-  within_near (suc u) m n (x ∷ p) h c spared f =
+  within_near u m n [] h c t spared f = record { goes = near.goes_none r m n (have r.k m n f.alike) f.near; events = refl; taken = refl }
+  within_near zero m n (x ∷ p) h c t spared f = record { goes = near.goes_none r m n (have r.k m n f.alike) f.near; events = refl; taken = refl }
+  within_near (suc u) m n (x ∷ p) h c t spared f =
       let d = drop_first m x p in
       let e = drop_first n x p in
+      let set = events_of r.set d.events _ t in
       let first : AreSpared d.events = all_front (λ y. r.a (event_object y) ≡ false) d.events _ spared in
       let later : AreSpared (release_within u d.state d.pending).events = all_back (λ y. r.a (event_object y) ≡ false) d.events _ spared in
-      let met : Met m n d e = drop_near m n x p h (within_front r.touched (item_keys x) _ c) first f in
+      let met : Met m n d e = drop_near m n x p h (within_front r.touched (item_keys x) _ c) set.0 first f in
       let next : Fit r d.state e.state = near.fit_after r m d.state n e.state f met.goes in
-      let rest = within_near u d.state e.state d.pending (sound-drop_first m x p h) (within_back r.touched (item_keys x) _ c) later next in
+      let rest = within_near u d.state e.state d.pending (sound-drop_first m x p h) (within_back r.touched (item_keys x) _ c) set.1 later next in
       let q : SameEnd d.state e.state (release_within u d.state d.pending) (release_within u e.state e.pending) (taken_within u d.state d.pending) (taken_within u e.state e.pending) =
       subst (λ (q : List Item). SameEnd d.state e.state (release_within u d.state d.pending) (release_within u e.state q) (taken_within u d.state d.pending) (taken_within u e.state q)) met.pending rest in
       record {
@@ -168,15 +172,15 @@ module _ (r : Frame) where
       }
 
   -- both release alike
-  pub release_near : (m n : State) (p : List Item) → IsSound m p → AreWithin r.touched (flat_map item_keys (taken m p)) → AreSpared (release m p).events → Fit r m n
+  pub release_near : (m n : State) (p : List Item) → IsSound m p → AreWithin r.touched (flat_map item_keys (taken m p)) → AreEventsOf r.set (release m p).events → AreSpared (release m p).events → Fit r m n
       → SameEnd m n (release m p) (release n p) (taken m p) (taken n p)
-  release_near m n p h c spared f =
+  release_near m n p h c t spared f =
       let u : ℕ = work m p + work n p in
       let e : taken m p ≡ taken_within u m p = taken-enough u m p (omega arith) in
       let g : taken n p ≡ taken_within u n p = taken-enough u n p (omega arith) in
       let s : release m p ≡ release_within u m p = release-enough u m p (omega arith) in
       let q : release n p ≡ release_within u n p = release-enough u n p (omega arith) in
-      let w = within_near u m n p h (subst (λ (xs : List Item). AreWithin r.touched (flat_map item_keys xs)) e c) (subst (λ (x : Released). AreSpared x.events) s spared) f in
+      let w = within_near u m n p h (subst (λ (xs : List Item). AreWithin r.touched (flat_map item_keys xs)) e c) (subst (λ (x : Released). AreEventsOf r.set x.events) s t) (subst (λ (x : Released). AreSpared x.events) s spared) f in
       subst (λ (x : Released). SameEnd m n x (release n p) (taken m p) (taken n p)) (sym s)
       (subst (λ (x : Released). SameEnd m n (release_within u m p) x (taken m p) (taken n p)) (sym q)
       (subst (λ (xs : List Item). SameEnd m n (release_within u m p) (release_within u n p) xs (taken n p)) (sym e)

@@ -97,10 +97,12 @@ field_other (Some Husk) i j s c = refl
 field_other None i j s c = refl
 
 -- ---- what the law is about
--- the keys that are alike, those that are touched, the objects that are alike but for their loose fields, and which fields are loose
+-- the keys that are alike, those that are touched and those that are set, the objects that are alike but for their loose fields, and which
+-- fields are loose
 pub record Frame : Type 0 where
   pub k : Key → Bool
   pub touched : Key → Bool
+  pub set : Key → Bool
   pub a : ℕ → Bool
   pub loose : ℕ → ℕ → Bool
   pub apart : (o : ℕ) → a o ≡ true → k (Object o) ≡ false
@@ -111,9 +113,9 @@ module _ (r : Frame) where
   abbrev pub AllNear : State → State → Type 0
   AllNear m n = (o : ℕ) → r.a o ≡ true → AreEntriesNear (r.loose o) (get m.objects o) (get n.objects o)
 
-  -- each place that is not touched weighs what it weighed
+  -- each place that is not set weighs what it weighed
   abbrev pub IsStill : State → State → Type 0
-  IsStill n later = (w : Slot → ℕ) (x : Key) → r.touched x ≡ false → weight_of_key w later x ≡ weight_of_key w n x
+  IsStill n later = (w : Slot → ℕ) (x : Key) → r.set x ≡ false → weight_of_key w later x ≡ weight_of_key w n x
 
   -- each loose field holds what it held
   abbrev pub AreLooseKept : State → State → Type 0
@@ -123,7 +125,7 @@ module _ (r : Frame) where
   pub record Fit (m n : State) : Type 0 where
     pub alike : AreAlike r.k m n
     pub near : AllNear m n
-    pub alive : AreKeptAlive r.touched r.a m n
+    pub alive : AreKeptAlive r.touched r.set r.a m n
 
   -- both states have gone on alike, and are near, but for the counts
   pub record Goes (m later_m n later_n : State) : Type 0 where
@@ -170,17 +172,17 @@ module _ (r : Frame) where
   pub near_other : (l : ℕ → Bool) (e later_e f later_f : Option Entry) → later_e ≡ e → later_f ≡ f → AreEntriesNear l e f → AreEntriesNear l later_e later_f
   near_other l e later_e f later_f p q c = subst (λ (x : Option Entry). AreEntriesNear l x later_f) (sym p) (subst (λ (x : Option Entry). AreEntriesNear l e x) (sym q) c)
 
-  -- the places that are not touched weigh what they weighed
-  still_put : (n : State) (o : ℕ) (e : Entry) → r.touched (Object o) ≡ true → IsStill n (record n { objects = insert n.objects o e })
+  -- the places that are not set weigh what they weighed
+  still_put : (n : State) (o : ℕ) (e : Entry) → r.set (Object o) ≡ true → IsStill n (record n { objects = insert n.objects o e })
   still_put n o e c w (Handle h) d = refl
   still_put n o e c w (Cell x) d = refl
-  still_put n o e c w (Object q) d = ap (weight_at (entry_weight w)) (get_set_other n.objects o e q (apart (λ x. r.touched (Object x)) o q c d))
+  still_put n o e c w (Object q) d = ap (weight_at (entry_weight w)) (get_set_other n.objects o e q (apart (λ x. r.set (Object x)) o q c d))
   still_put n o e c w (Scope t) d = refl
 
-  still_cut : (n : State) (o : ℕ) → r.touched (Object o) ≡ true → IsStill n (record n { objects = remove n.objects o })
+  still_cut : (n : State) (o : ℕ) → r.set (Object o) ≡ true → IsStill n (record n { objects = remove n.objects o })
   still_cut n o c w (Handle h) d = refl
   still_cut n o c w (Cell x) d = refl
-  still_cut n o c w (Object q) d = ap (weight_at (entry_weight w)) (get_cut_other n.objects o q (apart (λ x. r.touched (Object x)) o q c d))
+  still_cut n o c w (Object q) d = ap (weight_at (entry_weight w)) (get_cut_other n.objects o q (apart (λ x. r.set (Object x)) o q c d))
   still_cut n o c w (Scope t) d = refl
 
   -- an object that is alike is another one than those that are near
@@ -188,7 +190,7 @@ module _ (r : Frame) where
   near_apart o q c d = apart (λ x. r.k (Object x)) o q c (r.apart q d)
 
   -- the same is set at an object that is alike
-  pub goes_put : (m n : State) (o : ℕ) (e : Entry) → r.k (Object o) ≡ true → r.touched (Object o) ≡ true → HaveAlike r.k m n → AllNear m n
+  pub goes_put : (m n : State) (o : ℕ) (e : Entry) → r.k (Object o) ≡ true → r.set (Object o) ≡ true → HaveAlike r.k m n → AllNear m n
       → Goes m (record m { objects = insert m.objects o e }) n (record n { objects = insert n.objects o e })
   goes_put m n o e c t h near = record {
     have = have_put r.k m n o e h;
@@ -200,7 +202,7 @@ module _ (r : Frame) where
   }
 
   -- an object that is alike goes from both
-  pub goes_cut : (m n : State) (o : ℕ) → r.k (Object o) ≡ true → r.touched (Object o) ≡ true → HaveAlike r.k m n → AllNear m n
+  pub goes_cut : (m n : State) (o : ℕ) → r.k (Object o) ≡ true → r.set (Object o) ≡ true → HaveAlike r.k m n → AllNear m n
       → Goes m (record m { objects = remove m.objects o }) n (record n { objects = remove n.objects o })
   goes_cut m n o c t h near = record {
     have = have_cut r.k m n o h;
@@ -219,7 +221,7 @@ module _ (r : Frame) where
   ] refl
 
   -- a field that is not loose is set, of an object that is near
-  module _ (m n : State) (o i : ℕ) (s : Slot) (c : r.a o ≡ true) (firm : r.loose o i ≡ false) (t : r.touched (Object o) ≡ true) (h : HaveAlike r.k m n) (near : AllNear m n) where
+  module _ (m n : State) (o i : ℕ) (s : Slot) (c : r.a o ≡ true) (firm : r.loose o i ≡ false) (t : r.set (Object o) ≡ true) (h : HaveAlike r.k m n) (near : AllNear m n) where
     abbrev one : Entry
     one = with_field (get m.objects o) i s
 

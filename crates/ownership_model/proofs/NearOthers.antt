@@ -19,12 +19,13 @@ use Rattle.ownership_model.specs.declared.key.Key.{Key}
 use Rattle.ownership_model.specs.declared.key.Key.TheVariants.{Handle, Cell, Object, Scope}
 use Rattle.ownership_model.specs.Alike.{AreWithin, AreAlike, IsKeptOutside, WeightsMoveAlike, ScopesMoveAlike}
 use Rattle.ownership_model.specs.Footprint.{item_keys, taken, change_key, member_keys, scope_keys, plan_keys, footprint, moved}
+use Rattle.ownership_model.specs.Sets.{set_by}
 use Rattle.ownership_model.specs.Near.{is_object_of, recounted_counts, recounted}
 use Rattle.ownership_model.proofs.TotalLemmas.{weight_at}
 use Rattle.ownership_model.proofs.ScopeMoves.{filter_skip}
 use Rattle.ownership_model.proofs.AlikeLemmas.{within_back, have, move_then}
 use Rattle.ownership_model.proofs.AlikeSteps.{step_alike}
-use Rattle.ownership_model.proofs.OutsideLemmas.{step_kept}
+use Rattle.ownership_model.proofs.OutsideLemmas.{Kept, step_kept, step_sets}
 use Rattle.ownership_model.proofs.NearLemmas as near
 use Rattle.ownership_model.proofs.NearLemmas.{Frame, Fit, Goes}
 
@@ -54,11 +55,6 @@ both_true : (b c : Bool) → b ≡ true → c ≡ true → (b && c) ≡ true
 both_true true c d e = e
 both_true false c d e = d
 
--- what is never true with anything
-none_true : (b : Bool) → (b && false) ≡ false
-none_true true = refl
-none_true false = refl
-
 -- what is touched and no object that is near is alike
 must_be_alike : (close touched alike : Bool) → (not close && touched) ≡ true → (touched ≡ true → (alike || close) ≡ true) → alike ≡ true
 must_be_alike true touched alike c d = absurd cc
@@ -74,11 +70,7 @@ module _ (r : Frame) where
   others_alike : (x : Key) → others x ≡ true → r.k x ≡ true
   others_alike x c = must_be_alike (is_object_of r.a x) (r.touched x) (r.k x) c (r.within x)
 
-  -- what is not touched is none of these
-  untouched : (x : Key) → r.touched x ≡ false → others x ≡ false
-  untouched x c = ap (λ b. not (is_object_of r.a x) && b) c ∙ none_true (not (is_object_of r.a x))
-
-  -- nor is an object that is near
+  -- an object that is near is none of these
   near_out : (o : ℕ) → r.a o ≡ true → others (Object o) ≡ false
   near_out o c = ap (λ b. not b && r.touched (Object o)) c
 
@@ -87,11 +79,11 @@ module _ (r : Frame) where
   within_others [] c d = tt
   within_others (x ∷ keys) c d = (both_true (not (is_object_of r.a x)) (r.touched x) d.0 c.0, within_others keys c.1 d.1)
 
-  -- where only these are set, the places that are not touched weigh what they weighed
-  still_kept : (n later : State) → IsKeptOutside others n later → near.IsStill r n later
-  still_kept n later p w (Handle h) d = ap (weight_at (holding_weight w)) (p.handles h (untouched (Handle h) d))
-  still_kept n later p w (Cell e) d = ap (weight_at w) (p.cells e (untouched (Cell e) d))
-  still_kept n later p w (Object o) d = ap (weight_at (entry_weight w)) (p.entries o (untouched (Object o) d))
+  -- where nothing else has changed than what is set, the other places weigh what they weighed
+  still_kept : (n later : State) → Kept r.set ⊥ n later → near.IsStill r n later
+  still_kept n later p w (Handle h) d = ap (weight_at (holding_weight w)) (p.handles h d)
+  still_kept n later p w (Cell e) d = ap (weight_at w) (p.cells e d)
+  still_kept n later p w (Object o) d = ap (weight_at (entry_weight w)) (p.entries o d)
   still_kept n later p w (Scope t) d = refl
 
   -- scopes that move alike on these do so on all that is touched, since no handle is an object
@@ -136,8 +128,8 @@ module _ (r : Frame) where
 
   -- so it is with an operation that touches none of the objects that are near
   pub step_others : (a b m n : State) (op : Operation) → WeightsMoveAlike a m b n → IsSound m [] → IsSound n [] → get m.objects op.id ≡ None → get n.objects op.id ≡ None
-      → AreWithin others (footprint m op) → Fit r m n → StepsNear a b m n op
-  step_others a b m n op v sound sound_too new new_too c f =
+      → AreWithin others (footprint m op) → AreWithin r.set (set_by m op) → Fit r m n → StepsNear a b m n op
+  step_others a b m n op v sound sound_too new new_too c t f =
       let within : AreWithin r.k (footprint m op) = within_whole others r.k others_alike (footprint m op) c in
       let d = step_alike r.k m n op within f.alike in
       let part = step_alike others m n op c (alike_on_part others r.k m n others_alike f.alike) in
@@ -149,7 +141,7 @@ module _ (r : Frame) where
           near = λ o close. near.near_other r (r.loose o) (get m.objects o) _ (get n.objects o) _ (first.entries o (near_out o close)) (second.entries o (near_out o close)) (f.near o close);
           moves = d.steps.moves;
           scopes = wider_scopes m (step m op).state n (step n op).state part.steps.scopes;
-          still = still_kept n (step n op).state second;
+          still = still_kept n (step n op).state (step_sets r.set n op sound_too new_too (subst (AreWithin r.set) d.sets t));
           kept = λ o i close l. ap (λ (e : Option Entry). slice_get (fields_of e) i) (second.entries o (near_out o close));
         };
         outcome = step_told a b m (step n op).state op within d.steps.alike (move_then a m (step m op).state b n (step n op).state v d.steps.moves) ∙ d.steps.outcome;

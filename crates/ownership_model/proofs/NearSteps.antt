@@ -30,6 +30,7 @@ use Rattle.ownership_model.specs.Touched.{event_object}
 use Rattle.ownership_model.specs.declared.key.Key.TheVariants.{Handle, Cell, Object, Scope}
 use Rattle.ownership_model.specs.Alike.{AreWithin, WeightsMoveAlike, ScopesMoveAlike}
 use Rattle.ownership_model.specs.Footprint.{item_keys, slot_keys, cell_keys, taken, change_key, moved_by, moved_by_changes, named_keys, member_keys, scope_keys, plan_keys, footprint, moved_by_plan, moved, footprints_from, moved_from}
+use Rattle.ownership_model.specs.Sets.{set_by_plan, set_by, sets_from}
 use Rattle.ownership_model.specs.Near.{AreEntriesNear, IsBlind, AreBlindFrom, recounted_counts, recounted}
 use Rattle.ownership_model.specs.NearLaws.{NearHolds}
 use Rattle.ownership_model.proofs.Twins.{IfThere}
@@ -49,28 +50,28 @@ use Rattle.ownership_model.proofs.NearRows.{IsFirm, AllFirm, IsBlindPlan, IsFirm
 
 module _ (r : Frame) where
   -- ---- changes
-  -- a handle or a cell is set, or ends: the places that are not touched weigh what they weighed
-  still_set : (n : State) (h : ℕ) (x : Holding) (ss : List Scoped) → r.touched (Handle h) ≡ true → near.IsStill r n (record n { handles = insert n.handles h x; scopes = ss })
-  still_set n h x ss c w (Handle q) d = ap (weight_at (holding_weight w)) (get_set_other n.handles h x q (apart (λ y. r.touched (Handle y)) h q c d))
+  -- a handle or a cell is set, or ends: the places that are not set weigh what they weighed
+  still_set : (n : State) (h : ℕ) (x : Holding) (ss : List Scoped) → r.set (Handle h) ≡ true → near.IsStill r n (record n { handles = insert n.handles h x; scopes = ss })
+  still_set n h x ss c w (Handle q) d = ap (weight_at (holding_weight w)) (get_set_other n.handles h x q (apart (λ y. r.set (Handle y)) h q c d))
   still_set n h x ss c w (Cell e) d = refl
   still_set n h x ss c w (Object o) d = refl
   still_set n h x ss c w (Scope t) d = refl
 
-  still_end : (n : State) (h : ℕ) (ss : List Scoped) → r.touched (Handle h) ≡ true → near.IsStill r n (record n { handles = remove n.handles h; scopes = ss })
-  still_end n h ss c w (Handle q) d = ap (weight_at (holding_weight w)) (get_cut_other n.handles h q (apart (λ y. r.touched (Handle y)) h q c d))
+  still_end : (n : State) (h : ℕ) (ss : List Scoped) → r.set (Handle h) ≡ true → near.IsStill r n (record n { handles = remove n.handles h; scopes = ss })
+  still_end n h ss c w (Handle q) d = ap (weight_at (holding_weight w)) (get_cut_other n.handles h q (apart (λ y. r.set (Handle y)) h q c d))
   still_end n h ss c w (Cell e) d = refl
   still_end n h ss c w (Object o) d = refl
   still_end n h ss c w (Scope t) d = refl
 
-  still_cell : (n : State) (e : ℕ) (x : Slot) → r.touched (Cell e) ≡ true → near.IsStill r n (record n { cells = insert n.cells e x })
+  still_cell : (n : State) (e : ℕ) (x : Slot) → r.set (Cell e) ≡ true → near.IsStill r n (record n { cells = insert n.cells e x })
   still_cell n e x c w (Handle q) d = refl
-  still_cell n e x c w (Cell q) d = ap (weight_at w) (get_set_other n.cells e x q (apart (λ y. r.touched (Cell y)) e q c d))
+  still_cell n e x c w (Cell q) d = ap (weight_at w) (get_set_other n.cells e x q (apart (λ y. r.set (Cell y)) e q c d))
   still_cell n e x c w (Object o) d = refl
   still_cell n e x c w (Scope t) d = refl
 
-  still_no_cell : (n : State) (e : ℕ) → r.touched (Cell e) ≡ true → near.IsStill r n (record n { cells = remove n.cells e })
+  still_no_cell : (n : State) (e : ℕ) → r.set (Cell e) ≡ true → near.IsStill r n (record n { cells = remove n.cells e })
   still_no_cell n e c w (Handle q) d = refl
-  still_no_cell n e c w (Cell q) d = ap (weight_at w) (get_cut_other n.cells e q (apart (λ y. r.touched (Cell y)) e q c d))
+  still_no_cell n e c w (Cell q) d = ap (weight_at w) (get_cut_other n.cells e q (apart (λ y. r.set (Cell y)) e q c d))
   still_no_cell n e c w (Object o) d = refl
   still_no_cell n e c w (Scope t) d = refl
 
@@ -83,49 +84,49 @@ module _ (r : Frame) where
   alike_of : (o : ℕ) → r.touched (Object o) ≡ true → r.a o ≡ false → r.k (Object o) ≡ true
   alike_of o t c = ⊎_elim (λ alike. alike) (λ close. absurd cc) (near.object_within r o t)
 
-  -- a change of a place that is touched is made alike in both, if it is firm
-  change_near : (c : Change) (m n : State) → r.touched (change_key c) ≡ true → IsFirm r.a r.loose c → Fit r m n → Met m n c
-  change_near (SetHandle t h x) m n c firm f =
+  -- a change of a place that is touched and set is made alike in both, if it is firm
+  change_near : (c : Change) (m n : State) → r.touched (change_key c) ≡ true → r.set (change_key c) ≡ true → IsFirm r.a r.loose c → Fit r m n → Met m n c
+  change_near (SetHandle t h x) m n c p firm f =
       let one = change_alike r.k (SetHandle t h x) m n (near.handle_within r h c) (have r.k m n f.alike) in
       let s : ScopesMoveAlike r.touched m.scopes (kept_or_entered (get m.handles h) t h m.scopes) n.scopes (kept_or_entered (get n.handles h) t h n.scopes) =
       subst (λ (y : Option Holding). ScopesMoveAlike r.touched m.scopes (kept_or_entered (get m.handles h) t h m.scopes) n.scopes (kept_or_entered y t h n.scopes)) (f.alike.handles h (near.handle_within r h c))
       (scope_set r.touched (get m.handles h) t h m.scopes n.scopes c) in
       record {
-        goes = record { have = one.have; near = f.near; moves = one.moves; scopes = s; still = still_set n h x (kept_or_entered (get n.handles h) t h n.scopes) c; kept = λ o i d l. refl };
+        goes = record { have = one.have; near = f.near; moves = one.moves; scopes = s; still = still_set n h x (kept_or_entered (get n.handles h) t h n.scopes) p; kept = λ o i d l. refl };
         moved = moved_alike r.k (SetHandle t h x) m n (near.handle_within r h c) (have r.k m n f.alike);
       }
-  change_near (EndHandle h) m n c firm f =
+  change_near (EndHandle h) m n c p firm f =
       let one = change_alike r.k (EndHandle h) m n (near.handle_within r h c) (have r.k m n f.alike) in
       record {
-        goes = record { have = one.have; near = f.near; moves = one.moves; scopes = scope_end r.touched h m.scopes n.scopes c; still = still_end n h (left h n.scopes) c; kept = λ o i d l. refl };
+        goes = record { have = one.have; near = f.near; moves = one.moves; scopes = scope_end r.touched h m.scopes n.scopes c; still = still_end n h (left h n.scopes) p; kept = λ o i d l. refl };
         moved = moved_alike r.k (EndHandle h) m n (near.handle_within r h c) (have r.k m n f.alike);
       }
-  change_near (SetCell e x) m n c firm f =
+  change_near (SetCell e x) m n c p firm f =
       let one = change_alike r.k (SetCell e x) m n (near.cell_within r e c) (have r.k m n f.alike) in
       record {
-        goes = record { have = one.have; near = f.near; moves = one.moves; scopes = scope_none r.touched m.scopes n.scopes; still = still_cell n e x c; kept = λ o i d l. refl };
+        goes = record { have = one.have; near = f.near; moves = one.moves; scopes = scope_none r.touched m.scopes n.scopes; still = still_cell n e x p; kept = λ o i d l. refl };
         moved = moved_alike r.k (SetCell e x) m n (near.cell_within r e c) (have r.k m n f.alike);
       }
-  change_near (EndCell e) m n c firm f =
+  change_near (EndCell e) m n c p firm f =
       let one = change_alike r.k (EndCell e) m n (near.cell_within r e c) (have r.k m n f.alike) in
       record {
-        goes = record { have = one.have; near = f.near; moves = one.moves; scopes = scope_none r.touched m.scopes n.scopes; still = still_no_cell n e c; kept = λ o i d l. refl };
+        goes = record { have = one.have; near = f.near; moves = one.moves; scopes = scope_none r.touched m.scopes n.scopes; still = still_no_cell n e p; kept = λ o i d l. refl };
         moved = moved_alike r.k (EndCell e) m n (near.cell_within r e c) (have r.k m n f.alike);
       }
-  change_near (SetField o i s) m n c firm f = ⊎_elim
+  change_near (SetField o i s) m n c p firm f = ⊎_elim
       (λ alike. record {
         goes = subst (λ (y : Option Entry). Goes r m (record m { objects = insert m.objects o (with_field (get m.objects o) i s) }) n (record n { objects = insert n.objects o (with_field y i s) })) (f.alike.entries o alike)
-            (near.goes_put r m n o (with_field (get m.objects o) i s) alike c (have r.k m n f.alike) f.near);
+            (near.goes_put r m n o (with_field (get m.objects o) i s) alike p (have r.k m n f.alike) f.near);
         moved = moved_alike r.k (SetField o i s) m n alike (have r.k m n f.alike);
       })
       (λ close. record {
-        goes = near.goes_set r m n o i s close (firm close) c (have r.k m n f.alike) f.near;
+        goes = near.goes_set r m n o i s close (firm close) p (have r.k m n f.alike) f.near;
         moved = ap (λ y. slot_keys s ++ cell_keys y) (near.field_same (r.loose o) (get m.objects o) (get n.objects o) i (f.near o close) (firm close));
       })
       (near.object_within r o c)
-  change_near (Make o fields) m n c firm f = record { goes = near.goes_put r m n o (Alive fields) (alike_of o c firm) c (have r.k m n f.alike) f.near; moved = refl }
-  change_near (TurnHusk o) m n c firm f = record {
-    goes = near.goes_put r m n o Husk (alike_of o c firm) c (have r.k m n f.alike) f.near;
+  change_near (Make o fields) m n c p firm f = record { goes = near.goes_put r m n o (Alive fields) (alike_of o c firm) p (have r.k m n f.alike) f.near; moved = refl }
+  change_near (TurnHusk o) m n c p firm f = record {
+    goes = near.goes_put r m n o Husk (alike_of o c firm) p (have r.k m n f.alike) f.near;
     moved = moved_alike r.k (TurnHusk o) m n (alike_of o c firm) (have r.k m n f.alike);
   }
 
@@ -134,12 +135,12 @@ module _ (r : Frame) where
     pub goes : Goes r m (changed m cs) n (changed n cs)
     pub moved : moved_by_changes m cs ≡ moved_by_changes n cs
 
-  -- firm changes of places that are touched are made alike, one after another
-  changes_near : (cs : List Change) (m n : State) → AreWithin r.touched (map change_key cs) → AllFirm r.a r.loose cs → Fit r m n → Changed m n cs
-  changes_near [] m n c firm f = record { goes = near.goes_none r m n (have r.k m n f.alike) f.near; moved = refl }
-  changes_near (d ∷ cs) m n c firm f =
-      let one : Met m n d = change_near d m n c.0 firm.0 f in
-      let rest : Changed (changed_by m d) (changed_by n d) cs = changes_near cs (changed_by m d) (changed_by n d) c.1 firm.1 (near.fit_after r m (changed_by m d) n (changed_by n d) f one.goes) in
+  -- firm changes of places that are touched and set are made alike, one after another
+  changes_near : (cs : List Change) (m n : State) → AreWithin r.touched (map change_key cs) → AreWithin r.set (map change_key cs) → AllFirm r.a r.loose cs → Fit r m n → Changed m n cs
+  changes_near [] m n c t firm f = record { goes = near.goes_none r m n (have r.k m n f.alike) f.near; moved = refl }
+  changes_near (d ∷ cs) m n c t firm f =
+      let one : Met m n d = change_near d m n c.0 t.0 firm.0 f in
+      let rest : Changed (changed_by m d) (changed_by n d) cs = changes_near cs (changed_by m d) (changed_by n d) c.1 t.1 firm.1 (near.fit_after r m (changed_by m d) n (changed_by n d) f one.goes) in
       record {
         goes = near.goes_then r m (changed_by m d) (changed m (d ∷ cs)) n (changed_by n d) (changed n (d ∷ cs)) one.goes rest.goes;
         moved = λ i. one.moved i ++ rest.moved i;
@@ -225,15 +226,15 @@ module _ (r : Frame) where
     pub moved : moved_by_plan m p ≡ moved_by_plan n q
 
   -- a blind plan whose keys are touched is carried out alike in both
-  carried_near : (a b m n : State) (op : Operation) (p : Plan) → WeightsMoveAlike a m b n → IsCarriable m p → AreWithin r.touched (plan_keys m p) → IsFirmPlan r.a r.loose p
+  carried_near : (a b m n : State) (op : Operation) (p : Plan) → WeightsMoveAlike a m b n → IsCarriable m p → AreWithin r.touched (plan_keys m p) → AreWithin r.set (set_by_plan m p) → IsFirmPlan r.a r.loose p
       → IsBlind r.a r.loose op (carried_out m op.id p).outcome → Fit r m n → Carried a b m n op.id p p
-  carried_near a b m n op (Skip why) v can c firm blind f = record { goes = near.goes_none r m n (have r.k m n f.alike) f.near; outcome = refl; keys = refl; moved = refl }
-  carried_near a b m n op (Act said changes event pending object) v can c firm blind f =
+  carried_near a b m n op (Skip why) v can c t firm blind f = record { goes = near.goes_none r m n (have r.k m n f.alike) f.near; outcome = refl; keys = refl; moved = refl }
+  carried_near a b m n op (Act said changes event pending object) v can c t firm blind f =
       let past = within_back r.touched (map change_key changes) _ c in
-      let d : Changed m n changes = changes_near changes m n (within_front r.touched (map change_key changes) _ c) firm f in
+      let d : Changed m n changes = changes_near changes m n (within_front r.touched (map change_key changes) _ c) (within_front r.set (map change_key changes) _ t) firm f in
       let e : SameEnd r (changed m changes) (changed n changes) (release (changed m changes) pending) (release (changed n changes) pending) (taken (changed m changes) pending) (taken (changed n changes) pending) =
       release_near r (changed m changes) (changed n changes) pending can.1 (within_front r.touched (flat_map item_keys (taken (changed m changes) pending)) _ past)
-      (all_back (λ y. r.a (event_object y) ≡ false) (option_to_list event) _ blind.events) (near.fit_after r m (changed m changes) n (changed n changes) f d.goes) in
+      (within_back r.set (map change_key changes) _ t) (all_back (λ y. r.a (event_object y) ≡ false) (option_to_list event) _ blind.events) (near.fit_after r m (changed m changes) n (changed n changes) f d.goes) in
       let goes : Goes r m (release (changed m changes) pending).state n (release (changed n changes) pending).state =
       near.goes_then r m (changed m changes) (release (changed m changes) pending).state n (changed n changes) (release (changed n changes) pending).state d.goes e.goes in
       let counts = told a b (release (changed m changes) pending).state (release (changed n changes) pending).state object
@@ -253,10 +254,10 @@ module _ (r : Frame) where
   ] refl
 
   -- the rows give one plan, which is carried out alike
-  step_near : (a b m n : State) (op : Operation) → WeightsMoveAlike a m b n → IsSound m [] → get m.objects op.id ≡ None → AreWithin r.touched (footprint m op)
+  step_near : (a b m n : State) (op : Operation) → WeightsMoveAlike a m b n → IsSound m [] → get m.objects op.id ≡ None → AreWithin r.touched (footprint m op) → AreWithin r.set (set_by m op)
       → IsBlind r.a r.loose op (step m op).outcome → Fit r m n → StepsNear r a b m n op
-  unfolding step footprint moved
-  step_near a b m n op v sound new c blind f =
+  unfolding step footprint moved set_by
+  step_near a b m n op v sound new c t blind f =
       let x : Members = members (scope_of op.thread m.scopes) op.kind in
       let p : Plan = row op (view_of m op.thread op.kind) in
       let past = within_back r.touched (scope_keys op.thread op.kind) _ c in
@@ -268,7 +269,7 @@ module _ (r : Frame) where
       let keys : member_keys m x ≡ member_keys n (members (scope_of op.thread n.scopes) op.kind) = at.keys ∙ ap (member_keys n) same in
       let d : Carried a b m n op.id p (row op (view_of n op.thread op.kind)) =
       subst (λ (q : Plan). Carried a b m n op.id p q) rows
-      (carried_near a b m n op p v (row_carriable m op sound new) (within_back r.touched (member_keys m x) _ past) (row_firm r.a r.loose op (view_of m op.thread op.kind) (new_apart m n op.id f new) told_so) blind f) in
+      (carried_near a b m n op p v (row_carriable m op sound new) (within_back r.touched (member_keys m x) _ past) t (row_firm r.a r.loose op (view_of m op.thread op.kind) (new_apart m n op.id f new) told_so) blind f) in
       record {
         goes = d.goes;
         outcome = d.outcome;
@@ -286,17 +287,18 @@ module _ (r : Frame) where
 
   -- operations that are blind, or touch none of the objects that are near, are carried out alike, one after another
   run_near : (ops : List Operation) (a b m n : State) → WeightsMoveAlike a m b n → IsSound m [] → IsSound n [] → AreNew m ops → AreNew n ops → AreWithin r.touched (footprints_from m ops)
-      → AreBlindFrom r.a r.loose m ops → Fit r m n → RunsNear a b m n ops
-  run_near [] a b m n v sound sound_too new new_too c blind f = record { goes = near.goes_none r m n (have r.k m n f.alike) f.near; outcomes = refl; keys = refl; moved = refl }
-  run_near (op ∷ ops) a b m n v sound sound_too new new_too c blind f =
+      → AreWithin r.set (sets_from m ops) → AreBlindFrom r.a r.loose m ops → Fit r m n → RunsNear a b m n ops
+  run_near [] a b m n v sound sound_too new new_too c t blind f = record { goes = near.goes_none r m n (have r.k m n f.alike) f.near; outcomes = refl; keys = refl; moved = refl }
+  run_near (op ∷ ops) a b m n v sound sound_too new new_too c t blind f =
       let within : AreWithin r.touched (footprint m op) = within_front r.touched (footprint m op) _ c in
+      let set : AreWithin r.set (set_by m op) = within_front r.set (set_by m op) _ t in
       let d : StepsNear r a b m n op = ⊎_elim
-      (λ told. step_near a b m n op v sound new.0 within told f)
-      (λ out. step_others r a b m n op v sound sound_too new.0 new_too.0 (within_others r (footprint m op) within out) f)
+      (λ told. step_near a b m n op v sound new.0 within set told f)
+      (λ out. step_others r a b m n op v sound sound_too new.0 new_too.0 (within_others r (footprint m op) within out) set f)
       blind.0 in
       let e : RunsNear a b (step m op).state (step n op).state ops =
       run_near ops a b (step m op).state (step n op).state (move_then a m (step m op).state b n (step n op).state v d.goes.moves) (step_sound m op sound new.0) (step_sound n op sound_too new_too.0) new.1 new_too.1
-      (within_back r.touched (footprint m op) _ c) blind.1 (near.fit_after r m (step m op).state n (step n op).state f d.goes) in
+      (within_back r.touched (footprint m op) _ c) (within_back r.set (set_by m op) _ t) blind.1 (near.fit_after r m (step m op).state n (step n op).state f d.goes) in
       record {
         goes = near.goes_then r m (step m op).state (end_from m (op ∷ ops)) n (step n op).state (end_from n (op ∷ ops)) d.goes e.goes;
         outcomes = λ i. d.outcome i ∷ e.outcomes i;
@@ -306,10 +308,10 @@ module _ (r : Frame) where
 
 -- the law
 pub near_holds : NearHolds
-near_holds k touched a loose m n ops apart within close c blind alive sound sound_too distinct unused unused_too =
-    let r : Frame = record { k = k; touched = touched; a = a; loose = loose; apart = apart; within = within } in
+near_holds k touched set a loose m n ops apart within close c t blind alive sound sound_too distinct unused unused_too =
+    let r : Frame = record { k = k; touched = touched; set = set; a = a; loose = loose; apart = apart; within = within } in
     let f : Fit r m n = record { alike = close.alike; near = close.near; alive = alive } in
-    let d = run_near r ops m n m n (move_none m n) sound sound_too (joined.replays m ops sound distinct unused).0 (joined.replays n ops sound_too distinct unused_too).0 c blind f in
+    let d = run_near r ops m n m n (move_none m n) sound sound_too (joined.replays m ops sound distinct unused).0 (joined.replays n ops sound_too distinct unused_too).0 c t blind f in
     let later : Fit r (end_from m ops) (end_from n ops) = near.fit_after r m (end_from m ops) n (end_from n ops) f d.goes in
     record {
       outcomes = sym d.outcomes;
@@ -319,4 +321,5 @@ near_holds k touched a loose m n ops apart within close c blind alive sound soun
       footprints = d.keys;
       moved = d.moved;
       fields = d.goes.kept;
+      still = d.goes.still;
     }

@@ -13,6 +13,7 @@ use Rattle.trace_types.specs.declared.slots.Item.{Item}
 use Rattle.trace_types.specs.declared.slots.Item.TheVariants as item
 use Rattle.trace_types.specs.declared.slots.Change.{Change}
 use Rattle.trace_types.specs.declared.slots.Change.TheVariants.{SetHandle, EndHandle, SetCell, EndCell, SetField, Make, TurnHusk}
+use Rattle.trace_types.specs.declared.outcomes.Event.{Event}
 use Rattle.trace_types.specs.Operation.{Operation}
 use Rattle.ownership_model.specs.declared.plan.Plan.{Plan}
 use Rattle.ownership_model.specs.declared.plan.Plan.TheVariants.{Skip, Act}
@@ -24,10 +25,12 @@ use Rattle.ownership_model.specs.Scopes.{scope_of}
 use Rattle.ownership_model.specs.View.{members, view_of}
 use Rattle.ownership_model.specs.Table.{row, fields_of}
 use Rattle.ownership_model.specs.Step.{step, carried_out, end_from, AreNew}
+use Rattle.ownership_model.specs.Touched.{event_object}
 use Rattle.ownership_model.specs.declared.key.Key.{Key}
 use Rattle.ownership_model.specs.declared.key.Key.TheVariants.{Handle, Cell, Object}
 use Rattle.ownership_model.specs.Alike.{AreWithin, AreAlike, IsKeptOutside, AreCountsKeptOutside}
 use Rattle.ownership_model.specs.Footprint.{slot_keys, slots_keys, holding_keys, cell_keys, item_keys, taken_within, taken, change_key, moved_by, moved_by_changes, member_keys, scope_keys, plan_keys, footprint, moved_by_plan, moved, footprints_from, moved_from}
+use Rattle.ownership_model.specs.Sets.{set_by_plan, set_by}
 use Rattle.ownership_model.proofs.TotalLemmas.{weight_at, total-insert, total-remove}
 use Rattle.ownership_model.proofs.CountLemmas.{total-set, total-cut, get_set_other, get_cut_other, items_weight-drops, other_strong, other_weak, at}
 use Rattle.ownership_model.proofs.ReleaseLemmas.{either, work_drops}
@@ -145,7 +148,7 @@ module _ (k : Key → Bool) where
 
   -- ---- changes
   -- the places outside of the set are kept, and where v holds of what is moved, so is what weighs there
-  record Kept (v : Type 0) (m later : State) : Type 0 where
+  pub record Kept (v : Type 0) (m later : State) : Type 0 where
     pub handles : (h : ℕ) → k (Handle h) ≡ false → get later.handles h ≡ get m.handles h
     pub cells : (c : ℕ) → k (Cell c) ≡ false → get later.cells c ≡ get m.cells c
     pub entries : (o : ℕ) → k (Object o) ≡ false → get later.objects o ≡ get m.objects o
@@ -269,6 +272,56 @@ module _ (k : Key → Bool) where
         entries = r.entries;
         weights = λ v w d. omega (arith, r.weights w d, items_apart w d p r.pending);
       }
+
+  -- ---- what is set
+  -- each of the events is of an object of the set
+  abbrev pub AreEventsOf : List Event → Type 0
+  AreEventsOf es = AreWithin k (map Object (map event_object es))
+
+  -- so it is with each part of them
+  pub events_of : (es fs : List Event) → AreEventsOf (es ++ fs) → AreEventsOf es × AreEventsOf fs
+  events_of [] fs c = (tt, c)
+  events_of (e ∷ es) fs c = let p = events_of es fs c.1 in ((c.0, p.0), p.1)
+
+  -- an item brings about what its event tells
+  told_fate : (m : State) (xs : List Item) (f : Fate) → AreEventsOf (left_by m xs f).events → IsOf k f
+  told_fate m xs Stays c = tt
+  told_fate m xs (Falls o fields) c = c.0
+  told_fate m xs (Goes o) c = c.0
+
+  -- a cascade changes the objects of its events alone, with any fuel
+  within_sets : (f : ℕ) (m : State) (p : List Item) → AreEventsOf (release_within f m p).events → (o : ℕ) → k (Object o) ≡ false → get (release_within f m p).state.objects o ≡ get m.objects o
+  within_sets f m [] c o out = refl
+  within_sets zero m (x ∷ xs) c o out = refl
+  within_sets (suc f) m (x ∷ xs) c o out =
+      let d = drop_first m x xs in
+      let p = events_of d.events (release_within f d.state d.pending).events c in
+      within_sets f d.state d.pending p.1 o out ∙ left_entries m xs (fate m x xs) (told_fate m xs (fate m x xs) p.0) o out
+
+  -- so it is for a whole cascade, of whose weights nothing is known
+  release_sets : (m : State) (p : List Item) → AreEventsOf (release m p).events → Kept ⊥ m (release m p).state
+  unfolding release
+  release_sets m p c = record {
+    handles = λ q d. ap (λ x. get x q) (kept_roots m p).0;
+    cells = λ q d. ap (λ x. get x q) (kept_roots m p).1;
+    entries = within_sets (work m p) m p c;
+    weights = λ v w d. absurd v;
+  }
+
+  -- a plan changes nothing but what it sets
+  plan_sets : (m : State) (id : ℕ) (p : Plan) → IsCarriable m p → AreWithin k (set_by_plan m p) → Kept ⊥ m (carried_out m id p).state
+  plan_sets m id (Skip why) can c = record { handles = λ h d. refl; cells = λ e d. refl; entries = λ o d. refl; weights = λ v w d. absurd v }
+  plan_sets m id (Act answer changes event pending object) can c =
+      let here : Type 0 = AreWithin k (moved_by_changes m changes) in
+      kept_if (here × ⊥) ⊥ m (release (changed m changes) pending).state (λ v. absurd v)
+      (kept_then here ⊥ m (changed m changes) (release (changed m changes) pending).state
+      (changes_kept changes m can.0 (within_front k (map change_key changes) _ c))
+      (release_sets (changed m changes) pending (within_back k (map change_key changes) _ c)))
+
+  -- nor does an operation
+  pub step_sets : (m : State) (op : Operation) → IsSound m [] → get m.objects op.id ≡ None → AreWithin k (set_by m op) → Kept ⊥ m (step m op).state
+  unfolding step set_by
+  step_sets m op sound new c = plan_sets m op.id (row op (view_of m op.thread op.kind)) (row_carriable m op sound new) c
 
   -- ---- an operation
   -- a plan sets what its keys say, and weighs what it moves

@@ -22,6 +22,7 @@ pub mod Footprint
 pub mod Leaks
 pub mod Falling
 pub mod FootprintLaws
+pub mod Sets
 pub mod Near
 pub mod NearLaws
 pub mod Laws

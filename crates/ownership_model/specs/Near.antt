@@ -59,14 +59,14 @@ weight_of_key w m (Object o) = option_map_or (entry_weight w) (get m.objects o) 
 weight_of_key w m (Scope t) = 0
 
 -- an Arc to the object stands at a key outside of a set
-pub record IsHeldOutside (touched : Key → Bool) (m : State) (o : ℕ) : Type 0 where
+pub record IsHeldOutside (set : Key → Bool) (m : State) (o : ℕ) : Type 0 where
   pub place : Key
-  pub outside : touched place ≡ false
+  pub outside : set place ≡ false
   pub holds : 0 < weight_of_key (names_alike (Strong o)) m place
 
--- each object of a that is touched has as many Arcs in n as in m, or more, or one that stands where nothing is touched
-abbrev pub AreKeptAlive : (touched : Key → Bool) (a : ℕ → Bool) (m n : State) → Type 0
-AreKeptAlive touched a m n = (o : ℕ) → a o ≡ true → touched (Object o) ≡ true → (strong m [] o ≤ strong n [] o) ⊎ IsHeldOutside touched n o
+-- each object of a that is touched has as many Arcs in n as in m, or more, or one that stands where nothing is set
+abbrev pub AreKeptAlive : (touched set : Key → Bool) (a : ℕ → Bool) (m n : State) → Type 0
+AreKeptAlive touched set a m n = (o : ℕ) → a o ≡ true → touched (Object o) ≡ true → (strong m [] o ≤ strong n [] o) ⊎ IsHeldOutside set n o
 
 -- whether the method decides by the counts of its object
 abbrev pub asks_counts : Kind → Bool
