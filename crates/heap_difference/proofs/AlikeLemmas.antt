@@ -274,6 +274,11 @@ shifts_on shifts old later_old new later_new are moves = all_so (λ s. IsShift s
 loose_first : (f : FieldPut) (fields : List FieldPut) → is_loose (f ∷ fields) f.object f.index ≡ true
 loose_first f fields = or_left ((f.object == f.object) && (f.index == f.index)) (is_loose fields f.object f.index) (ap (λ b. b && (f.index == f.index)) (itself f.object) ∙ itself f.index)
 
+-- where what is loose in one list is loose in another one, each of its items is
+pub each_loose : (p : ℕ → Bool) (fields others : List FieldPut) → ((o i : ℕ) → is_loose others o i ≡ true → p o ≡ true → is_loose fields o i ≡ true) → AllByRecursion (λ f. p f.object ≡ true → is_loose fields f.object f.index ≡ true) others
+each_loose p fields [] so = tt
+each_loose p fields (f ∷ others) so = (so f.object f.index (loose_first f others), each_loose p fields others (λ o i loose. so o i (or_right ((f.object == o) && (f.index == i)) (is_loose others o i) loose)))
+
 -- the fields hold this later, where what is loose stays
 fields_stay : (shifts : List Shift) (fields some : List FieldPut) (m later : State) → ((o i : ℕ) → is_loose some o i ≡ true → is_loose fields o i ≡ true) → AreOfAlikes shifts some → HoldFields some m
     → ((o i : ℕ) → is_alike shifts o ≡ true → is_loose fields o i ≡ true → slice_get (fields_of (get later.objects o)) i ≡ slice_get (fields_of (get m.objects o)) i) → HoldFields some later

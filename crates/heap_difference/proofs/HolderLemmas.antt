@@ -19,12 +19,14 @@ use Rattle.ownership_model.specs.Near.{weight_of_key, IsHeldOutside}
 use Rattle.ownership_model.specs.Reach.{has}
 use Rattle.ownership_model.proofs.Counting.{get_removed, total-remove, total-positive, same_number, names_alike-le}
 use Rattle.ownership_model.proofs.Searching.{has-append, or_left}
+use Rattle.heap_difference.specs.declared.key_set.KeySet.{KeySet}
 use Rattle.heap_difference.specs.declared.holders.Holder.{Holder}
 use Rattle.heap_difference.specs.declared.holders.Holders.{Holders}
 use Rattle.heap_difference.specs.declared.shifts.Shift.{Shift}
 use Rattle.heap_difference.specs.KeySets.{Handles, Cells, Objects, Labels, kind_number, is_among, set_of}
-use Rattle.heap_difference.specs.Holders.{without_key, without_keys, IsLeft, NamesNone, IsCountedIn, objects_of, AreOfLessened, AreAllLeft, IsOneCounted, AreSlotsAt, are_named_by, less_by}
+use Rattle.heap_difference.specs.Holders.{without_key, without_keys, IsLeft, NamesNone, IsSettled, IsCountedIn, objects_of, AreOfLessened, AreAllLeft, IsNoMoreCounted, IsNamedBeside, IsOneCounted, AreSlotsAt, are_named_by, less_by}
 use Rattle.heap_difference.specs.Alikes.{is_alike}
+use Rattle.heap_difference.specs.Recents.{is_recent}
 use Rattle.heap_difference.proofs.AlikeLemmas.{any_front, any_behind}
 use Rattle.heap_difference.proofs.Tests.{clash, itself, has_first, or_right, left_false}
 use Rattle.heap_difference.proofs.KeyLemmas.{some_same, Has-set_of, among_append}
@@ -200,16 +202,17 @@ none_named slots x from there (it ∷ items) none = at (are_named_by slots it) r
     )
 
 -- where no slot at a key names one of the objects, or they are no longer counted, nothing changes
-nothing_more : (x : Key) (from : State) (h : Holders) → Contains h.counted.items x ⊎ NamesNone from h.items.items x → IsOneCounted x from h h
+nothing_more : (x : Key) (from : State) (h : Holders) → IsSettled from h x → IsOneCounted x from h h
 nothing_more x from h so = record {
-  counted = λ t c u within. record { left = c.left; all = λ y there. at c y (within y there) };
+  counted = λ t c u within. record { left = c.left; all = λ y there. at c y (within y there); recent = c.recent };
+  no_more = λ y c. inl c;
   objects = refl;
   items = refl;
 }
   where
-    at : {t : Key → Bool} → IsCountedIn t from h → (y : Key) → (t y ≡ true) ⊎ (y ≡ x) → Contains h.counted.items y ⊎ NamesNone from h.items.items y
+    at : {t : Key → Bool} → IsCountedIn t from h → (y : Key) → (t y ≡ true) ⊎ (y ≡ x) → IsSettled from h y
     at c y (inl there) = c.all y there
-    at c y (inr is) = subst (λ (z : Key). Contains h.counted.items z ⊎ NamesNone from h.items.items z) (sym is) so
+    at c y (inr is) = subst (IsSettled from h) (sym is) so
 
 -- at the key no slot names one of the objects
 pub none_counted : (x : Key) (slots : List Slot) (h : Holders) → list_any (are_named_by slots) h.items.items ≡ false → (from : State) → AreSlotsAt x from slots → IsOneCounted x from h h
@@ -232,16 +235,39 @@ same_objects : (slots : List Slot) (items : List Holder) → objects_of (map (le
 same_objects slots [] = refl
 same_objects slots (it ∷ items) = ap (λ os. it.object ∷ os) (same_objects slots items)
 
+-- a list of one key has no other
+alone : (k y : Key) → Contains (k ∷ []) y → y ≡ k
+alone k y c = at c.0 c.1 c.2
+  where
+    at : (i : ℕ) → i < 1 → get_or (k ∷ []) i y ≡ y → y ≡ k
+    at zero within is = sym is
+    at (suc i) within is = absurd (omega (arith, within))
+
+-- what is in a list with one more is in the list, or is that
+of_two : (keys : List Key) (x y : Key) → Contains (keys ++ x ∷ []) y → Contains keys y ⊎ (y ≡ x)
+of_two [] x y c = inr (alone x y c)
+of_two (k ∷ keys) x y c = at (of_two keys x y) c.0 c.1 c.2
+  where
+    later : Contains keys y ⊎ (y ≡ x) → Contains (k ∷ keys) y ⊎ (y ≡ x)
+    later (inl c) = inl (Contains-append_right (k ∷ []) keys y c)
+    later (inr is) = inr is
+
+    at : (Contains (keys ++ x ∷ []) y → Contains keys y ⊎ (y ≡ x)) → (i : ℕ) → i < length (k ∷ (keys ++ x ∷ [])) → get_or (k ∷ (keys ++ x ∷ [])) i y ≡ y → Contains (k ∷ keys) y ⊎ (y ≡ x)
+    at rest zero within is = inl (subst (λ (z : Key). Contains (k ∷ keys) z) is (contains_first k keys))
+    at rest (suc i) within is = later (rest (i, omega (arith, within), is))
+
 -- the slots at one key more
 pub one_counted : (x : Key) (slots : List Slot) (old new : Holders) → (Contains old.counted.items x → ⊥) → new.objects ≡ old.objects → new.items.items ≡ map (less_by slots) old.items.items
-    → new.counted.items ≡ old.counted.items ++ x ∷ [] → (from : State) → AreSlotsAt x from slots → IsOneCounted x from old new
-one_counted x slots old new none same less more from there = record {
+    → new.counted.items ≡ old.counted.items ++ x ∷ [] → new.recent ≡ old.recent → (from : State) → AreSlotsAt x from slots → IsOneCounted x from old new
+one_counted x slots old new none same less more kept from there = record {
   counted = λ t c u within. record {
     left = subst (λ (its : List Holder). AllByRecursion (IsLeft from new.counted.items) its) (sym less)
         (subst (λ (keys : List Key). AllByRecursion (IsLeft from keys) (map (less_by slots) old.items.items)) (sym more)
         (all_mapped (IsLeft from old.counted.items) (IsLeft from (old.counted.items ++ x ∷ [])) (less_by slots) left old.items.items c.left));
     all = λ y there_too. at c y (within y there_too);
+    recent = λ q here. before (Handle q) (c.recent q (sym (ap (λ ps. is_recent ps q) kept) ∙ here));
   };
+  no_more = λ y there_too. of_two old.counted.items x y (subst (λ (keys : List Key). Contains keys y) more there_too);
   objects = same;
   items = ap objects_of less ∙ same_objects slots old.items.items;
 }
@@ -256,13 +282,51 @@ one_counted x slots old new none same less more from there = record {
     same_none y all = subst (λ (its : List Holder). NamesNone from its y) (sym less)
         (all_mapped (λ it. weight_of_key (names_alike (Strong it.object)) from y ≡ 0) (λ it. weight_of_key (names_alike (Strong it.object)) from y ≡ 0) (less_by slots) (λ it e. e) old.items.items all)
 
-    before : (y : Key) → Contains old.counted.items y ⊎ NamesNone from old.items.items y → Contains new.counted.items y ⊎ NamesNone from new.items.items y
+    before : (y : Key) → IsSettled from old y → IsSettled from new y
     before y (inl c) = inl (subst (λ (keys : List Key). Contains keys y) (sym more) (Contains-append_left old.counted.items (x ∷ []) y c))
     before y (inr all) = inr (same_none y all)
 
-    at : {t : Key → Bool} → IsCountedIn t from old → (y : Key) → (t y ≡ true) ⊎ (y ≡ x) → Contains new.counted.items y ⊎ NamesNone from new.items.items y
+    at : {t : Key → Bool} → IsCountedIn t from old → (y : Key) → (t y ≡ true) ⊎ (y ≡ x) → IsSettled from new y
     at c y (inl here) = before y (c.all y here)
     at c y (inr is) = inl (subst (λ (keys : List Key). Contains keys y) (sym more) (subst (λ (z : Key). Contains (old.counted.items ++ x ∷ []) z) (sym is) (Contains-push old.counted.items x)))
+
+-- whether a key is the handle
+abbrev is_the_handle : ℕ → Key → Bool
+is_the_handle q (Handle g) = g == q
+is_the_handle q (Cell c) = false
+is_the_handle q (Object o) = false
+is_the_handle q (Scope t) = false
+
+the_handle : (q : ℕ) (y : Key) → is_the_handle q y ≡ true → y ≡ Handle q
+the_handle q (Handle g) e = ap (λ n. Handle n) (same_number g q e)
+the_handle q (Cell c) e = absurd cc
+the_handle q (Object o) e = absurd cc
+the_handle q (Scope t) e = absurd cc
+
+-- a handle is met that isn't counted any more
+pub met_now : (q : ℕ) (from : State) (old mid new : Holders) → IsOneCounted (Handle q) from old mid → new.objects ≡ mid.objects → new.items.items ≡ mid.items.items → new.counted.items ≡ mid.counted.items
+    → ((g : ℕ) → is_recent new.recent g ≡ true → (is_recent mid.recent g ≡ true) ⊎ (g ≡ q)) → IsOneCounted (Handle q) from old new
+met_now q from old mid new it objects items counted only = record {
+  counted = λ t c u within.
+      let there : IsCountedIn u from mid = it.counted t c u within in
+      let here : IsCountedIn (is_the_handle q) from mid = it.counted t c (is_the_handle q) (λ y e. inr (the_handle q y e)) in
+      record {
+        left = subst (λ (keys : List Key). AllByRecursion (IsLeft from keys) new.items.items) (sym counted) (subst (λ (its : List Holder). AllByRecursion (IsLeft from mid.counted.items) its) (sym items) there.left);
+        all = λ y e. later y (there.all y e);
+        recent = λ g e. later (Handle g) (met there here g (only g e));
+      };
+  no_more = λ y c. it.no_more y (subst (λ (keys : List Key). Contains keys y) counted c);
+  objects = objects ∙ it.objects;
+  items = ap objects_of items ∙ it.items;
+}
+  where
+    later : (y : Key) → IsSettled from mid y → IsSettled from new y
+    later y (inl c) = inl (subst (λ (keys : List Key). Contains keys y) (sym counted) c)
+    later y (inr none) = inr (subst (λ (its : List Holder). NamesNone from its y) (sym items) none)
+
+    met : {u : Key → Bool} → IsCountedIn u from mid → IsCountedIn (is_the_handle q) from mid → (g : ℕ) → (is_recent mid.recent g ≡ true) ⊎ (g ≡ q) → IsSettled from mid (Handle g)
+    met there here g (inl e) = there.recent g e
+    met there here g (inr is) = subst (λ n. IsSettled from mid (Handle n)) (sym is) (here.all (Handle q) (itself q))
 
 -- a slot alone
 same_here : (w : Slot → ℕ) (s : Slot) → w s ≡ slots_weight w (s ∷ [])
@@ -337,6 +401,7 @@ mapped_next {X} f old now i d within is =
 -- what stands at these keys is no longer counted
 pub record AreCounted (keys : List Key) (from : State) (old new : Holders) : Type 0 where
   pub counted : (t : Key → Bool) → IsCountedIn t from old → IsCountedIn (λ x. t x || is_among (set_of keys) x) from new
+  pub no_more : IsNoMoreCounted (set_of keys) old new
   pub objects : new.objects ≡ old.objects
   pub items : objects_of new.items.items ≡ objects_of old.items.items
 
@@ -344,14 +409,6 @@ pub record AreCounted (keys : List Key) (from : State) (old new : Holders) : Typ
 either_of : (a b : Bool) → (a || b) ≡ true → (a ≡ true) ⊎ (b ≡ true)
 either_of true b e = inl refl
 either_of false b e = inr e
-
--- a list of one key has no other
-alone : (k y : Key) → Contains (k ∷ []) y → y ≡ k
-alone k y c = at c.0 c.1 c.2
-  where
-    at : (i : ℕ) → i < 1 → get_or (k ∷ []) i y ≡ y → y ≡ k
-    at zero within is = sym is
-    at (suc i) within is = absurd (omega (arith, within))
 
 -- no key is among none
 no_key : (x : Key) → is_among (set_of []) x ≡ false
@@ -363,12 +420,13 @@ no_key (Scope q) = refl
 -- before the first key
 pub counted_none : (from : State) (h : Holders) → AreCounted [] from h h
 counted_none from h = record {
-  counted = λ t c. record { left = c.left; all = λ x here. at c x (either_of (t x) (is_among (set_of []) x) here) };
+  counted = λ t c. record { left = c.left; all = λ x here. at c x (either_of (t x) (is_among (set_of []) x) here); recent = c.recent };
+  no_more = λ x c. inl c;
   objects = refl;
   items = refl;
 }
   where
-    at : {t : Key → Bool} → IsCountedIn t from h → (x : Key) → (t x ≡ true) ⊎ (is_among (set_of []) x ≡ true) → Contains h.counted.items x ⊎ NamesNone from h.items.items x
+    at : {t : Key → Bool} → IsCountedIn t from h → (x : Key) → (t x ≡ true) ⊎ (is_among (set_of []) x ≡ true) → IsSettled from h x
     at c x (inl here) = c.all x here
     at c x (inr here) = absurd (clash (is_among (set_of []) x) here (no_key x))
 
@@ -376,10 +434,23 @@ counted_none from h = record {
 pub counted_next : (keys : List Key) (k : Key) (from : State) (old now new : Holders) → AreCounted keys from old now → IsOneCounted k from now new → AreCounted (keys ++ k ∷ []) from old new
 counted_next keys k from old now new before it = record {
   counted = λ t c. it.counted (λ x. t x || is_among (set_of keys) x) (before.counted t c) (λ x. t x || is_among (set_of (keys ++ k ∷ [])) x) (λ y here. at t y (either_of (t y) (is_among (set_of (keys ++ k ∷ [])) y) here));
+  no_more = λ y there. both y (it.no_more y there);
   objects = it.objects ∙ before.objects;
   items = it.items ∙ before.items;
 }
   where
+    among : (y : Key) → (is_among (set_of keys) y ≡ true) ⊎ (is_among (set_of (k ∷ [])) y ≡ true) → is_among (set_of (keys ++ k ∷ [])) y ≡ true
+    among y (inl here) = among_append keys (k ∷ []) y ∙ or_left (is_among (set_of keys) y) (is_among (set_of (k ∷ [])) y) here
+    among y (inr here) = among_append keys (k ∷ []) y ∙ or_right (is_among (set_of keys) y) (is_among (set_of (k ∷ [])) y) here
+
+    earlier : (y : Key) → Contains old.counted.items y ⊎ (is_among (set_of keys) y ≡ true) → Contains old.counted.items y ⊎ (is_among (set_of (keys ++ k ∷ [])) y ≡ true)
+    earlier y (inl c) = inl c
+    earlier y (inr here) = inr (among y (inl here))
+
+    both : (y : Key) → Contains now.counted.items y ⊎ (y ≡ k) → Contains old.counted.items y ⊎ (is_among (set_of (keys ++ k ∷ [])) y ≡ true)
+    both y (inl c) = earlier y (before.no_more y c)
+    both y (inr is) = inr (among y (inr (ap (is_among (set_of (k ∷ []))) is ∙ (Has-set_of (k ∷ [])).all.0)))
+
     later : (t : Key → Bool) (y : Key) → (is_among (set_of keys) y ≡ true) ⊎ (is_among (set_of (k ∷ [])) y ≡ true) → ((t y || is_among (set_of keys) y) ≡ true) ⊎ (y ≡ k)
     later t y (inl here) = inl (or_right (t y) (is_among (set_of keys) y) here)
     later t y (inr here) = inr (alone k y ((Has-set_of (k ∷ [])).only y here))
@@ -417,7 +488,7 @@ first_added from shifts os items s it named all first = record {
       (all_so (λ r. has r.object os ≡ false → r.old_strong ≤ r.new_strong) (λ r. has r.object (os ++ s.object ∷ []) ≡ false → r.old_strong ≤ r.new_strong) (λ r so out. so (left_false (has r.object os) (has r.object (s.object ∷ [])) (sym (has-append r.object os (s.object ∷ [])) ∙ out))) shifts first.others)
       (λ out. absurd (clash (has s.object (os ++ s.object ∷ [])) (has-append s.object os (s.object ∷ []) ∙ or_right (has s.object os) (has s.object (s.object ∷ [])) (has_first s.object [])) out));
   objects = ap (λ ns. ns ++ s.object ∷ []) first.objects ∙ ap (λ n. objects_of items ++ n ∷ []) (sym named) ∙ sym (map-append (λ i. i.object) items (it ∷ []));
-  left = all_push (IsLeft from []) items it first.left (subst (λ n. it.left ≤ strong from [] n) (sym named) (omega (arith, all)));
+  left = all_push (IsLeft from []) items it first.left (subst (λ n. it.left ≡ strong from [] n) (sym named) all);
   inside = λ o here. joined o (either_of (has o os) (has o (s.object ∷ [])) (sym (has-append o os (s.object ∷ [])) ∙ here));
 }
   where
@@ -426,10 +497,11 @@ first_added from shifts os items s it named all first = record {
     joined o (inr here) = any_behind (λ r. r.object == o) shifts (s ∷ []) here
 
 -- at first all slots are counted
-pub none_off : (from : State) (shifts : List Shift) (os : List ℕ) (h : Holders) → AreFirstHolders from shifts os h.items.items → h.counted.items ≡ [] → IsCountedIn (λ x. false) from h
-none_off from shifts os h first none = record {
+pub none_off : (from : State) (shifts : List Shift) (os : List ℕ) (h : Holders) → AreFirstHolders from shifts os h.items.items → h.counted.items ≡ [] → ((q : ℕ) → is_recent h.recent q ≡ false) → IsCountedIn (λ x. false) from h
+none_off from shifts os h first none met = record {
   left = subst (λ (keys : List Key). AllByRecursion (IsLeft from keys) h.items.items) (sym none) first.left;
   all = λ x here. absurd cc;
+  recent = λ q here. absurd (clash (is_recent h.recent q) here (met q));
 }
 
 -- they are all that have fewer
@@ -440,7 +512,36 @@ of_lessened from shifts os h first same = record {
   inside = λ o here. first.inside o (sym (same o) ∙ here);
 }
 
--- ---- holders that nothing has touched
+-- ---- holders that nothing has set
+-- a key that isn't taken out weighs what it did
+unkept : (w : Slot → ℕ) (keys : List Key) (x : Key) (m : State) → (Contains keys x → ⊥) → weight_of_key w (without_keys keys m) x ≡ weight_of_key w m x
+unkept w [] x m none = refl
+unkept w (k ∷ keys) x m none =
+    kept w k x (without_keys keys m) (λ is. none (subst (λ (y : Key). Contains (k ∷ keys) y) is (contains_first k keys)))
+    ∙ unkept w keys x m (λ c. none (Contains-append_right (k ∷ []) keys x c))
+
+-- an object that is named at a key that is still counted has a slot left
+left_there : (from : State) (counted : List Key) (o : ℕ) (x : Key) → (Contains counted x → ⊥) → 0 < weight_of_key (names_alike (Strong o)) from x → 0 < strong (without_keys counted from) [] o
+left_there from counted o x none more =
+    let w = names_alike (Strong o) in
+    omega (arith, more, unkept w counted x from none, taken w x (without_keys counted from))
+
+-- so it is of all objects that are named beside the keys of operations
+pub left_beside : (sets : KeySet) (from : State) (old new : Holders) (t : Key → Bool) → IsCountedIn t from new → IsNoMoreCounted sets old new → objects_of new.items.items ≡ objects_of old.items.items
+    → AllByRecursion (IsNamedBeside from old.counted.items sets) (objects_of old.items.items) → AreAllLeft new
+left_beside sets from old new t counted no_more same named = go new.items.items counted.left (subst (AllByRecursion (IsNamedBeside from old.counted.items sets)) (sym same) named)
+  where
+    nowhere : (o : ℕ) (n : IsNamedBeside from old.counted.items sets o) → Contains old.counted.items n.place ⊎ (is_among sets n.place ≡ true) → ⊥
+    nowhere o n (inl c) = n.uncounted c
+    nowhere o n (inr here) = clash (is_among sets n.place) here n.beside
+
+    one : (it : Holder) → IsLeft from new.counted.items it → IsNamedBeside from old.counted.items sets it.object → 0 < it.left
+    one it left n = omega (arith, left, left_there from new.counted.items it.object n.place (λ c. nowhere it.object n (no_more n.place c)) n.holds)
+
+    go : (items : List Holder) → AllByRecursion (IsLeft from new.counted.items) items → AllByRecursion (IsNamedBeside from old.counted.items sets) (objects_of items) → AllByRecursion (λ it. 0 < it.left) items
+    go [] left named = tt
+    go (it ∷ items) left named = (one it left.0 named.0, go items left.1 named.1)
+
 -- an object of which a slot is left is named where keys are still counted
 named_still : (from : State) (counted : List Key) (o : ℕ) (items : List Holder) → AllByRecursion (IsLeft from counted) items → AllByRecursion (λ it. 0 < it.left) items → has o (objects_of items) ≡ true → 0 < strong (without_keys counted from) [] o
 named_still from counted o [] few more here = absurd cc
@@ -474,7 +575,7 @@ held_outside t from h o counted left here =
       holds = more;
     }
   where
-    nowhere : (x : Key) → (Contains h.counted.items x → ⊥) → 0 < weight_of_key (names_alike (Strong o)) from x → Contains h.counted.items x ⊎ NamesNone from h.items.items x → ⊥
+    nowhere : (x : Key) → (Contains h.counted.items x → ⊥) → 0 < weight_of_key (names_alike (Strong o)) from x → IsSettled from h x → ⊥
     nowhere x none more (inl c) = none c
     nowhere x none more (inr all) = absurd (omega (arith, more, unnamed from x o h.items.items all here))
 

@@ -3,6 +3,7 @@ use Rattle.std.proofs.Common.{◌≡◌, ℕ, List, [], ◌∷◌, refl, ap, ◌
 use Rattle.std.specs.Prelude.{◌==◌, ◌||◌, ◌&&◌, not, Option, IsTrue}
 use Rattle.std.specs.List.{AllByRecursion, list_any}
 use Rattle.std.specs.FinMap.{get}
+use Rattle.std.proofs.lemmas.Bool.{and_parts}
 use Rattle.trace_types.specs.declared.slots.Entry.{Entry}
 use Rattle.trace_types.specs.Operation.{Operation}
 use Rattle.trace_types.specs.Trace.{has_distinct_numbers}
@@ -28,7 +29,7 @@ use Rattle.heap_difference.specs.Alikes.{is_alike, is_loose}
 use Rattle.heap_difference.specs.Puts.{AreUndersApart, unders}
 use Rattle.heap_difference.specs.Laid.{beside_firm, IsWhole}
 use Rattle.heap_difference.specs.Layers.{LayerView, IsLaidBy, Covers, AreAmong, IsPassable, IsPassedUnder, LayersHold}
-use Rattle.heap_difference.proofs.Tests.{clash, not_false, not_true, left_false, right_false}
+use Rattle.heap_difference.proofs.Tests.{clash, is_false, not_false, not_true, left_false, right_false}
 use Rattle.heap_difference.proofs.KeyLemmas.{meet_listed}
 use Rattle.heap_difference.proofs.LawLemmas.{fewer, within_front, within_more}
 use Rattle.heap_difference.proofs.PutLemmas.{alike_less, puts_stay_by}
@@ -101,7 +102,7 @@ touched_or true c so = ap (λ x. x || false) (so refl)
 touched_or false true so = refl
 touched_or false false so = refl
 
-module _ (l : LayerView) (keys : KeySet) (old new : State) (ops : List Operation) (laid : IsLaidBy l old new) (may : IsPassable l keys old new ops)
+module _ (l : LayerView) (keys sets : KeySet) (old new : State) (ops : List Operation) (laid : IsLaidBy l old new) (may : IsPassable l keys sets old new ops)
     (sound : IsSound old []) (distinct : IsTrue (has_distinct_numbers ops)) (unused : AreUnused old ops) (unused_too : AreUnused new ops) where
   abbrev touch : Key → Bool
   touch = is_among keys
@@ -115,11 +116,11 @@ module _ (l : LayerView) (keys : KeySet) (old new : State) (ops : List Operation
   feet : AreWithin touch (footprints_from old ops)
   feet = within_front touch (footprints_from old ops) (moved_from old ops) may.touched
 
-  goes : ReplaysNear (outside l.keys) touch alike loose old new ops
-  goes = near (outside l.keys) touch alike loose old new ops
+  goes : ReplaysNear (outside l.keys) touch (is_among sets) alike loose old new ops
+  goes = near (outside l.keys) touch (is_among sets) alike loose old new ops
       (λ o here. not_true (has o l.keys.objects) (laid.layer.alike o here))
       (λ x here. touched_either (is_among l.keys x) (is_object_of alike x) (may.firm x here))
-      (record { alike = laid.is.difference; near = laid.is.near }) feet may.blind may.alive sound laid.is.sound distinct unused unused_too
+      (record { alike = laid.is.difference; near = laid.is.near }) feet may.set may.blind may.alive sound laid.is.sound distinct unused unused_too
 
   feet_too : AreWithin touch (footprints_from new ops)
   feet_too = subst (λ ks. AreWithin touch ks) goes.footprints feet
@@ -157,14 +158,14 @@ module _ (l : LayerView) (keys : KeySet) (old new : State) (ops : List Operation
 
     stays_differing : IsDifference d old new → IsDifference d (end_from old ops) (end_from new ops)
     stays_differing differ =
-        (near (outside d) touch fewer_alike loose old new ops
+        (near (outside d) touch (is_among sets) fewer_alike loose old new ops
         (λ o here. not_true (has o d.objects) (both_true (alike o) (has o d.objects) here).1)
         (λ x here. touched_either (is_among d x) (is_object_of fewer_alike x) (one_of x here))
-        (record { alike = differ; near = λ o here. laid.is.near o (both_true (alike o) (has o d.objects) here).0 }) feet
+        (record { alike = differ; near = λ o here. laid.is.near o (both_true (alike o) (has o d.objects) here).0 }) feet may.set
         (blind.fewer alike fewer_alike loose old ops (λ o here. (both_true (alike o) (has o d.objects) here).0) may.blind)
         (λ o here there. may.alive o (both_true (alike o) (has o d.objects) here).0 there) sound laid.is.sound distinct unused unused_too).near.alike
 
-  passes_under : IsPassedUnder l keys old new ops
+  passes_under : IsPassedUnder l sets old new ops
   passes_under = record {
     outcomes = goes.outcomes;
     laid = record {
@@ -181,7 +182,7 @@ module _ (l : LayerView) (keys : KeySet) (old new : State) (ops : List Operation
     counts = λ are. shifts_on l.shifts old (end_from old ops) new (end_from new ops) are goes.weights;
     footprints = goes.footprints;
     moved = goes.moved;
-    stays = (footprints.kept_by_replay touch new ops laid.is.sound distinct unused_too feet_too).0;
+    still = goes.still;
     differs = stays_differing;
   }
 
@@ -210,7 +211,7 @@ module _ (p q r : Key → Bool) (same : (x : Key) → r x ≡ (p x || q x)) wher
       sorted false true false d = refl
       sorted false false c d = refl
 
-both_false : (a b : Bool) → a ≡ false → b ≡ false → (a || b) ≡ false
+pub both_false : (a b : Bool) → a ≡ false → b ≡ false → (a || b) ≡ false
 both_false true b e f = absurd cc
 both_false false b e f = f
 
@@ -283,3 +284,18 @@ covers_is l other firm others whole own theirs keys firms fields = record {
     not_alike : (o : ℕ) (b : Bool) → is_alike l.shifts o ≡ b → is_among firm (Object o) ≡ true → is_alike l.shifts o ≡ false
     not_alike o true e here = absurd (never (has o l.keys.objects) ((λ i. has o l.keys.objects && not (sym e i)) ∙ sym (own (Object o)) ∙ here))
     not_alike o false e here = e
+
+-- where a layer covers another one, it has what is firm there as firm keys
+pub firm_covered : (l other : LayerView) (firm others : KeySet)
+    → ((x : Key) → is_among firm x ≡ (is_among l.keys x && not (is_object_of (is_alike l.shifts) x)))
+    → ((x : Key) → is_among others x ≡ (is_among other.keys x && not (is_object_of (is_alike other.shifts) x)))
+    → Covers l other → (x : Key) → is_among others x ≡ true → is_among firm x ≡ true
+firm_covered l other firm others own theirs covers x here =
+    let parts = and_parts (is_among other.keys x) (not (is_object_of (is_alike other.shifts) x)) (sym (theirs x) ∙ here) in
+    own x ∙ (λ i. covers.keys x parts.0 i && not (stays_firm x parts.0 parts.1 i))
+  where
+    stays_firm : (x : Key) → is_among other.keys x ≡ true → not (is_object_of (is_alike other.shifts) x) ≡ true → is_object_of (is_alike l.shifts) x ≡ false
+    stays_firm (Object o) there out = covers.firm o there (is_false (is_alike other.shifts o) out)
+    stays_firm (Handle h) there out = refl
+    stays_firm (Cell c) there out = refl
+    stays_firm (Scope t) there out = refl

@@ -1,6 +1,6 @@
 -- What operations and outcomes name, key by key.
-use Rattle.std.proofs.Common.{◌≡◌, ℕ, ◌+◌, ◌<◌, List, [], ◌∷◌, ◌++◌, map, take, length, refl, ap, ◌∙◌, sym, append_assoc, Bool, true, false}
-use Rattle.std.specs.Prelude.{flat_map, get_or, option_to_list, ◌||◌}
+use Rattle.std.proofs.Common.{◌≡◌, ℕ, ◌+◌, ◌<◌, List, [], ◌∷◌, ◌++◌, map, take, length, inl, inr, refl, ap, ◌∙◌, sym, append_assoc, arith, Bool, true, false}
+use Rattle.std.specs.Prelude.{flat_map, get_or, option_to_list, ◌||◌, ◌⊎◌}
 use Rattle.std.specs.List.{list_any}
 use Rattle.std.proofs.lemmas.List.{append-nil, take_more}
 use Rattle.std.proofs.lemmas.List.Folds.{list_any-append}
@@ -17,6 +17,7 @@ use Rattle.ownership_model.specs.declared.key.Key.TheVariants.{Handle, Cell, Obj
 use Rattle.ownership_model.specs.View.{Members, members, held_fields}
 use Rattle.ownership_model.specs.Footprint.{scope_keys, named_keys}
 use Rattle.ownership_model.specs.Touched.{event_object}
+use Rattle.ownership_model.specs.Sets.{set_names_of}
 use Rattle.heap_difference.specs.declared.key_set.KeySet.{KeySet}
 use Rattle.heap_difference.specs.KeySets.{is_among, set_of, meet}
 use Rattle.heap_difference.specs.Naming.{op_keys, outcome_keys, with_names}
@@ -30,6 +31,13 @@ parts_next {A} f xs i x within is before now later e g =
     let more : flat_map f (take (i + 1) xs) ≡ flat_map f (take i xs) ++ f x =
     ap (λ (ys : List A). flat_map f ys) (take_more xs i x within) ∙ flat_map-append f (take i xs) (get_or xs i x ∷ []) ∙ ap (λ (ks : List Key). flat_map f (take i xs) ++ ks) last in
     g ∙ ap (λ (ks : List Key). ks ++ f x) e ∙ append_assoc before (flat_map f (take i xs)) (f x) ∙ ap (λ (ks : List Key). before ++ ks) (sym more)
+
+-- operations or outcomes that have come to their end name nothing more that is set
+pub names_end : (ops : List Operation) (xs : List Outcome) → (length ops ≡ 0) ⊎ (length xs ≡ 0) → set_names_of ops xs ≡ []
+names_end [] xs e = refl
+names_end (op ∷ ops) [] e = refl
+names_end (op ∷ ops) (x ∷ xs) (inl e) = absurd (omega (arith, e))
+names_end (op ∷ ops) (x ∷ xs) (inr e) = absurd (omega (arith, e))
 
 -- ---- looked up
 or_none : (a : Bool) → (a || false) ≡ a

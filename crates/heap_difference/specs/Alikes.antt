@@ -1,9 +1,11 @@
 -- Objects that are alive in two states with as many fields: how their counts differ, and what the fields hold that differ (profile of this
 -- project).
-use Rattle.std.specs.Prelude.{ℕ, ◌≡◌, ◌+◌, ◌-◌, ◌^◌, ◌≤◌, ◌==◌, ◌&&◌, ◌++◌, ◌⊎◌, min, List, [], ◌∷◌, Option, Some, None, Bool, true, if◌then◌else◌, slice_get}
+use Rattle.std.specs.Prelude.{ℕ, ◌≡◌, ◌+◌, ◌-◌, ◌^◌, ◌≤◌, ◌==◌, ◌&&◌, ◌++◌, ◌⊎◌, min, List, [], ◌∷◌, length, Option, Some, None, Bool, true, false, if◌then◌else◌, slice_get}
 use Rattle.std.specs.List.{AllByRecursion, list_any}
 use Rattle.std.specs.FinMap.{get}
 use Rattle.trace_types.specs.declared.slots.Slot.{Slot}
+use Rattle.trace_types.specs.declared.slots.Entry.{Entry}
+use Rattle.trace_types.specs.declared.slots.Entry.TheVariants.{Alive, Husk}
 use Rattle.trace_types.specs.declared.outcomes.Counts.{Counts}
 use Rattle.trace_types.specs.declared.outcomes.Outcome.{Outcome}
 use Rattle.ownership_model.specs.State.{State, strong, weak}
@@ -12,6 +14,18 @@ use Rattle.ownership_model.specs.Table.{fields_of}
 use Rattle.ownership_model.specs.Near.{AreFieldsNear, AreEntriesNear}
 use Rattle.object_heap.specs.declared.put.FieldPut.{FieldPut}
 use Rattle.heap_difference.specs.declared.shifts.Shift.{Shift}
+
+-- whether both are alive, with as many fields
+abbrev pub are_fields_as_many : Option Entry → Option Entry → Bool
+are_fields_as_many (Some (Alive before)) (Some (Alive fields)) = length before == length fields
+are_fields_as_many (Some (Alive before)) (Some Husk) = false
+are_fields_as_many (Some (Alive before)) None = false
+are_fields_as_many (Some Husk) e = false
+are_fields_as_many None e = false
+
+-- whether an object is alive in both states, with as many fields
+abbrev pub may_be_alike : (old new : State) → ℕ → Bool
+may_be_alike old new o = are_fields_as_many (get old.objects o) (get new.objects o)
 
 -- the shift of an object, if there is one
 abbrev pub shift_of : List Shift → ℕ → Option Shift

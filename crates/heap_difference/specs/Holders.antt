@@ -16,6 +16,7 @@ use Rattle.heap_difference.specs.declared.holders.Holders.{Holders}
 use Rattle.heap_difference.specs.declared.shifts.Shift.{Shift}
 use Rattle.heap_difference.specs.KeySets.{is_among, meet}
 use Rattle.heap_difference.specs.Alikes.{is_alike}
+use Rattle.heap_difference.specs.Recents.{is_recent}
 
 -- a state without what stands at a key
 abbrev pub without_key : Key → State → State
@@ -29,18 +30,23 @@ abbrev pub without_keys : List Key → State → State
 without_keys [] m = m
 without_keys (x ∷ keys) m = without_key x (without_keys keys m)
 
--- the slots that are left name the object at keys that are still counted
+-- the slots that are left are those that name the object at keys that are still counted
 abbrev pub IsLeft : State → List Key → Holder → Type 0
-IsLeft from counted it = it.left ≤ strong (without_keys counted from) [] it.object
+IsLeft from counted it = it.left ≡ strong (without_keys counted from) [] it.object
 
 -- at the key no slot names one of the objects strongly
 abbrev pub NamesNone : State → List Holder → Key → Type 0
 NamesNone from items x = AllByRecursion (λ it. weight_of_key (names_alike (Strong it.object)) from x ≡ 0) items
 
--- the slots of a set of keys are no longer counted
+-- no slot at the key is counted: it is no longer, or names none of the objects
+abbrev pub IsSettled : State → Holders → Key → Type 0
+IsSettled from h x = Contains h.counted.items x ⊎ NamesNone from h.items.items x
+
+-- the slots of a set of keys are no longer counted, nor are those of handles that were met lately
 pub record IsCountedIn (t : Key → Bool) (from : State) (h : Holders) : Type 0 where
   pub left : AllByRecursion (IsLeft from h.counted.items) h.items.items
-  pub all : (x : Key) → t x ≡ true → Contains h.counted.items x ⊎ NamesNone from h.items.items x
+  pub all : (x : Key) → t x ≡ true → IsSettled from h x
+  pub recent : (q : ℕ) → is_recent h.recent q ≡ true → IsSettled from h (Handle q)
 
 -- their objects
 abbrev pub objects_of : List Holder → List ℕ
@@ -58,19 +64,35 @@ abbrev pub AreAllLeft : Holders → Type 0
 AreAllLeft h = AllByRecursion (λ it. 0 < it.left) h.items.items
 
 -- the slots at the keys of a set are no longer counted, and of each object one is left
-pub record AreCountedOff (t : Key → Bool) (keys : KeySet) (from : State) (old new : Holders) : Type 0 where
-  pub counted : IsCountedIn (λ x. t x || is_among keys x) from new
+pub record AreCountedOff (t : Key → Bool) (sets : KeySet) (from : State) (old new : Holders) : Type 0 where
+  pub counted : IsCountedIn (λ x. t x || is_among sets x) from new
   pub left : AreAllLeft new
   pub objects : new.objects ≡ old.objects
   pub items : objects_of new.items.items ≡ objects_of old.items.items
 
--- operations that touch these keys were passed: either they touch none of the objects, or their slots are counted off
-abbrev pub WerePassed : (Key → Bool) → KeySet → State → (old new : Holders) → Type 0
-WerePassed t keys from old new = ((meet old.objects keys ≡ false) × (new ≡ old)) ⊎ AreCountedOff t keys from old new
+-- operations that touch and set these keys were passed: either they touch none of the objects, or what they set is counted off
+abbrev pub WerePassed : (Key → Bool) → (keys sets : KeySet) → State → (old new : Holders) → Type 0
+WerePassed t keys sets from old new = ((meet old.objects keys ≡ false) × (new ≡ old)) ⊎ AreCountedOff t sets from old new
+
+-- of no other keys are the slots no longer counted
+abbrev pub IsNoMoreCounted : KeySet → (old new : Holders) → Type 0
+IsNoMoreCounted sets old new = (x : Key) → Contains new.counted.items x → Contains old.counted.items x ⊎ (is_among sets x ≡ true)
+
+-- an Arc to the object stands at a key that is still counted, and not among these
+pub record IsNamedBeside (from : State) (counted : List Key) (sets : KeySet) (o : ℕ) : Type 0 where
+  pub place : Key
+  pub uncounted : Contains counted place → ⊥
+  pub beside : is_among sets place ≡ false
+  pub holds : 0 < weight_of_key (names_alike (Strong o)) from place
+
+-- operations have to be passed that touch none of the objects, or beside which each of these has such an Arc
+abbrev pub MustPass : (keys sets : KeySet) → State → Holders → Type 0
+MustPass keys sets from h = (meet h.objects keys ≡ false) ⊎ AllByRecursion (IsNamedBeside from h.counted.items sets) (objects_of h.items.items)
 
 -- For private functions alone: what stands at one key more is no longer counted
 pub record IsOneCounted (x : Key) (from : State) (old new : Holders) : Type 0 where
   pub counted : (t : Key → Bool) → IsCountedIn t from old → (u : Key → Bool) → ((y : Key) → u y ≡ true → (t y ≡ true) ⊎ (y ≡ x)) → IsCountedIn u from new
+  pub no_more : (y : Key) → Contains new.counted.items y → Contains old.counted.items y ⊎ (y ≡ x)
   pub objects : new.objects ≡ old.objects
   pub items : objects_of new.items.items ≡ objects_of old.items.items
 

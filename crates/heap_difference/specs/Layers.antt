@@ -1,14 +1,16 @@
 -- What stands in a state at some keys, kept to be laid over older states (profile of this project).
 use Rattle.std.specs.Prelude.{ℕ, ◌≡◌, List, [], map, true, false, refl, IsTrue}
 use Rattle.std.specs.Coded.{Coded, code_by, coded×, coded_ℕ, coded_list}
+use Rattle.trace_types.specs.declared.slots.Slot.{Slot}
 use Rattle.trace_types.specs.Operation.{Operation}
 use Rattle.trace_types.specs.Trace.{has_distinct_numbers}
 use Rattle.ownership_model.specs.declared.key.Key.{Key}
 use Rattle.ownership_model.specs.State.{State, IsSound}
 use Rattle.ownership_model.specs.Step.{outcomes_from, end_from, AreUnused}
 use Rattle.ownership_model.specs.Footprint.{footprints_from, moved_from}
-use Rattle.ownership_model.specs.Alike.{IsKeptOutside}
-use Rattle.ownership_model.specs.Near.{is_object_of, AreKeptAlive, AreBlindFrom, recounted}
+use Rattle.ownership_model.specs.Alike.{AreWithin}
+use Rattle.ownership_model.specs.Sets.{sets_from}
+use Rattle.ownership_model.specs.Near.{is_object_of, weight_of_key, AreKeptAlive, AreBlindFrom, recounted}
 use Rattle.ownership_model.specs.Reach.{has}
 use Rattle.object_heap.specs.declared.put.Put.{Put}
 use Rattle.object_heap.specs.declared.put.FieldPut.{FieldPut}
@@ -80,24 +82,26 @@ pub record Covers (l other : LayerView) : Type 0 where
 abbrev pub AreAmong : KeySet → LayerView → Type 0
 AreAmong d l = (x : Key) → is_among d x ≡ true → is_among l.keys x ≡ true
 
--- What operations touch may be passed under a layer: of its keys they touch only objects that have a shift, and read of these nothing that differs;
--- those that they touch stay alive in the new state; and the handles under those that are put in stay
-pub record IsPassable (l : LayerView) (keys : KeySet) (old new : State) (ops : List Operation) : Type 0 where
+-- What operations touch and set may be passed under a layer: of its keys they touch only objects that have a shift, and read of these nothing that
+-- differs; those that they touch stay alive in the new state; and the handles under those that are put in stay
+pub record IsPassable (l : LayerView) (keys sets : KeySet) (old new : State) (ops : List Operation) : Type 0 where
   pub touched : HasTouched keys old ops
+  pub set : AreWithin (is_among sets) (sets_from old ops)
   pub firm : (x : Key) → is_among keys x ≡ true → is_among l.keys x ≡ true → is_object_of (is_alike l.shifts) x ≡ true
   pub unders : DoUndersStay keys ops l.puts
   pub blind : AreBlindFrom (is_alike l.shifts) (is_loose l.fields) old ops
-  pub alive : AreKeptAlive (is_among keys) (is_alike l.shifts) old new
+  pub alive : AreKeptAlive (is_among keys) (is_among sets) (is_alike l.shifts) old new
 
 -- What is known of operations that were passed under a layer: their outcomes differ in counts that are told, the layer makes the new state behind them
--- of the old one, the counts of its objects differ there as before, they touch the same in both, and a difference among its keys stays
-pub record IsPassedUnder (l : LayerView) (keys : KeySet) (old new : State) (ops : List Operation) : Type 0 where
+-- of the old one, the counts of its objects differ there as before, they touch the same in both, where they set nothing as much stands in the new state
+-- as stood, and a difference among its keys stays
+pub record IsPassedUnder (l : LayerView) (sets : KeySet) (old new : State) (ops : List Operation) : Type 0 where
   pub outcomes : outcomes_from new ops ≡ map (recounted old new) (outcomes_from old ops)
   pub laid : IsLaidBy l (end_from old ops) (end_from new ops)
   pub counts : AreShifts l.shifts old new → AreShifts l.shifts (end_from old ops) (end_from new ops)
   pub footprints : footprints_from old ops ≡ footprints_from new ops
   pub moved : moved_from old ops ≡ moved_from new ops
-  pub stays : IsKeptOutside (is_among keys) new (end_from new ops)
+  pub still : (w : Slot → ℕ) (x : Key) → is_among sets x ≡ false → weight_of_key w (end_from new ops) x ≡ weight_of_key w new x
   pub differs : (d : KeySet) → AreAmong d l → IsDifference d old new → IsDifference d (end_from old ops) (end_from new ops)
 
 -- What is known of layers. Where a state is an old one with a layer laid over it, it is what laying makes. A set with more keys than a difference is one
@@ -109,6 +113,6 @@ pub record LayersHold : Type 0 where
   pub more : (d e : KeySet) (m n : State) → IsDifference d m n → ((x : Key) → is_among d x ≡ true → is_among e x ≡ true) → IsDifference e m n
   pub start : (l : LayerView) (old : State) → IsLayer l → IsDifference l.keys old l.from → AreEntriesAlike l.shifts l.fields old l.from → HoldFields l.fields l.from → IsSound l.from []
       → ArePuts (λ h. has h l.keys.handles) l.from l.puts → IsLaidBy l old l.from
-  pub on : (l : LayerView) (keys : KeySet) (old new : State) (ops : List Operation) → IsLaidBy l old new → IsPassable l keys old new ops
-      → IsSound old [] → IsTrue (has_distinct_numbers ops) → AreUnused old ops → AreUnused new ops → IsPassedUnder l keys old new ops
+  pub on : (l : LayerView) (keys sets : KeySet) (old new : State) (ops : List Operation) → IsLaidBy l old new → IsPassable l keys sets old new ops
+      → IsSound old [] → IsTrue (has_distinct_numbers ops) → AreUnused old ops → AreUnused new ops → IsPassedUnder l sets old new ops
   pub through : (l other : LayerView) (old mid new : State) → IsLaidBy other old mid → Covers l other → IsLaidBy l mid new → IsLaidBy l old new

@@ -11,5 +11,6 @@ pub mod Filters
 pub mod Alikes
 pub mod Blind
 pub mod Recounted
+pub mod Recents
 pub mod Holders
 pub mod Passing

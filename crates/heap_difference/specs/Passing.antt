@@ -1,5 +1,5 @@
 -- Operations that are passed under a layer, one stretch after another (profile of this project).
-use Rattle.std.specs.Prelude.{ℕ, ◌≡◌, List, [], ◌++◌, Bool, true, false, IsTrue}
+use Rattle.std.specs.Prelude.{ℕ, ◌≡◌, ◌⊎◌, List, [], ◌++◌, Bool, true, false, IsTrue}
 use Rattle.trace_types.specs.declared.slots.Slot.TheVariants.{Strong}
 use Rattle.trace_types.specs.declared.outcomes.Outcome.{Outcome}
 use Rattle.trace_types.specs.Operation.{Operation}
@@ -16,7 +16,8 @@ use Rattle.heap_difference.specs.declared.holders.Holders.{Holders}
 use Rattle.heap_difference.specs.KeySets.{is_among}
 use Rattle.heap_difference.specs.Differences.{IsDifference}
 use Rattle.heap_difference.specs.Alikes.{is_alike, is_loose, AreShifts}
-use Rattle.heap_difference.specs.Holders.{IsCountedIn, AreOfLessened}
+use Rattle.heap_difference.specs.Blind.{are_blind}
+use Rattle.heap_difference.specs.Holders.{IsCountedIn, AreOfLessened, MustPass}
 use Rattle.heap_difference.specs.Laws.{HasTouched}
 use Rattle.heap_difference.specs.Puts.{DoUndersStay}
 use Rattle.heap_difference.specs.Laid.{beside_firm}
@@ -28,7 +29,7 @@ pub record IsFirmlyApart (l : LayerView) (keys : KeySet) (ops : List Operation) 
   pub unders : DoUndersStay keys ops l.puts
 
 -- A replay is on its way under a layer: the layer makes the new state of the old one, the counts of its objects differ as they do in the shifts, the keys
--- of a set are those that were touched on the way, and elsewhere each object that has fewer Arcs has those that it had
+-- of a set are those that were set on the way, and elsewhere each object that has fewer Arcs has those that it had
 pub record IsOnWay (l : LayerView) (t : Key → Bool) (h : Holders) (old new : State) : Type 0 where
   pub laid : IsLaidBy l old new
   pub counts : AreShifts l.shifts old new
@@ -38,8 +39,14 @@ pub record IsOnWay (l : LayerView) (t : Key → Bool) (h : Holders) (old new : S
 
 -- it is so for some set
 pub record IsUnderWay (l : LayerView) (h : Holders) (old new : State) : Type 0 where
-  pub touched : Key → Bool
-  pub is : IsOnWay l touched h old new
+  pub set : Key → Bool
+  pub is : IsOnWay l set h old new
+
+-- Operations that touch and set these keys have to be passed: of the layer's keys they touch only objects that have a shift, read of these nothing that
+-- differs, and beside what they set each object that has fewer Arcs still has one
+pub record MustBePassed (l : LayerView) (h : Holders) (keys sets : KeySet) (ops : List Operation) (outcomes : List Outcome) : Type 0 where
+  pub apart : IsFirmlyApart l keys ops
+  pub same : (l.shifts ≡ []) ⊎ ((are_blind l.shifts l.fields ops outcomes ≡ true) × MustPass keys sets l.from h)
 
 -- what operations touch from the old state is alike in the new one, but for objects that have a shift, and of these they read nothing that differs
 pub record ReadTheSame (l : LayerView) (old : State) (ops : List Operation) : Type 0 where

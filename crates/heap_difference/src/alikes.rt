@@ -5,7 +5,7 @@ ghost use Rattle.trace_types.specs.declared.slots.Entry.TheVariants.{Alive};
 ghost use Rattle.ownership_model.specs.Bounds.{AreFew};
 ghost use Rattle.ownership_model.specs.Reach.{has};
 ghost use Rattle.std.specs.List.{AllByRecursion};
-ghost use Rattle.heap_difference.specs.Alikes.{is_alike, is_loose, AreAlikes, IsOneMore, AreAdded};
+ghost use Rattle.heap_difference.specs.Alikes.{is_alike, is_loose, may_be_alike, AreAlikes, IsOneMore, AreAdded};
 
 use crate::shifts::{Shift, is_shifted};
 use object_heap::{FieldPut, Heap};
@@ -22,7 +22,9 @@ pub struct Alikes {
 
 impl Alikes {
     /// Whether an object is alive in both heaps with as many fields.
-    pub fn are_alike(old: &Heap, new: &Heap, object: u32) -> bool {
+    pub fn are_alike(old: &Heap, new: &Heap, object: u32) -> bool
+        ensures { result ≡ may_be_alike old.now new.now object }
+    {
         match (old.object(object), new.object(object)) {
             (Some(Entry::Alive(before)), Some(Entry::Alive(fields))) => {
                 before.len() == fields.len()
@@ -37,6 +39,8 @@ impl Alikes {
             new.now) }
         ensures within { IfOk result (λ a. (o : ℕ) → is_alike a.shifts.items o ≡ true →
             has o objects.now ≡ true) }
+        ensures all { IfOk result (λ a. (o : ℕ) → has o objects.now ≡ true →
+            may_be_alike old.now new.now o ≡ true → is_alike a.shifts.items o ≡ true) }
     {
         let mut alikes = Alikes {
             shifts: Vec::new(alloc),
@@ -57,7 +61,7 @@ impl Alikes {
 
     /// Whether each field of others is a field of these, or its object is none of these.
     pub fn cover(&self, other: &Alikes) -> bool
-        ensures { IsTrue result → AllByRecursion (λ f. is_alike self.now.shifts.items f.object
+        ensures { IsTrue result ↔ AllByRecursion (λ f. is_alike self.now.shifts.items f.object
             ≡ true → is_loose self.now.fields.items f.object f.index ≡ true)
             other.now.fields.items }
     {
@@ -78,6 +82,8 @@ impl Alikes {
             new.now) }
         ensures within { OnOk result ((o : ℕ) → is_alike self.new.shifts.items o ≡ true →
             IsOneMore self.old.shifts.items object o) }
+        ensures all { OnOk result ((o : ℕ) → IsOneMore self.old.shifts.items object o →
+            may_be_alike old.now new.now o ≡ true → is_alike self.new.shifts.items o ≡ true) }
     {
         let (Some(Entry::Alive(before)), Some(Entry::Alive(fields))) = (
             old.object(object),

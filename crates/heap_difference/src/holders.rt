@@ -1,16 +1,17 @@
-//! How many slots name objects where operations touch nothing.
+//! How many slots name objects where operations set nothing.
 ghost use Rattle.std.specs.Prelude.{◌≡◌, ◌↔◌, if◌then◌else◌, Bool, false, IfOk, OnOk, IsTrue, map};
 ghost use Rattle.std.specs.List.{Contains, list_any};
 ghost use Rattle.trace_types.specs.declared.slots.Slot.TheVariants.{Strong};
 ghost use Rattle.ownership_model.specs.declared.key.Key.{Key};
 ghost use Rattle.ownership_model.specs.State.{State, slots_weight, names_alike};
 ghost use Rattle.heap_difference.specs.KeySets.{set_of};
-ghost use Rattle.heap_difference.specs.Naming.{with_names};
-ghost use Rattle.heap_difference.specs.Holders.{IsCountedIn, AreOfLessened, WerePassed, IsOneCounted, AreAllLeft, AreSlotsAt, are_named_by, less_by};
+ghost use Rattle.heap_difference.specs.Naming.{with_names, with_sets};
+ghost use Rattle.heap_difference.specs.Holders.{IsCountedIn, AreOfLessened, WerePassed, MustPass, IsNoMoreCounted, IsOneCounted, AreAllLeft, AreSlotsAt, are_named_by, less_by};
 
 use crate::key_set::KeySet;
-use crate::naming::add_all;
 use crate::numbers::Numbers;
+use crate::recent::Recent;
+use crate::setting::add_sets;
 use crate::shifts::Shift;
 use object_heap::Heap;
 use ownership_model::Key;
@@ -27,13 +28,15 @@ pub struct Holder {
 }
 
 /// The objects that are named strongly less often in a new heap than in an old one, each with how many of these slots stand at keys that no operation
-/// has touched since.
+/// has set since.
 #[derive(Drop)]
 pub struct Holders {
     pub objects: KeySet,
     pub items: Vec<Holder>,
     // the keys whose slots are no longer counted
     pub counted: Vec<Key>,
+    // handles of which none is counted any more
+    pub recent: Recent,
 }
 
 impl Holders {
@@ -64,11 +67,12 @@ impl Holders {
             objects,
             items,
             counted: Vec::new(alloc),
+            recent: Recent::none(),
         })
     }
 
     /// Whether operations may be passed: they touch none of these objects, or each of the objects is named by a slot of the heap that stands where
-    /// neither they nor those before touch anything.
+    /// neither they nor those before set anything. A handle that is only used, and a value that is only read, still hold what they held.
     pub fn pass(
         &mut self,
         alloc: Global,
@@ -77,19 +81,42 @@ impl Holders {
         ops: &[Op],
         outcomes: &[Outcome],
     ) -> Result<bool, AllocError>
-        ensures { (t : Key → Bool) → IsCountedIn t from.now self.old →
+        ensures passed { (t : Key → Bool) → IsCountedIn t from.now self.old →
             IfOk result (λ may. IsTrue may → WerePassed t
-            (set_of (with_names told.now ops.now outcomes.now)) from.now self.old self.new) }
+            (set_of (with_names told.now ops.now outcomes.now))
+            (set_of (with_sets told.now ops.now outcomes.now)) from.now self.old self.new) }
+        ensures must { (t : Key → Bool) → IsCountedIn t from.now self.old →
+            MustPass (set_of (with_names told.now ops.now outcomes.now))
+            (set_of (with_sets told.now ops.now outcomes.now)) from.now self.old →
+            IfOk result IsTrue }
+        ensures no_more { OnOk result (IsNoMoreCounted
+            (set_of (with_sets told.now ops.now outcomes.now)) self.old self.new) }
     {
         if !self.objects.touches_all(told, ops, outcomes) {
             return Ok(true);
         }
-        let mut keys = Vec::new(alloc);
-        add_all(told, ops, outcomes, &mut keys)?;
+        let mut keys = Vec::with_capacity(alloc, 4usize.saturating_mul(ops.len()))?;
+        add_sets(told, ops, outcomes, &mut keys)?;
         for key in &keys {
-            self.count_off(from, *key)?;
+            self.count_once(from, *key)?;
         }
         Ok(self.are_left())
+    }
+
+    // The slots that stand at a key are no longer counted, if they still were. A handle that was met lately is not looked up again.
+    #[inline(always)]
+    fn count_once(&mut self, from: &Heap, key: Key) -> Result<(), AllocError>
+        ensures { OnOk result (IsOneCounted key from.now self.old self.new) }
+    {
+        let Key::Handle(handle) = key else {
+            return self.count_off(from, key);
+        };
+        if self.recent.has(handle) {
+            return Ok(());
+        }
+        self.count_off(from, key)?;
+        self.recent.put(handle);
+        Ok(())
     }
 
     // The slots that stand at a key are no longer counted, if they still were.
@@ -142,7 +169,7 @@ impl Holders {
 
     // Whether of each object a slot is left.
     fn are_left(&self) -> bool
-        ensures { IsTrue result → AreAllLeft self.now }
+        ensures { IsTrue result ↔ AreAllLeft self.now }
     {
         for holder in &self.items {
             if holder.left == 0 {

@@ -1,19 +1,21 @@
 //! What stands in a heap at some keys, kept to be laid over older heaps.
-ghost use Rattle.std.specs.Prelude.{◌≡◌, ◌↔◌, ◌&&◌, ◌||◌, ℕ, List, not, flat_map, true, false, IfOk, IfSome, IsTrue};
+ghost use Rattle.std.specs.Prelude.{◌≡◌, ◌↔◌, ◌&&◌, ◌||◌, ℕ, Bool, List, not, flat_map, is_some, true, false, IfOk, OnOk, IfSome, IsTrue};
 ghost use Rattle.std.specs.List.{AllByRecursion};
 ghost use Rattle.std.specs.Option.{option_copied};
+ghost use Rattle.trace_types.specs.Operation.{Operation};
 ghost use Rattle.ownership_model.specs.declared.key.Key.{Key};
 ghost use Rattle.ownership_model.specs.Near.{is_object_of};
 ghost use Rattle.ownership_model.specs.Reach.{has};
 ghost use Rattle.ownership_model.specs.State.{State};
 ghost use Rattle.heap_difference.specs.KeySets.{handles_alone, is_among, set_of, meet};
-ghost use Rattle.heap_difference.specs.Naming.{with_names, outcome_keys};
+ghost use Rattle.heap_difference.specs.Naming.{with_names, with_sets, outcome_keys};
 ghost use Rattle.heap_difference.specs.Filters.{HasKeys};
 ghost use Rattle.heap_difference.specs.Alikes.{is_alike, AreOfAlikes, AreShifts, IsSmall};
 ghost use Rattle.heap_difference.specs.Puts.{ArePuts, AreUndersApart, DoUndersStay, unders};
 ghost use Rattle.heap_difference.specs.Layers.{IsLayer, with_layer, IsLaidBy, CanBeLaidBy, Covers};
 ghost use Rattle.heap_difference.specs.Recounted.{told_or};
-ghost use Rattle.heap_difference.specs.Passing.{IsUnderWay, IsFirmlyApart, MayBePassed};
+ghost use Rattle.heap_difference.specs.Holders.{IsCountedIn, IsNoMoreCounted};
+ghost use Rattle.heap_difference.specs.Passing.{IsUnderWay, IsFirmlyApart, MayBePassed, MustBePassed};
 
 use crate::alikes::Alikes;
 use crate::endings::may_end_under;
@@ -50,6 +52,8 @@ pub struct Layer {
     filter: Filter,
     // the firm keys, and these handles
     avoided: KeySet,
+    // these as bits
+    avoided_filter: Filter,
 }
 
 impl Model for Layer {
@@ -84,7 +88,8 @@ impl Model for Layer {
         × ((x : Key) → (is_among l.keys x || is_among (handles_alone (unders l.puts.items)) x)
         ≡ true → may_have l.filter x ≡ true)
         × ((x : Key) → is_among l.avoided x
-        ≡ (is_among l.firm x || is_among (handles_alone (unders l.puts.items)) x)) };
+        ≡ (is_among l.firm x || is_among (handles_alone (unders l.puts.items)) x))
+        × ((x : Key) → is_among l.avoided x ≡ true → may_have l.avoided_filter x ≡ true) };
 }
 
 impl Layer {
@@ -108,6 +113,7 @@ impl Layer {
         let filter = Filter::of_set(&all);
         let firm = firm_of(alloc, &keys, &alikes)?;
         let avoided = avoided_of(alloc, &firm, &puts)?;
+        let avoided_filter = Filter::of_set(&avoided);
         let from = heap.share()?;
         Ok(Layer {
             keys,
@@ -117,6 +123,7 @@ impl Layer {
             firm,
             filter,
             avoided,
+            avoided_filter,
         })
     }
 
@@ -130,7 +137,7 @@ impl Layer {
     /// Whether all that another layer lays is laid by this one: it has its keys; what is firm there is firm here; and a field that is laid there is laid
     /// here, or its object is firm.
     pub fn covers(&self, other: &Layer) -> bool
-        ensures { IsTrue result → Covers self.now other.now }
+        ensures { IsTrue result ↔ Covers self.now other.now }
     {
         self.keys.has_all(&other.keys)
             && self.firm.has_all(&other.firm)
@@ -171,12 +178,36 @@ impl Layer {
         }
     }
 
+    // Whether a filter tells that whatever keys it has are none of the firm ones, and no handle just under one that is put in. If not, that says nothing.
+    fn is_firmly_apart_by(&self, filter: Option<&Filter>) -> bool
+        ensures { IsTrue result → (keys : List Key) → (ops : List Operation) →
+            IfSome (option_copied filter.entry) (λ f. HasKeys f keys) →
+            IsFirmlyApart self.now (set_of keys) ops }
+    {
+        match filter {
+            None => false,
+            Some(filter) => !filter.may_meet(&self.avoided_filter),
+        }
+    }
+
     // Whether operations touch none of the firm keys, and either none of the handles just under those that are put in, or may end none of these by what
-    // they name: by the keys that were told of them, and by those that they and their outcomes name. Each is looked up until one is there.
-    fn is_firmly_apart(&self, told: &[Key], ops: &[Op], outcomes: &[Outcome]) -> bool
-        ensures { IsTrue result → IsFirmlyApart self.now
+    // they name: by the keys that were told of them, and by those that they and their outcomes name. Each is looked up until one is there, if the
+    // filter that has them doesn't tell.
+    fn is_firmly_apart(
+        &self,
+        filter: Option<&Filter>,
+        told: &[Key],
+        ops: &[Op],
+        outcomes: &[Outcome],
+    ) -> bool
+        requires { IfSome (option_copied filter) (λ f.
+            HasKeys f (with_names told.now ops.now outcomes.now)) }
+        ensures { IsTrue result ↔ IsFirmlyApart self.now
             (set_of (with_names told.now ops.now outcomes.now)) ops.now }
     {
+        if self.is_firmly_apart_by(filter) {
+            return true;
+        }
         if !self.avoided.touches_all(told, ops, outcomes) {
             return true;
         }
@@ -185,7 +216,7 @@ impl Layer {
 
     /// Whether operations may be passed: of the keys they touch only objects that are alike, read of these only what is the same in both heaps, and leave
     /// them alive; of the handles just under those that are put in they touch none, or may end none. Then they come with their outcomes in the
-    /// new run, if these are others.
+    /// new run, if these are others. Where all that is so they are passed.
     pub fn passed(
         &self,
         alloc: Global,
@@ -203,11 +234,18 @@ impl Layer {
         ensures names { IfOk result (λ o. IfSome o (λ others.
             flat_map outcome_keys (told_or outcomes.now others)
             ≡ flat_map outcome_keys outcomes.now)) }
+        ensures must { (t : Key → Bool) → IsCountedIn t self.now.from holders.old →
+            MustBePassed self.now holders.old
+            (set_of (with_names told.now ops.now outcomes.now))
+            (set_of (with_sets told.now ops.now outcomes.now)) ops.now outcomes.now →
+            IfOk result (λ o. is_some o ≡ true) }
+        ensures no_more { OnOk result (IsNoMoreCounted
+            (set_of (with_sets told.now ops.now outcomes.now)) holders.old holders.new) }
     {
         if self.is_apart_by(filter) {
             return Ok(Some(None));
         }
-        if !self.is_firmly_apart(told, ops, outcomes) {
+        if !self.is_firmly_apart(filter, told, ops, outcomes) {
             return Ok(None);
         }
         if self.alikes.is_empty() {

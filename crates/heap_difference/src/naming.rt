@@ -117,7 +117,8 @@ fn add_names(kind: &Kind, keys: &mut Vec<Key>) -> Result<(), AllocError>
     }
 }
 
-fn add_pair(first: u32, second: u32, keys: &mut Vec<Key>) -> Result<(), AllocError>
+/// Adds two handles.
+pub fn add_pair(first: u32, second: u32, keys: &mut Vec<Key>) -> Result<(), AllocError>
     ensures { OnOk result (keys.new.items ≡ keys.old.items
         ++ key.Handle first ∷ key.Handle second ∷ []) }
 {
@@ -125,8 +126,8 @@ fn add_pair(first: u32, second: u32, keys: &mut Vec<Key>) -> Result<(), AllocErr
     Ok(keys.push(Key::Handle(second))?)
 }
 
-// Adds the handle of a new object, and the handles among its fields.
-fn add_new(to: u32, fields: &[Field], keys: &mut Vec<Key>) -> Result<(), AllocError>
+/// Adds the handle of a new object, and the handles among its fields.
+pub fn add_new(to: u32, fields: &[Field], keys: &mut Vec<Key>) -> Result<(), AllocError>
     ensures { OnOk result (keys.new.items ≡ keys.old.items
         ++ (key.Handle to ∷ (map key.Handle (held_fields fields.now) ++ []))) }
 {
@@ -173,7 +174,8 @@ fn add_outcome(outcome: &Outcome, keys: &mut Vec<Key>) -> Result<(), AllocError>
     add_counted(outcome.counts, keys)
 }
 
-fn add_events(events: &[Event], keys: &mut Vec<Key>) -> Result<(), AllocError>
+/// Adds the objects that events tell of.
+pub fn add_events(events: &[Event], keys: &mut Vec<Key>) -> Result<(), AllocError>
     ensures { OnOk result (keys.new.items ≡ keys.old.items
         ++ map key.Object (map event_object events.now)) }
 {
@@ -183,8 +185,8 @@ fn add_events(events: &[Event], keys: &mut Vec<Key>) -> Result<(), AllocError>
     Ok(())
 }
 
-// Adds the object whose counts are told, if any are.
-fn add_counted(counts: Option<Counts>, keys: &mut Vec<Key>) -> Result<(), AllocError>
+/// Adds the object whose counts are told, if any are.
+pub fn add_counted(counts: Option<Counts>, keys: &mut Vec<Key>) -> Result<(), AllocError>
     ensures { OnOk result (keys.new.items ≡ keys.old.items ++ map key.Object (counted counts)) }
 {
     match counts {

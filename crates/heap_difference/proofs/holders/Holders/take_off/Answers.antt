@@ -21,4 +21,4 @@ returns c =
     let long : c.args.self.now.items.len ≡ length c.lessen.new.items = c.args.self.now.items.ok.0 ∙ sym (ap length less ∙ length-map c.args.self.now.items.items (less_by c.args.slots.now)) in
     one_counted c.args.key c.args.slots.now c.args.self.now _ (λ there. clash c.has_counted.result (c.has_counted.ensures.1 there) c.if-has_counted.false) refl
     (written_back c.args.self.now.items.len c.lessen.new.items c.args.self.now.items.items long ∙ less)
-    c.in_ok-push.ensures.items
+    c.in_ok-push.ensures.items refl

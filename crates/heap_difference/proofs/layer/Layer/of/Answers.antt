@@ -18,6 +18,7 @@ invariant_of-result c = (
   subst (λ (ps : List Put). (x : Key) → (is_among c.args.keys x || is_among (handles_alone (unders ps)) x) ≡ true → may_have c.of_set-filter.result x ≡ true) c.deref.ensures.value
       (λ x here. c.of_set-filter.ensures x (c.in_ok-all.ensures x ∙ here)),
   subst (λ (ps : List Put). (x : Key) → is_among c.in_ok-avoided.avoided x ≡ (is_among c.in_ok-firm.firm x || is_among (handles_alone (unders ps)) x)) c.deref-2.ensures.value c.in_ok-avoided.ensures,
+  c.of_set-avoided_filter.ensures,
 )
 
 pub returns-clause-layer : goal.returns-clause-layer

@@ -10,7 +10,7 @@ pub loop-i-preserved : goal.loop-i-preserved
 loop-i-preserved c =
     let lt : c.loop-i.i < length c.args.self.now = omega (arith, c.loop-i-test.true, c.len-i-end.ensures, ap length c.self.view_is, length-map c.self.inside.items.items arc_value) in
     let next = to-place arc_value c.self.inside.items.items c.args.self.now c.loop-i.i c.index.result.now c.deref.result.now c.self.view_is lt c.index.ensures c.deref.ensures in
-    subst (λ ls. AreWithin ls c.args.layer.now) (sym next) (within-more (take c.loop-i.i c.args.self.now) c.deref.result.now c.args.layer.now c.loop-i.invariant (c.covers.ensures c.if-not-covers.false))
+    subst (λ ls. AreWithin ls c.args.layer.now) (sym next) (within-more (take c.loop-i.i c.args.self.now) c.deref.result.now c.args.layer.now c.loop-i.invariant (c.covers.ensures.0 c.if-not-covers.false))
 
 pub returns : goal.returns
 returns c = λ _.
