@@ -105,6 +105,48 @@ fn counts_decide(rt: HostRuntime) -> Result<(), Fail> {
     assert_stepped(&rt, alloc, Kind::GetMut { h: 0 }, edits, 70)
 }
 
+// An object by handles 0 and 20 and by the field of one by handle 2, and pairs of operations that touch none of them.
+fn with_holders(alloc: Global) -> Result<Trace, Fail> {
+    let mut trace = Trace::new(alloc);
+    add(&mut trace, 1, new(alloc, 0, &[])?)?;
+    add(&mut trace, 2, Kind::Clone { from: 0, to: 1 })?;
+    add(&mut trace, 3, new(alloc, 2, &[Field::Held(1)])?)?;
+    add(&mut trace, 4, Kind::Clone { from: 0, to: 20 })?;
+    add_pairs(alloc, &mut trace, 5, 4_100)?;
+    Ok(trace)
+}
+
+// So many operations of such a trace are stepped if the object loses handle 20.
+fn assert_lessened(rt: &impl Abort, alloc: Global, trace: Trace, due: u64) -> Result<(), Fail> {
+    let edits = batch(alloc, change(4, Kind::Null { to: 20 })?)?;
+    with_both(alloc, trace, edits, |_, edited, steps| {
+        assert_eq!(rt; steps, due);
+        assert!(rt; is_replay(alloc, edited)?);
+        Ok(())
+    })
+}
+
+// The last stretch uses both holders that are left. It is taken over, and tells one fewer.
+#[test]
+fn holders_that_are_used_stay(rt: HostRuntime) -> Result<(), Fail> {
+    let alloc = rt.alloc();
+    let mut trace = with_holders(alloc)?;
+    add(&mut trace, 4_101, Kind::Get { h: 2, i: 0, to: 21 })?;
+    add(&mut trace, 4_102, Kind::Counts { h: 0 })?;
+    assert_lessened(&rt, alloc, trace, 64)
+}
+
+// As above, and the last stretch ends both of them: now the object goes there.
+#[test]
+fn holders_that_end_are_stepped(rt: HostRuntime) -> Result<(), Fail> {
+    let alloc = rt.alloc();
+    let mut trace = with_holders(alloc)?;
+    add(&mut trace, 4_101, Kind::Take { h: 2, i: 0, to: 21 })?;
+    add(&mut trace, 4_102, Kind::Drop { h: 21 })?;
+    add(&mut trace, 4_103, Kind::Drop { h: 0 })?;
+    assert_lessened(&rt, alloc, trace, 71)
+}
+
 // The value of the second object is destroyed near the front. The last operation finds no handle to it.
 #[test]
 fn value_is_destroyed_earlier(rt: HostRuntime) -> Result<(), Fail> {
