@@ -165,7 +165,7 @@ module _ (l : LayerView) (keys sets : KeySet) (old new : State) (ops : List Oper
         (blind.fewer alike fewer_alike loose old ops (λ o here. (both_true (alike o) (has o d.objects) here).0) may.blind)
         (λ o here there. may.alive o (both_true (alike o) (has o d.objects) here).0 there) sound laid.is.sound distinct unused unused_too).near.alike
 
-  passes_under : IsPassedUnder l sets old new ops
+  passes_under : IsPassedUnder l keys sets old new ops
   passes_under = record {
     outcomes = goes.outcomes;
     laid = record {
@@ -182,6 +182,7 @@ module _ (l : LayerView) (keys sets : KeySet) (old new : State) (ops : List Oper
     counts = λ are. shifts_on l.shifts old (end_from old ops) new (end_from new ops) are goes.weights;
     footprints = goes.footprints;
     moved = goes.moved;
+    stays = (footprints.kept_by_replay touch new ops laid.is.sound distinct unused_too feet_too).0;
     still = goes.still;
     differs = stays_differing;
   }

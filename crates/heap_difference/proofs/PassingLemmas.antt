@@ -101,7 +101,7 @@ module _ (l : LayerView) (before after : Holders) (keys sets : KeySet) (t : Key 
           passed
       at false e = inl (no_fewer l.shifts old new o (λ q. has q before.objects.objects) way.lessened.others way.counts here e)
 
-  goes : IsPassedUnder l sets old new ops
+  goes : IsPassedUnder l keys sets old new ops
   goes = layers_hold.on l keys sets old new ops way.laid (record { touched = touched; set = set; firm = apart.firm; unders = apart.unders; blind = reads; alive = alive })
       follow.sound follow.distinct follow.unused follow.new_unused
 

@@ -8,7 +8,7 @@ use Rattle.ownership_model.specs.declared.key.Key.{Key}
 use Rattle.ownership_model.specs.State.{State, IsSound}
 use Rattle.ownership_model.specs.Step.{outcomes_from, end_from, AreUnused}
 use Rattle.ownership_model.specs.Footprint.{footprints_from, moved_from}
-use Rattle.ownership_model.specs.Alike.{AreWithin}
+use Rattle.ownership_model.specs.Alike.{AreWithin, IsKeptOutside}
 use Rattle.ownership_model.specs.Sets.{sets_from}
 use Rattle.ownership_model.specs.Near.{is_object_of, weight_of_key, AreKeptAlive, AreBlindFrom, recounted}
 use Rattle.ownership_model.specs.Reach.{has}
@@ -93,14 +93,15 @@ pub record IsPassable (l : LayerView) (keys sets : KeySet) (old new : State) (op
   pub alive : AreKeptAlive (is_among keys) (is_among sets) (is_alike l.shifts) old new
 
 -- What is known of operations that were passed under a layer: their outcomes differ in counts that are told, the layer makes the new state behind them
--- of the old one, the counts of its objects differ there as before, they touch the same in both, where they set nothing as much stands in the new state
--- as stood, and a difference among its keys stays
-pub record IsPassedUnder (l : LayerView) (sets : KeySet) (old new : State) (ops : List Operation) : Type 0 where
+-- of the old one, the counts of its objects differ there as before, they touch the same in both, what they don't touch stays in the new state, where they
+-- set nothing as much stands there as stood, and a difference among its keys stays
+pub record IsPassedUnder (l : LayerView) (keys sets : KeySet) (old new : State) (ops : List Operation) : Type 0 where
   pub outcomes : outcomes_from new ops ≡ map (recounted old new) (outcomes_from old ops)
   pub laid : IsLaidBy l (end_from old ops) (end_from new ops)
   pub counts : AreShifts l.shifts old new → AreShifts l.shifts (end_from old ops) (end_from new ops)
   pub footprints : footprints_from old ops ≡ footprints_from new ops
   pub moved : moved_from old ops ≡ moved_from new ops
+  pub stays : IsKeptOutside (is_among keys) new (end_from new ops)
   pub still : (w : Slot → ℕ) (x : Key) → is_among sets x ≡ false → weight_of_key w (end_from new ops) x ≡ weight_of_key w new x
   pub differs : (d : KeySet) → AreAmong d l → IsDifference d old new → IsDifference d (end_from old ops) (end_from new ops)
 
@@ -114,5 +115,5 @@ pub record LayersHold : Type 0 where
   pub start : (l : LayerView) (old : State) → IsLayer l → IsDifference l.keys old l.from → AreEntriesAlike l.shifts l.fields old l.from → HoldFields l.fields l.from → IsSound l.from []
       → ArePuts (λ h. has h l.keys.handles) l.from l.puts → IsLaidBy l old l.from
   pub on : (l : LayerView) (keys sets : KeySet) (old new : State) (ops : List Operation) → IsLaidBy l old new → IsPassable l keys sets old new ops
-      → IsSound old [] → IsTrue (has_distinct_numbers ops) → AreUnused old ops → AreUnused new ops → IsPassedUnder l sets old new ops
+      → IsSound old [] → IsTrue (has_distinct_numbers ops) → AreUnused old ops → AreUnused new ops → IsPassedUnder l keys sets old new ops
   pub through : (l other : LayerView) (old mid new : State) → IsLaidBy other old mid → Covers l other → IsLaidBy l mid new → IsLaidBy l old new
