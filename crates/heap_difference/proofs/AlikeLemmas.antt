@@ -66,6 +66,14 @@ get_last : {X : Type 0} (xs : List X) (x : X) → slice_get (xs ++ x ∷ []) (le
 get_last [] x = refl
 get_last (y ∷ xs) x = get_last xs x
 
+-- an item of the shorter list, where one of a list that is as long is at the same place
+get_shorter : (xs ys : List Slot) (x y : Slot) (i : ℕ) → length xs ≡ length ys → slice_get ys i ≡ Some y → slice_get (xs ++ x ∷ []) i ≡ Some y → slice_get xs i ≡ Some y
+get_shorter [] [] x y i as_many there is = absurd cc
+get_shorter [] (z ∷ ys) x y i as_many there is = absurd (omega (arith, as_many))
+get_shorter (w ∷ xs) [] x y i as_many there is = absurd (omega (arith, as_many))
+get_shorter (w ∷ xs) (z ∷ ys) x y zero as_many there is = is
+get_shorter (w ∷ xs) (z ∷ ys) x y (suc i) as_many there is = get_shorter xs ys x y i (omega (arith, as_many)) there is
+
 -- ---- fields and entries
 -- more of them are loose
 pub less_loose : (l k : ℕ → Bool) (xs ys : List Slot) → ((i : ℕ) → l i ≡ true → k i ≡ true) → AreFieldsNear l xs ys → AreFieldsNear k xs ys
@@ -297,30 +305,45 @@ fields_on shifts fields m later own hold stay = fields_stay shifts fields fields
 hold_more : (seen : List Slot) (s : Slot) (added : List FieldPut) → AllByRecursion (λ f. slice_get seen f.index ≡ Some f.slot) added → AllByRecursion (λ f. slice_get (seen ++ s ∷ []) f.index ≡ Some f.slot) added
 hold_more seen s added = all_so (λ f. slice_get seen f.index ≡ Some f.slot) (λ f. slice_get (seen ++ s ∷ []) f.index ≡ Some f.slot) added (λ f. get_front seen (s ∷ []) f.index f.slot)
 
+-- they held something else before
+differ_more : (was is : List Slot) (s : Slot) (added : List FieldPut) → length was ≡ length is → AllByRecursion (λ f. slice_get is f.index ≡ Some f.slot) added
+    → AllByRecursion (λ f. slice_get was f.index ≡ Some f.slot → ⊥) added → AllByRecursion (λ f. slice_get (was ++ s ∷ []) f.index ≡ Some f.slot → ⊥) added
+differ_more was is s [] as_many holds differ = tt
+differ_more was is s (f ∷ added) as_many holds differ = (
+  λ same. differ.0 (get_shorter was is s f.slot f.index as_many holds.0 same),
+  differ_more was is s added as_many holds.1 differ.1,
+)
+
 -- a field that is the same
-same_more : (o : ℕ) (was is : List Slot) (s t : Slot) (old new : List FieldPut) → s ≡ t → AreAdded o was is old new → AreAdded o (was ++ s ∷ []) (is ++ t ∷ []) old new
-same_more o was is s t old new same so_far = record {
+same_more : (o : ℕ) (was is : List Slot) (s t : Slot) (old new : List FieldPut) → length was ≡ length is → s ≡ t → AreAdded o was is old new → AreAdded o (was ++ s ∷ []) (is ++ t ∷ []) old new
+same_more o was is s t old new as_many same so_far = record {
   added = so_far.added;
   new_is = so_far.new_is;
   own = so_far.own;
   holds = hold_more is t so_far.added so_far.holds;
+  differ = differ_more was is s so_far.added as_many so_far.holds so_far.differ;
   near = near_more (is_loose so_far.added o) was is s t so_far.near (λ _. same);
 }
 
 -- a field that joins them
-put_more : (o : ℕ) (was is : List Slot) (s t : Slot) (old new : List FieldPut) (p : FieldPut) → p.object ≡ o → p.index ≡ length was → length was ≡ length is → p.slot ≡ t
+put_more : (o : ℕ) (was is : List Slot) (s t : Slot) (old new : List FieldPut) (p : FieldPut) → p.object ≡ o → p.index ≡ length was → length was ≡ length is → p.slot ≡ t → (s ≡ t → ⊥)
     → AreAdded o was is old new → AreAdded o (was ++ s ∷ []) (is ++ t ∷ []) old (new ++ p ∷ [])
-put_more o was is s t old new p its at as_many slot so_far = record {
+put_more o was is s t old new p its at as_many slot other so_far = record {
   added = so_far.added ++ p ∷ [];
   new_is = ap (λ ps. ps ++ p ∷ []) so_far.new_is ∙ append_assoc old so_far.added (p ∷ []);
   own = all_both (λ f. f.object ≡ o) so_far.added (p ∷ []) so_far.own (its, tt);
   holds = all_both (λ f. slice_get (is ++ t ∷ []) f.index ≡ Some f.slot) so_far.added (p ∷ []) (hold_more is t so_far.added so_far.holds)
       (ap (slice_get (is ++ t ∷ [])) (at ∙ as_many) ∙ get_last is t ∙ ap (λ x. Some x) (sym slot), tt);
+  differ = all_both (λ f. slice_get (was ++ s ∷ []) f.index ≡ Some f.slot → ⊥) so_far.added (p ∷ []) (differ_more was is s so_far.added as_many so_far.holds so_far.differ)
+      (λ same. put_differs (sym (get_last was s) ∙ ap (slice_get (was ++ s ∷ [])) (sym at) ∙ same ∙ ap (λ x. Some x) slot), tt);
   near = near_more (is_loose (so_far.added ++ p ∷ []) o) was is s t
       (less_loose (is_loose so_far.added o) (is_loose (so_far.added ++ p ∷ []) o) was is (λ i. any_front (λ f. (f.object == o) && (f.index == i)) so_far.added (p ∷ [])) so_far.near)
       (λ f. absurd (both_ways (is_loose (so_far.added ++ p ∷ []) o (length was)) f loose));
 }
   where
+    put_differs : Some s ≡ Some t → ⊥
+    put_differs same = other cc
+
     loose : is_loose (so_far.added ++ p ∷ []) o (length was) ≡ true
     loose = any_behind (λ f. (f.object == o) && (f.index == length was)) so_far.added (p ∷ [])
         (subst (λ x. is_loose (p ∷ []) x (length was) ≡ true) its (subst (λ x. is_loose (p ∷ []) p.object x ≡ true) at (loose_first p [])))
@@ -329,18 +352,20 @@ put_more o was is s t old new p its at as_many slot so_far = record {
 pub added_same : (o : ℕ) (before fields : List Slot) (i : ℕ) (d : Slot) (old new : List FieldPut) → i < length before → i < length fields → get_or before i d ≡ get_or fields i d
     → AreAdded o (take i before) (take i fields) old new → AreAdded o (take (i + 1) before) (take (i + 1) fields) old new
 added_same o before fields i d old new a b same so_far =
+    let first : length (take i before) ≡ i = length-take-le i before (omega arith) in
+    let second : length (take i fields) ≡ i = length-take-le i fields (omega arith) in
     subst (λ xs. AreAdded o xs (take (i + 1) fields) old new) (sym (take_more before i d a))
     (subst (λ ys. AreAdded o (take i before ++ get_or before i d ∷ []) ys old new) (sym (take_more fields i d b))
-    (same_more o (take i before) (take i fields) (get_or before i d) (get_or fields i d) old new same so_far))
+    (same_more o (take i before) (take i fields) (get_or before i d) (get_or fields i d) old new (first ∙ sym second) same so_far))
 
-pub added_put : (o : ℕ) (before fields : List Slot) (i : ℕ) (d : Slot) (old new : List FieldPut) (p : FieldPut) → i < length before → i < length fields → p.object ≡ o → p.index ≡ i → p.slot ≡ get_or fields i d
+pub added_put : (o : ℕ) (before fields : List Slot) (i : ℕ) (d : Slot) (old new : List FieldPut) (p : FieldPut) → i < length before → i < length fields → p.object ≡ o → p.index ≡ i → p.slot ≡ get_or fields i d → (get_or before i d ≡ get_or fields i d → ⊥)
     → AreAdded o (take i before) (take i fields) old new → AreAdded o (take (i + 1) before) (take (i + 1) fields) old (new ++ p ∷ [])
-added_put o before fields i d old new p a b its at slot so_far =
+added_put o before fields i d old new p a b its at slot other so_far =
     let first : length (take i before) ≡ i = length-take-le i before (omega arith) in
     let second : length (take i fields) ≡ i = length-take-le i fields (omega arith) in
     subst (λ xs. AreAdded o xs (take (i + 1) fields) old (new ++ p ∷ [])) (sym (take_more before i d a))
     (subst (λ ys. AreAdded o (take i before ++ get_or before i d ∷ []) ys old (new ++ p ∷ [])) (sym (take_more fields i d b))
-    (put_more o (take i before) (take i fields) (get_or before i d) (get_or fields i d) old new p its (at ∙ sym first) (first ∙ sym second) slot so_far))
+    (put_more o (take i before) (take i fields) (get_or before i d) (get_or fields i d) old new p its (at ∙ sym first) (first ∙ sym second) slot other so_far))
 
 -- an object joins them
 pub alikes_more : (shifts : List Shift) (fields all : List FieldPut) (old new : State) (s : Shift) (before now : List Slot) → get old.objects s.object ≡ Some (Alive before) → get new.objects s.object ≡ Some (Alive now)

@@ -1,6 +1,6 @@
 -- Objects that have fewer holders, and how many slots that name them are still counted.
 use Rattle.std.proofs.Common.{◌≡◌, ◌≢◌, ℕ, zero, suc, ◌+◌, ◌<◌, ◌≤◌, List, [], ◌∷◌, ◌++◌, length, map, get_or, take, drop, inl, inr, refl, ap, ◌∙◌, sym, subst, arith, Bool, true, false}
-use Rattle.std.specs.Prelude.{◌==◌, ◌||◌, ◌⊎◌, slice_set, Some, None, Result, Ok, Err, OnOk, if◌then◌else◌}
+use Rattle.std.specs.Prelude.{◌==◌, ◌&&◌, ◌||◌, ◌⊎◌, nat_lt, slice_set, Some, None, Result, Ok, Err, OnOk, if◌then◌else◌}
 use Rattle.std.specs.Option.{option_map_or}
 use Rattle.std.specs.List.{AllByRecursion, Contains, list_any}
 use Rattle.std.specs.FinMap.{get}
@@ -24,7 +24,7 @@ use Rattle.heap_difference.specs.declared.holders.Holder.{Holder}
 use Rattle.heap_difference.specs.declared.holders.Holders.{Holders}
 use Rattle.heap_difference.specs.declared.shifts.Shift.{Shift}
 use Rattle.heap_difference.specs.KeySets.{Handles, Cells, Objects, Labels, kind_number, is_among, set_of}
-use Rattle.heap_difference.specs.Holders.{without_key, without_keys, IsLeft, NamesNone, IsSettled, IsCountedIn, objects_of, AreOfLessened, AreAllLeft, IsNoMoreCounted, IsNamedBeside, IsOneCounted, AreSlotsAt, are_named_by, less_by}
+use Rattle.heap_difference.specs.Holders.{without_key, without_keys, IsLeft, NamesNone, IsSettled, IsCountedIn, objects_of, has_fewer, AreOfLessened, AreAllLeft, IsNoMoreCounted, IsNamedBeside, IsOneCounted, AreSlotsAt, are_named_by, less_by}
 use Rattle.heap_difference.specs.Alikes.{is_alike}
 use Rattle.heap_difference.specs.Recents.{is_recent}
 use Rattle.heap_difference.proofs.AlikeLemmas.{any_front, any_behind}
@@ -465,7 +465,16 @@ pub record AreFirstHolders (from : State) (shifts : List Shift) (os : List ℕ) 
   pub others : AllByRecursion (λ s. has s.object os ≡ false → s.old_strong ≤ s.new_strong) shifts
   pub objects : os ≡ objects_of items
   pub left : AllByRecursion (IsLeft from []) items
-  pub inside : (o : ℕ) → has o os ≡ true → is_alike shifts o ≡ true
+  pub inside : (o : ℕ) → has o os ≡ true → has_fewer shifts o ≡ true
+
+-- an object that is named less often has a shift
+pub fewer_alike : (shifts : List Shift) (o : ℕ) → has_fewer shifts o ≡ true → is_alike shifts o ≡ true
+fewer_alike [] o here = absurd cc
+fewer_alike (s ∷ shifts) o here = at (s.object == o) (nat_lt s.new_strong s.old_strong) here (fewer_alike shifts o)
+  where
+    at : (b c : Bool) → ((b && c) || has_fewer shifts o) ≡ true → (has_fewer shifts o ≡ true → is_alike shifts o ≡ true) → (b || is_alike shifts o) ≡ true
+    at true c here rest = refl
+    at false c here rest = rest here
 
 -- before the first shift
 pub first_none : (from : State) → AreFirstHolders from [] [] []
@@ -477,13 +486,13 @@ first_skipped from shifts os items s more first = record {
   others = all_push (λ s. has s.object os ≡ false → s.old_strong ≤ s.new_strong) shifts s first.others (λ out. more);
   objects = first.objects;
   left = first.left;
-  inside = λ o here. any_front (λ r. r.object == o) shifts (s ∷ []) (first.inside o here);
+  inside = λ o here. any_front (λ r. (r.object == o) && nat_lt r.new_strong r.old_strong) shifts (s ∷ []) (first.inside o here);
 }
 
 -- one that has fewer
-pub first_added : (from : State) (shifts : List Shift) (os : List ℕ) (items : List Holder) (s : Shift) (it : Holder) → it.object ≡ s.object → it.left ≡ strong from [] s.object → AreFirstHolders from shifts os items
+pub first_added : (from : State) (shifts : List Shift) (os : List ℕ) (items : List Holder) (s : Shift) (it : Holder) → s.new_strong < s.old_strong → it.object ≡ s.object → it.left ≡ strong from [] s.object → AreFirstHolders from shifts os items
     → AreFirstHolders from (shifts ++ s ∷ []) (os ++ s.object ∷ []) (items ++ it ∷ [])
-first_added from shifts os items s it named all first = record {
+first_added from shifts os items s it fewer named all first = record {
   others = all_push (λ r. has r.object (os ++ s.object ∷ []) ≡ false → r.old_strong ≤ r.new_strong) shifts s
       (all_so (λ r. has r.object os ≡ false → r.old_strong ≤ r.new_strong) (λ r. has r.object (os ++ s.object ∷ []) ≡ false → r.old_strong ≤ r.new_strong) (λ r so out. so (left_false (has r.object os) (has r.object (s.object ∷ [])) (sym (has-append r.object os (s.object ∷ [])) ∙ out))) shifts first.others)
       (λ out. absurd (clash (has s.object (os ++ s.object ∷ [])) (has-append s.object os (s.object ∷ []) ∙ or_right (has s.object os) (has s.object (s.object ∷ [])) (has_first s.object [])) out));
@@ -492,9 +501,13 @@ first_added from shifts os items s it named all first = record {
   inside = λ o here. joined o (either_of (has o os) (has o (s.object ∷ [])) (sym (has-append o os (s.object ∷ [])) ∙ here));
 }
   where
-    joined : (o : ℕ) → (has o os ≡ true) ⊎ (has o (s.object ∷ []) ≡ true) → is_alike (shifts ++ s ∷ []) o ≡ true
-    joined o (inl here) = any_front (λ r. r.object == o) shifts (s ∷ []) (first.inside o here)
-    joined o (inr here) = any_behind (λ r. r.object == o) shifts (s ∷ []) here
+    last : (o : ℕ) (b : Bool) → (s.object == o) ≡ b → (b || false) ≡ true → has_fewer (s ∷ []) o ≡ true
+    last o true e here = let less : nat_lt s.new_strong s.old_strong ≡ true = grind (arith, nat_tests, fewer) in ap (λ b. (b && nat_lt s.new_strong s.old_strong) || false) e ∙ ap (λ b. b || false) less
+    last o false e here = absurd cc
+
+    joined : (o : ℕ) → (has o os ≡ true) ⊎ (has o (s.object ∷ []) ≡ true) → has_fewer (shifts ++ s ∷ []) o ≡ true
+    joined o (inl here) = any_front (λ r. (r.object == o) && nat_lt r.new_strong r.old_strong) shifts (s ∷ []) (first.inside o here)
+    joined o (inr here) = any_behind (λ r. (r.object == o) && nat_lt r.new_strong r.old_strong) shifts (s ∷ []) (last o (s.object == o) refl here)
 
 -- at first all slots are counted
 pub none_off : (from : State) (shifts : List Shift) (os : List ℕ) (h : Holders) → AreFirstHolders from shifts os h.items.items → h.counted.items ≡ [] → ((q : ℕ) → is_recent h.recent q ≡ false) → IsCountedIn (λ x. false) from h

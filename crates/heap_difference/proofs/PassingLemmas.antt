@@ -36,7 +36,7 @@ use Rattle.heap_difference.proofs.Tests.{clash, is_false, left_false, right_fals
 use Rattle.heap_difference.proofs.KeyLemmas.{Has-set_of, meet_listed, among_append}
 use Rattle.heap_difference.proofs.LawLemmas.{meet_none, within_front, within_back, within_more}
 use Rattle.heap_difference.proofs.AlikeLemmas.{TellsSmall, shifted_is, no_shift, are_blind_is, tell_small}
-use Rattle.heap_difference.proofs.HolderLemmas.{held_outside}
+use Rattle.heap_difference.proofs.HolderLemmas.{held_outside, fewer_alike}
 use Rattle.heap_difference.proofs.LayerLemmas.{layers_hold, both_false}
 
 -- ---- objects with fewer Arcs
@@ -271,7 +271,7 @@ passed_apart l h keys sets old new ops outcomes way touched set none unders is t
     tell_none (x ∷ xs) all = (λ c eq alike. absurd (clash (is_alike l.shifts c.object) alike (not_alike c.object (all.0 c eq) (is_alike l.shifts c.object) refl)), tell_none xs all.1)
 
     untouched : (o : ℕ) → has o h.objects.objects ≡ true → (b : Bool) → is_among keys (Object o) ≡ b → b ≡ false
-    untouched o here true e = absurd (clash (is_alike l.shifts o) (way.is.lessened.inside o here) (not_alike o e (is_alike l.shifts o) refl))
+    untouched o here true e = absurd (clash (is_alike l.shifts o) (fewer_alike l.shifts o (way.is.lessened.inside o here)) (not_alike o e (is_alike l.shifts o) refl))
     untouched o here false e = refl
 
 -- operations that are blind are passed

@@ -79,6 +79,10 @@ pub record IsSmall (s : Shift) : Type 0 where
 abbrev pub HoldFields : List FieldPut → State → Type 0
 HoldFields fields m = AllByRecursion (λ f. slice_get (fields_of (get m.objects f.object)) f.index ≡ Some f.slot) fields
 
+-- each field holds something else in the old state
+abbrev pub DoFieldsDiffer : List FieldPut → State → Type 0
+DoFieldsDiffer fields old = AllByRecursion (λ f. slice_get (fields_of (get old.objects f.object)) f.index ≡ Some f.slot → ⊥) fields
+
 -- each field is one of an object that has a shift
 abbrev pub AreOfAlikes : List Shift → List FieldPut → Type 0
 AreOfAlikes shifts fields = AllByRecursion (λ f. is_alike shifts f.object ≡ true) fields
@@ -99,10 +103,11 @@ pub record AreAlikes (shifts : List Shift) (fields : List FieldPut) (old new : S
 abbrev pub IsOneMore : List Shift → ℕ → ℕ → Type 0
 IsOneMore shifts object o = (is_alike shifts o ≡ true) ⊎ (o ≡ object)
 
--- For private functions alone: these fields of an object come behind those before: each holds what it is to hold, and they are all that differ
+-- For private functions alone: these fields of an object come behind those before: each holds what it is to hold, and they are those that differ
 pub record AreAdded (object : ℕ) (before fields : List Slot) (old new : List FieldPut) : Type 0 where
   pub added : List FieldPut
   pub new_is : new ≡ old ++ added
   pub own : AllByRecursion (λ f. f.object ≡ object) added
   pub holds : AllByRecursion (λ f. slice_get fields f.index ≡ Some f.slot) added
+  pub differ : AllByRecursion (λ f. slice_get before f.index ≡ Some f.slot → ⊥) added
   pub near : AreFieldsNear (is_loose added object) before fields

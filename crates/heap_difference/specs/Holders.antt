@@ -1,7 +1,7 @@
--- Objects that are named less often in a new state, and how many of the slots that name them stand where nothing was touched since (profile of
+-- Objects that are named less often in a new state, and how many of the slots that name them stand where nothing was set since (profile of
 -- this project).
-use Rattle.std.specs.Prelude.{ℕ, ◌≡◌, ◌<◌, ◌≤◌, ◌-◌, nat_lt, ◌||◌, ◌⊎◌, List, [], ◌∷◌, Bool, true, false, map}
-use Rattle.std.specs.List.{AllByRecursion, Contains}
+use Rattle.std.specs.Prelude.{ℕ, ◌≡◌, ◌<◌, ◌≤◌, ◌-◌, ◌==◌, nat_lt, ◌&&◌, ◌||◌, ◌⊎◌, List, [], ◌∷◌, Bool, true, false, map}
+use Rattle.std.specs.List.{AllByRecursion, Contains, list_any}
 use Rattle.std.specs.FinMap.{remove}
 use Rattle.trace_types.specs.declared.slots.Slot.{Slot}
 use Rattle.trace_types.specs.declared.slots.Slot.TheVariants.{Strong}
@@ -15,7 +15,6 @@ use Rattle.heap_difference.specs.declared.holders.Holder.{Holder}
 use Rattle.heap_difference.specs.declared.holders.Holders.{Holders}
 use Rattle.heap_difference.specs.declared.shifts.Shift.{Shift}
 use Rattle.heap_difference.specs.KeySets.{is_among, meet}
-use Rattle.heap_difference.specs.Alikes.{is_alike}
 use Rattle.heap_difference.specs.Recents.{is_recent}
 
 -- a state without what stands at a key
@@ -52,12 +51,16 @@ pub record IsCountedIn (t : Key → Bool) (from : State) (h : Holders) : Type 0 
 abbrev pub objects_of : List Holder → List ℕ
 objects_of items = map (λ it. it.object) items
 
--- each of them has a shift; and all objects that have one, and aren't among these, are named as often in the new state as in the old one, or more
--- often
+-- whether an object has a shift by which it is named less often in the new state
+abbrev pub has_fewer : List Shift → ℕ → Bool
+has_fewer shifts o = list_any (λ s. (s.object == o) && nat_lt s.new_strong s.old_strong) shifts
+
+-- each of them has such a shift; and all objects that have a shift, and aren't among these, are named as often in the new state as in the old one, or
+-- more often
 pub record AreOfLessened (shifts : List Shift) (h : Holders) : Type 0 where
   pub others : AllByRecursion (λ s. has s.object h.objects.objects ≡ false → s.old_strong ≤ s.new_strong) shifts
   pub items : (o : ℕ) → has o h.objects.objects ≡ has o (objects_of h.items.items)
-  pub inside : (o : ℕ) → has o h.objects.objects ≡ true → is_alike shifts o ≡ true
+  pub inside : (o : ℕ) → has o h.objects.objects ≡ true → has_fewer shifts o ≡ true
 
 -- of each object a slot is left
 abbrev pub AreAllLeft : Holders → Type 0

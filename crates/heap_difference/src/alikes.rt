@@ -5,7 +5,7 @@ ghost use Rattle.trace_types.specs.declared.slots.Entry.TheVariants.{Alive};
 ghost use Rattle.ownership_model.specs.Bounds.{AreFew};
 ghost use Rattle.ownership_model.specs.Reach.{has};
 ghost use Rattle.std.specs.List.{AllByRecursion};
-ghost use Rattle.heap_difference.specs.Alikes.{is_alike, is_loose, may_be_alike, AreAlikes, IsOneMore, AreAdded};
+ghost use Rattle.heap_difference.specs.Alikes.{is_alike, is_loose, may_be_alike, AreAlikes, DoFieldsDiffer, IsOneMore, AreAdded};
 
 use crate::shifts::{Shift, is_shifted};
 use object_heap::{FieldPut, Heap};
@@ -41,6 +41,7 @@ impl Alikes {
             has o objects.now ≡ true) }
         ensures all { IfOk result (λ a. (o : ℕ) → has o objects.now ≡ true →
             may_be_alike old.now new.now o ≡ true → is_alike a.shifts.items o ≡ true) }
+        ensures differ { IfOk result (λ a. DoFieldsDiffer a.fields.items old.now) }
     {
         let mut alikes = Alikes {
             shifts: Vec::new(alloc),
@@ -84,6 +85,8 @@ impl Alikes {
             IsOneMore self.old.shifts.items object o) }
         ensures all { OnOk result ((o : ℕ) → IsOneMore self.old.shifts.items object o →
             may_be_alike old.now new.now o ≡ true → is_alike self.new.shifts.items o ≡ true) }
+        ensures differ { OnOk result (DoFieldsDiffer self.old.fields.items old.now → DoFieldsDiffer
+            self.new.fields.items old.now) }
     {
         let (Some(Entry::Alive(before)), Some(Entry::Alive(fields))) = (
             old.object(object),

@@ -1,5 +1,5 @@
 //! How many slots name objects where operations set nothing.
-ghost use Rattle.std.specs.Prelude.{◌≡◌, ◌↔◌, if◌then◌else◌, Bool, false, IfOk, OnOk, IsTrue, map};
+ghost use Rattle.std.specs.Prelude.{◌≡◌, ◌↔◌, if◌then◌else◌, Bool, [], false, IfOk, OnOk, IsTrue, map};
 ghost use Rattle.std.specs.List.{Contains, list_any};
 ghost use Rattle.trace_types.specs.declared.slots.Slot.TheVariants.{Strong};
 ghost use Rattle.ownership_model.specs.declared.key.Key.{Key};
@@ -20,6 +20,9 @@ use trace_types::ops::Op;
 use trace_types::outcomes::Outcome;
 use trace_types::slots::{Entry, Holding, Slot};
 
+/// How many keys of each operation have room at first.
+const KEYS_AN_OP: usize = 4;
+
 /// An object, and how many slots name it strongly in a heap, less those that are no longer counted.
 #[derive(Clone, Copy, Debug)]
 pub struct Holder {
@@ -28,7 +31,7 @@ pub struct Holder {
 }
 
 /// The objects that are named strongly less often in a new heap than in an old one, each with how many of these slots stand at keys that no operation
-/// has set since.
+/// may have set since.
 #[derive(Drop)]
 pub struct Holders {
     pub objects: KeySet,
@@ -44,6 +47,7 @@ impl Holders {
     pub fn of(alloc: Global, shifts: &[Shift], from: &Heap) -> Result<Holders, AllocError>
         ensures counted { IfOk result (IsCountedIn (λ x. false) from.now) }
         ensures lessened { IfOk result (AreOfLessened shifts.now) }
+        ensures none { IfOk result (λ h. h.counted.items ≡ []) }
     {
         let mut objects = Vec::new(alloc);
         let mut items = Vec::new(alloc);
@@ -95,7 +99,7 @@ impl Holders {
         if !self.objects.touches_all(told, ops, outcomes) {
             return Ok(true);
         }
-        let mut keys = Vec::with_capacity(alloc, 4usize.saturating_mul(ops.len()))?;
+        let mut keys = Vec::with_capacity(alloc, ops.len().saturating_mul(KEYS_AN_OP))?;
         add_sets(told, ops, outcomes, &mut keys)?;
         for key in &keys {
             self.count_once(from, *key)?;

@@ -1,5 +1,5 @@
 //! What stands in a heap at some keys, kept to be laid over older heaps.
-ghost use Rattle.std.specs.Prelude.{◌≡◌, ◌↔◌, ◌&&◌, ◌||◌, ℕ, Bool, List, not, flat_map, is_some, true, false, IfOk, OnOk, IfSome, IsTrue};
+ghost use Rattle.std.specs.Prelude.{◌≡◌, ◌↔◌, ◌&&◌, ◌||◌, ℕ, Bool, List, [], not, flat_map, is_some, true, false, IfOk, OnOk, IfSome, IsTrue};
 ghost use Rattle.std.specs.List.{AllByRecursion};
 ghost use Rattle.std.specs.Option.{option_copied};
 ghost use Rattle.trace_types.specs.Operation.{Operation};
@@ -159,9 +159,10 @@ impl Layer {
 
     /// The objects that are named strongly less often in its heap than in the one beside it.
     pub fn holders(&self, alloc: Global) -> Result<Holders, AllocError>
-        ensures { (old : State) → IsLaidBy self.now old self.now.from →
+        ensures way { (old : State) → IsLaidBy self.now old self.now.from →
             AreShifts self.now.shifts old self.now.from →
             IfOk result (λ h. IsUnderWay self.now h old self.now.from) }
+        ensures none { IfOk result (λ h. h.counted.items ≡ []) }
     {
         Holders::of(alloc, &self.alikes.shifts, &self.from)
     }
@@ -216,7 +217,8 @@ impl Layer {
 
     /// Whether operations may be passed: of the keys they touch only objects that are alike, read of these only what is the same in both heaps, and leave
     /// them alive; of the handles just under those that are put in they touch none, or may end none. Then they come with their outcomes in the
-    /// new run, if these are others. Where all that is so they are passed.
+    /// new run, if these are others. Where all that is so, and each object that has fewer Arcs is named by one that stands where none of them may set
+    /// anything, they are passed.
     pub fn passed(
         &self,
         alloc: Global,

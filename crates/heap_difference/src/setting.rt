@@ -72,8 +72,8 @@ fn add_one(kind: &Kind, outcome: &Outcome, keys: &mut Vec<Key>) -> Result<(), Al
     Ok(())
 }
 
-// Adds the handles that an operation of this kind makes, sets or ends, where the end of a scope has none. Of a field's owner it is known whether the handle
-// holds the value itself.
+// Adds the handles that an operation of this kind may make, set or end, where the end of a scope has none: the owner of a field only if it may hold the
+// value itself, as where no counts are told.
 fn add_handles(owns: bool, kind: &Kind, keys: &mut Vec<Key>) -> Result<(), AllocError>
     ensures { OnOk result (keys.new.items
         ≡ keys.old.items ++ map key.Handle (set_handles owns kind.now)) }
@@ -128,7 +128,7 @@ fn add_handles(owns: bool, kind: &Kind, keys: &mut Vec<Key>) -> Result<(), Alloc
     }
 }
 
-// Adds the handle of a field's owner, if it holds the value itself.
+// Adds the handle of a field's owner, if it may hold the value itself.
 #[inline(always)]
 fn add_owner(owns: bool, owner: u32, keys: &mut Vec<Key>) -> Result<(), AllocError>
     ensures { OnOk result (keys.new.items

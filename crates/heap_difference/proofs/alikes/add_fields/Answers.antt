@@ -17,8 +17,9 @@ loop-index-preserved c =
       | then-ne+in_ok-push w ↦
           let put : FieldPut = record { object = c.args.object; index = i; slot = get_or fields i Nothing } in
           let pushed : c.if-ne.list.items ≡ c.loop-index.list.items ++ put ∷ [] = cc (w.list-is, w.in_ok-push.ensures.items) in
+          let other : get_or before i Nothing ≡ get_or fields i Nothing → ⊥ = search rules in
           subst (λ (ps : List FieldPut). AreAdded c.args.object (take (i + 1) before) (take (i + 1) fields) c.args.list.now.items ps) (sym pushed)
-          (added_put c.args.object before fields i Nothing c.args.list.now.items c.loop-index.list.items put first c.loop-index-test.true refl refl refl c.loop-index.invariant)
+          (added_put c.args.object before fields i Nothing c.args.list.now.items c.loop-index.list.items put first c.loop-index-test.true refl refl refl other c.loop-index.invariant)
       | else-ne w ↦
           let kept : c.if-ne.list.items ≡ c.loop-index.list.items = cc (w.list-is) in
           let same : get_or before i Nothing ≡ get_or fields i Nothing = search rules in

@@ -16,7 +16,7 @@ loop-shift-preserved c =
       | then-shift+in_ok-push+in_ok-push-2 w ↦
           let it : Holder = record { object = s.object; left = w.strong.result } in
           rw (w.objects-is, w.items-is, w.in_ok-push.ensures.items, w.in_ok-push-2.ensures.items, take_more c.args.shifts.now i none c.loop-shift-test.true)
-          (first_added c.args.from.now before c.loop-shift.objects.items c.loop-shift.items.items s it refl w.strong.ensures c.loop-shift.invariant)
+          (first_added c.args.from.now before c.loop-shift.objects.items c.loop-shift.items.items s it w.if-shift.true refl w.strong.ensures c.loop-shift.invariant)
       | else-shift w ↦
           rw (w.objects-is, w.items-is, take_more c.args.shifts.now i none c.loop-shift-test.true)
           (first_skipped c.args.from.now before c.loop-shift.objects.items c.loop-shift.items.items s (omega (arith, w.if-shift.false)) c.loop-shift.invariant)

@@ -19,7 +19,7 @@ loop-i-init c = record {
     way = way-none c.args.revision.now.segments.now (arc_value c.args.layer.now) c.in_ok-holders.holders c.args.index (arc_value c.args.layer.now).from c.empty-run.result c.empty-run.ensures
         (subst (λ (l : LayerView). IsUnderWay l c.in_ok-holders.holders (end_from nothing_held (trace_of (take c.args.index c.args.revision.now.segments.now))) l.from) c.deref.ensures
         (rw c.in_ok-holders.was at
-        (c.holders.ensures (end_from nothing_held (trace_of (take c.args.index c.args.revision.now.segments.now)))
+        (c.holders.ensures.way (end_from nothing_held (trace_of (take c.args.index c.args.revision.now.segments.now)))
         (subst (λ (l : LayerView). IsLaidBy l (end_from nothing_held (trace_of (take c.args.index c.args.revision.now.segments.now))) l.from) (sym c.deref.ensures) c.requires.laid)
         (subst (λ (l : LayerView). AreShifts l.shifts (end_from nothing_held (trace_of (take c.args.index c.args.revision.now.segments.now))) l.from) (sym c.deref.ensures) c.requires.counts))));
   };
