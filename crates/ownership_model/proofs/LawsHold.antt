@@ -4,7 +4,7 @@ use Rattle.std.proofs.Common.{arith}
 use Rattle.ownership_model.specs.Laws.{AgreementHolds, AgreementStays, PatchesHold, SoundnessHolds, ReleasesInTurn, CascadeHolds, BoundsHold, AppendsHold, TouchedHolds, ScopesHold}
 use Rattle.ownership_model.specs.Before.{OldTracesReplayAsBefore}
 use Rattle.ownership_model.specs.FootprintLaws.{FootprintsHold, StretchesAreTaken, PartsStayAlike}
-use Rattle.ownership_model.specs.Sets.{SetsAreNamed}
+use Rattle.ownership_model.specs.Sets.{SetsAreNamed, SetsAreTouched}
 use Rattle.ownership_model.specs.NearLaws.{NearHolds, PlacesKeepArcs, BlindHolds}
 use Rattle.ownership_model.specs.ReachLaws.{ReachIsLeast, NamedAreReached, LeakedAreUnreached, HoldersHold}
 use Rattle.ownership_model.proofs.ReleaseLemmas.{release-nil, release-cons, work_drops}
@@ -26,7 +26,7 @@ use Rattle.ownership_model.proofs.PlaceLemmas.{places_kept}
 use Rattle.ownership_model.proofs.TakenLemmas.{replay_alike, stretches_taken, parts_alike}
 use Rattle.ownership_model.proofs.NearSteps.{near_holds}
 use Rattle.ownership_model.proofs.BlindLemmas.{blind_holds}
-use Rattle.ownership_model.proofs.SetLemmas.{sets_named}
+use Rattle.ownership_model.proofs.SetLemmas.{sets_named, sets_touched}
 use Rattle.ownership_model.proofs.FitLemmas.{bounds_hold}
 use Rattle.ownership_model.proofs.BeforeLemmas.{as_before}
 use Rattle.ownership_model.proofs.ScopeLemmas.{changed_scoped}
@@ -109,6 +109,9 @@ places = places_kept
 
 pub sets : SetsAreNamed
 sets = sets_named
+
+pub touched_sets : SetsAreTouched
+touched_sets = sets_touched
 
 pub old_traces : OldTracesReplayAsBefore
 old_traces = as_before

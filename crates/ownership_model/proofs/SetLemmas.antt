@@ -1,11 +1,12 @@
 -- What operations and their outcomes name has all that they set.
-use Rattle.std.proofs.Common.{◌≡◌, ℕ, List, [], ◌∷◌, ◌++◌, map, Bool, true, refl}
-use Rattle.std.specs.Prelude.{Option, Some, None, ◌==◌, not, is_some, if◌then◌else◌, option_to_list, slice_get}
+use Rattle.std.proofs.Common.{◌≡◌, ℕ, zero, suc, List, [], ◌∷◌, ◌++◌, map, Bool, true, refl}
+use Rattle.std.specs.Prelude.{Option, Some, None, ◌==◌, not, is_some, if◌then◌else◌, flat_map, option_to_list, slice_get}
 use Rattle.trace_types.specs.declared.slots.Slot.{Slot}
 use Rattle.trace_types.specs.declared.slots.Slot.TheVariants.{Nothing}
 use Rattle.trace_types.specs.declared.slots.Holding.{Holding}
 use Rattle.trace_types.specs.declared.slots.Holding.TheVariants as holding
 use Rattle.trace_types.specs.declared.slots.Entry.{Entry}
+use Rattle.trace_types.specs.declared.slots.Item.{Item}
 use Rattle.trace_types.specs.declared.slots.Change.{Change}
 use Rattle.trace_types.specs.declared.kinds.Field.{Field}
 use Rattle.trace_types.specs.declared.kinds.Field.TheVariants as field
@@ -20,20 +21,20 @@ use Rattle.ownership_model.specs.declared.plan.Plan.{Plan}
 use Rattle.ownership_model.specs.declared.plan.Plan.TheVariants.{Skip, Act}
 use Rattle.ownership_model.specs.State.{State, is_alive}
 use Rattle.ownership_model.specs.Scopes.{scope_of}
-use Rattle.ownership_model.specs.Release.{release}
+use Rattle.ownership_model.specs.Release.{Fate, Stays, Falls, Goes, fate, left_by, drop_first, release, release_within, work}
 use Rattle.ownership_model.specs.Changes.{changed}
 use Rattle.ownership_model.specs.View.{Element, Read, Null, Me, Seen, View, Members, members, elements_of, held_fields, view_of, repeated}
 use Rattle.ownership_model.specs.Table.{row, row_of, new_row, upgraded, made_unique, dropped, swapped, exchanged, write_field, set_field, take_field, copy_field, fields_of, made_fields, ending, first_unheld, first_bare, same_pointer, make}
 use Rattle.ownership_model.specs.Step.{step, carried_out, counts_of}
 use Rattle.ownership_model.specs.Touched.{event_object, counted}
 use Rattle.ownership_model.specs.Alike.{AreWithin}
-use Rattle.ownership_model.specs.Footprint.{change_key, scope_keys, member_keys, footprint}
+use Rattle.ownership_model.specs.Footprint.{item_keys, taken_within, taken, change_key, scope_keys, member_keys, plan_keys, footprint}
 use Rattle.ownership_model.specs.Before.{is_scope_end}
-use Rattle.ownership_model.specs.Sets.{set_by_plan, set_by, if_owner, set_handles, set_cell, sets_counted, set_names, end_scopes, SetsAreNamed}
+use Rattle.ownership_model.specs.Sets.{set_by_plan, set_by, if_owner, set_handles, set_cell, sets_counted, set_names, end_scopes, SetsAreNamed, SetsAreTouched}
 use Rattle.ownership_model.proofs.Searching.{or_left, or_right}
 use Rattle.ownership_model.proofs.WalkLemmas as walk
-use Rattle.ownership_model.proofs.AlikeLemmas.{within_front, within_back}
-use Rattle.ownership_model.proofs.OutsideLemmas.{both}
+use Rattle.ownership_model.proofs.AlikeLemmas.{within_front, within_back, IsOf, fate_of}
+use Rattle.ownership_model.proofs.OutsideLemmas.{AreEventsOf, both}
 
 module _ (k : Key → Bool) where
   -- ---- the rows
@@ -269,3 +270,47 @@ sets_named k m (op ∷ ops) c d =
     (step_named k m op (λ e. within_front k (footprint m op) _ (d (or_left (is_scope_end op.kind) (end_scopes ops) e))) (within_front k (set_names op.kind (step m op).outcome) _ c))
     (sets_named k (step m op).state ops (within_back k (set_names op.kind (step m op).outcome) _ c)
     (λ e. within_back k (footprint m op) _ (d (or_right (is_scope_end op.kind) (end_scopes ops) e))))
+
+-- ---- what is touched
+module _ (k : Key → Bool) where
+  -- the events of two lists together are of objects of the set where those of each are
+  events_both : (xs ys : List Event) → AreEventsOf k xs → AreEventsOf k ys → AreEventsOf k (xs ++ ys)
+  events_both [] ys c d = d
+  events_both (x ∷ xs) ys c d = (c.0, events_both xs ys c.1 d)
+
+  -- what an item brings about tells of the object that it names
+  fate_events : (m : State) (xs : List Item) (f : Fate) → IsOf k f → AreEventsOf k (left_by m xs f).events
+  fate_events m xs Stays c = tt
+  fate_events m xs (Falls o fields) c = (c, tt)
+  fate_events m xs (Goes o) c = (c, tt)
+
+  -- so does a cascade, with any fuel
+  within_events : (n : ℕ) (m : State) (p : List Item) → AreWithin k (flat_map item_keys (taken_within n m p)) → AreEventsOf k (release_within n m p).events
+  within_events n m [] c = tt
+  within_events zero m (x ∷ xs) c = tt
+  within_events (suc n) m (x ∷ xs) c =
+      let d = drop_first m x xs in
+      events_both d.events _ (fate_events m xs (fate m x xs) (fate_of k m x xs (within_front k (item_keys x) _ c)))
+      (within_events n d.state d.pending (within_back k (item_keys x) _ c))
+
+  release_events : (m : State) (p : List Item) → AreWithin k (flat_map item_keys (taken m p)) → AreEventsOf k (release m p).events
+  unfolding release taken
+  release_events m p c = within_events (work m p) m p c
+
+  -- a plan sets places that it touches
+  plan_touched : (m : State) (p : Plan) → AreWithin k (plan_keys m p) → AreWithin k (set_by_plan m p)
+  plan_touched m (Skip why) c = tt
+  plan_touched m (Act answer changes event pending object) c =
+      both k (map change_key changes) _ (within_front k (map change_key changes) _ c)
+      (release_events (changed m changes) pending (within_front k (flat_map item_keys (taken (changed m changes) pending)) _ (within_back k (map change_key changes) _ c)))
+
+  step_touched : (m : State) (op : Operation) → AreWithin k (footprint m op) → AreWithin k (set_by m op)
+  unfolding set_by footprint
+  step_touched m op c =
+      plan_touched m (row op (view_of m op.thread op.kind))
+      (within_back k (member_keys m (members (scope_of op.thread m.scopes) op.kind)) _ (within_back k (scope_keys op.thread op.kind) _ c))
+
+pub sets_touched : SetsAreTouched
+sets_touched k m [] c = tt
+sets_touched k m (op ∷ ops) c =
+    both k (set_by m op) _ (step_touched k m op (within_front k (footprint m op) _ c)) (sets_touched k (step m op).state ops (within_back k (footprint m op) _ c))

@@ -104,7 +104,11 @@ set_names_of (op ∷ ops) (x ∷ xs) = set_names op.kind x ++ set_names_of ops x
 abbrev pub end_scopes : List Operation → Bool
 end_scopes ops = list_any (λ (op : Operation). is_scope_end op.kind) ops
 
--- ---- the law
+-- ---- the laws
 -- What operations and their outcomes name so is all that they set; where one ends a scope, all that they touch is
 abbrev pub SetsAreNamed : Type 0
 SetsAreNamed = (k : Key → Bool) (m : State) (ops : List Operation) → AreWithin k (set_names_of ops (outcomes_from m ops)) → (end_scopes ops ≡ true → AreWithin k (footprints_from m ops)) → AreWithin k (sets_from m ops)
+
+-- what operations set is among what they touch
+abbrev pub SetsAreTouched : Type 0
+SetsAreTouched = (k : Key → Bool) (m : State) (ops : List Operation) → AreWithin k (footprints_from m ops) → AreWithin k (sets_from m ops)
