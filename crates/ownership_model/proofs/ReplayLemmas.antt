@@ -1,5 +1,5 @@
 -- A replay of one list of operations after another, and a replay from the empty state.
-use Rattle.std.proofs.Common.{◌≡◌, ℕ, List, [], ◌∷◌, ◌++◌, length, refl, sym, ◌∙◌, ap, arith}
+use Rattle.std.proofs.Common.{◌≡◌, ℕ, List, [], ◌∷◌, ◌++◌, length, append_assoc, refl, sym, ◌∙◌, ap, arith}
 use Rattle.std.specs.Prelude.{Option, Some, None, IsTrue, Bool, true, false, not, ◌&&◌, ◌||◌, ◌==◌}
 use Rattle.std.proofs.lemmas.Bool.Decides.{nat_tests}
 use Rattle.std.specs.Ordering.{nat_cmp}
@@ -12,6 +12,7 @@ use Rattle.trace_types.specs.Trace.{is_taken, has_distinct_numbers}
 use Rattle.ownership_model.specs.Totals.{total}
 use Rattle.ownership_model.specs.State.{State, nothing_held, weight, strong, weak, names_alike, holding_weight, entry_weight, IsSound, IsSoundAt}
 use Rattle.ownership_model.specs.Step.{step, outcomes_from, end_from, AreNew, AreUnused}
+use Rattle.ownership_model.specs.Footprint.{footprint, moved, footprints_from, moved_from}
 use Rattle.ownership_model.specs.Laws.{AppendsHold}
 use Rattle.ownership_model.proofs.TotalLemmas.{weight_at, total-zero}
 use Rattle.ownership_model.proofs.CarryLemmas.{step_sound}
@@ -26,6 +27,20 @@ outcomes_from-append (op ∷ ops) more m = ap (λ os. (step m op).outcome ∷ os
 pub end_from-append : (ops more : List Operation) (m : State) → end_from m (ops ++ more) ≡ end_from (end_from m ops) more
 end_from-append [] more m = refl
 end_from-append (op ∷ ops) more m = end_from-append ops more (step m op).state
+
+-- what the first list touches, and then what the second does from where the first ends
+pub footprints_from-append : (ops more : List Operation) (m : State) → footprints_from m (ops ++ more) ≡ footprints_from m ops ++ footprints_from (end_from m ops) more
+footprints_from-append [] more m = refl
+footprints_from-append (op ∷ ops) more m =
+    let s : State = (step m op).state in
+    ap (λ ks. footprint m op ++ ks) (footprints_from-append ops more s) ∙ sym (append_assoc (footprint m op) (footprints_from s ops) (footprints_from (end_from s ops) more))
+
+-- so with what they move
+pub moved_from-append : (ops more : List Operation) (m : State) → moved_from m (ops ++ more) ≡ moved_from m ops ++ moved_from (end_from m ops) more
+moved_from-append [] more m = refl
+moved_from-append (op ∷ ops) more m =
+    let s : State = (step m op).state in
+    ap (λ ks. moved m op ++ ks) (moved_from-append ops more s) ∙ sym (append_assoc (moved m op) (moved_from s ops) (moved_from (end_from s ops) more))
 
 pub length-outcomes_from : (ops : List Operation) (m : State) → length (outcomes_from m ops) ≡ length ops
 length-outcomes_from [] m = refl
