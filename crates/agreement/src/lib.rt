@@ -21,6 +21,6 @@ mod trail;
 pub use checkpoint::Checkpoint;
 pub use exchange::Exchange;
 pub use remains::{Remains, patch};
-pub use search::{Meeting, are_told_apart, meet, meet_among, meet_rooted};
+pub use search::{Meeting, are_apart, are_told_apart, meet, meet_among, meet_rooted};
 pub use suspects::Suspects;
 pub use trail::{Path, Root, Trail, refutes};

@@ -117,18 +117,65 @@ pub fn meet_rooted(
     ensures meets { IfOk result (Meets new.now old.now) }
     ensures outside { OnOk result (AgreeOutside suspects.new new.now old.now) }
 {
+    let told = told_soon(alloc, new, old, suspects, seen)?;
+    if let Some(meeting) = told {
+        return Ok(meeting);
+    }
+    match agree(alloc, new, old)? {
+        Some(remains) => Ok(Meeting::Alike(remains)),
+        None => Ok(Meeting::Apart),
+    }
+}
+
+/// Whether such heaps are told apart, by a suspect or by a trail to a difference, which is kept. If not they may agree. Unlike `meet_rooted` it doesn't
+/// go on to list what nothing leads to.
+pub fn are_apart(
+    alloc: Global,
+    new: &Heap,
+    old: &Heap,
+    suspects: &mut Suspects,
+    seen: &mut Option<Trail>,
+) -> Result<bool, AllocError>
+    requires roots { HaveSameRoots new.now old.now }
+    requires outside { AgreeOutside suspects.old new.now old.now }
+    ensures apart { IfOk result (λ told. IsTrue told → ¬ (Agree new.now old.now)) }
+    ensures outside { OnOk result (AgreeOutside suspects.new new.now old.now) }
+{
+    match told_soon(alloc, new, old, suspects, seen)? {
+        Some(Meeting::Apart) => Ok(true),
+        Some(Meeting::Same) | Some(Meeting::Alike(_)) | None => Ok(false),
+    }
+}
+
+// What is told of such heaps before all that can be reached is compared, if anything is.
+fn told_soon(
+    alloc: Global,
+    new: &Heap,
+    old: &Heap,
+    suspects: &mut Suspects,
+    seen: &mut Option<Trail>,
+) -> Result<Option<Meeting>, AllocError>
+    requires roots { HaveSameRoots new.now old.now }
+    requires outside { AgreeOutside suspects.old new.now old.now }
+    ensures meets { IfOk result (λ r. IfSome r (Meets new.now old.now)) }
+    ensures outside { OnOk result (AgreeOutside suspects.new new.now old.now) }
+{
     // taken before they are settled, which drops those that differ by a count alone
     let few = suspects.few(alloc)?;
     suspects.settle(alloc, new, old)?;
     if let Some(meeting) = told_by(alloc, new, old, suspects.as_slice(), seen)? {
-        return Ok(meeting);
+        return Ok(Some(meeting));
     }
     let some = if few.is_empty() {
         suspects.few(alloc)?
     } else {
         few
     };
-    meet_by_search(alloc, new, old, &some, seen)
+    let told = is_found_apart(alloc, new, old, &some, seen)?;
+    if told {
+        return Ok(Some(Meeting::Apart));
+    }
+    Ok(None)
 }
 
 // What the suspects tell alone of heaps with the same roots, if they do.
@@ -156,29 +203,22 @@ fn told_by(
     }
 }
 
-// Where a trail to a difference is found they don't agree; else all that is reached is compared. A trail to one of these suspects near a root is
-// looked for first.
-fn meet_by_search(
+// Whether a trail to a difference is found. One to one of these suspects near a root is looked for first.
+fn is_found_apart(
     alloc: Global,
     new: &Heap,
     old: &Heap,
     suspects: &[u32],
     seen: &mut Option<Trail>,
-) -> Result<Meeting, AllocError>
-    ensures { IfOk result (Meets new.now old.now) }
+) -> Result<bool, AllocError>
+    ensures { IfOk result (λ told. IsTrue told → ¬ (Agree new.now old.now)) }
 {
     *seen = near_root(alloc, new, old, suspects)?;
     if is_refuted(seen, new, old) {
-        return Ok(Meeting::Apart);
+        return Ok(true);
     }
     *seen = differing_object(alloc, new, old)?;
-    if is_refuted(seen, new, old) {
-        return Ok(Meeting::Apart);
-    }
-    match agree(alloc, new, old)? {
-        Some(remains) => Ok(Meeting::Alike(remains)),
-        None => Ok(Meeting::Apart),
-    }
+    Ok(is_refuted(seen, new, old))
 }
 
 // A trail to a difference of the roots, if one is found: any will do.

@@ -1,6 +1,6 @@
 //! Heaps compared at suspects alone: what leaks apart from all else is told without a walk over the heaps.
 use crate::agreeing::{BREAK, CYCLE, LET_GO, assert_cycle_is_added, with_heaps};
-use agreement::{Meeting, Remains, Suspects, meet_among, refutes};
+use agreement::{Meeting, Remains, Suspects, are_apart, are_told_apart, meet_among, refutes};
 use object_heap::Heap;
 use op_step::Meter;
 use op_step::replay::replay;
@@ -16,6 +16,18 @@ fn meet_all(alloc: Global, new: &Heap, old: &Heap) -> Result<(Meeting, Suspects)
     let mut suspects = Suspects::of_both(alloc, new, old)?;
     let meeting = meet_among(alloc, new, old, &mut suspects, &mut None)?;
     Ok((meeting, suspects))
+}
+
+// Whether the heaps are told apart, where nothing else is asked and all objects are suspects.
+fn are_parted(alloc: Global, new: &Heap, old: &Heap) -> Result<bool, Fail> {
+    let mut seen = None;
+    let told = are_told_apart(alloc, new, old, &mut seen)?;
+    if told {
+        return Ok(true);
+    }
+    let mut suspects = Suspects::of_both(alloc, new, old)?;
+    let told = are_apart(alloc, new, old, &mut suspects, &mut seen)?;
+    Ok(told)
 }
 
 // The remains, where the heaps agree and are not the same.
@@ -55,6 +67,7 @@ fn assert_cycle_alone(rt: &impl Abort, alloc: Global, new: &Heap, old: &Heap) ->
     let back = remains_of(alloc, old, new)?;
     assert_eq!(rt; back.removed().len(), 2);
     assert_eq!(rt; back.added().len(), 0);
+    assert!(rt; !are_parted(alloc, new, old)?);
     Ok(())
 }
 
@@ -128,6 +141,7 @@ fn assert_apart(rt: &impl Abort, alloc: Global, new: &Heap, old: &Heap) -> Resul
     let (meeting, suspects) = meet_all(alloc, new, old)?;
     assert!(rt; matches!(meeting, Meeting::Apart));
     assert_eq!(rt; suspects.as_slice(), [5].as_slice());
+    assert!(rt; are_parted(alloc, new, old)?);
     Ok(())
 }
 

@@ -19,7 +19,7 @@ fn handle_more(after: u32, n: u32) -> Result<Edit, Fail>
 }
 
 // The run after an edit stands in place of the one before. It tells how many operations were stepped.
-fn edit(alloc: Global, run: &mut Run, edit: Edit) -> Result<u64, Fail> {
+pub fn edit(alloc: Global, run: &mut Run, edit: Edit) -> Result<u64, Fail> {
     let (edited, steps) = after(alloc, run, edit)?;
     *run = edited;
     Ok(steps)

@@ -6,6 +6,8 @@ mod anchors;
 #[cfg(test)]
 mod desk;
 #[cfg(test)]
+mod exchanged;
+#[cfg(test)]
 mod far_edits;
 #[cfg(test)]
 mod guesses;

@@ -195,11 +195,11 @@ laid-then : (x : Option Remains) (r y : Remains) (s : SegmentView) → IsBoth x 
 laid-then None r y s both can =
     let h = bare-then r y s.mark both can.0 in
     let k = bare-then r y s.anchor both can.1 in
-    ((λ j. record s { mark = h.0 j; anchor = k.0 j; keys = None }), (h.1, k.1))
+    ((λ j. record s { mark = h.0 j; anchor = k.0 j }), (h.1, k.1))
 laid-then (Some x) r y s both can =
     let h = under-then x r y s.mark both can.0 in
     let k = under-then x r y s.anchor both can.1 in
-    ((λ j. record s { mark = h.0 j; anchor = k.0 j; keys = None }), (h.1, k.1))
+    ((λ j. record s { mark = h.0 j; anchor = k.0 j }), (h.1, k.1))
 
 pub laid-both : (x : Option Remains) (r y : Remains) (ss : List SegmentView) → IsBoth x r y → AreExchangeable r (map (laid_over x) ss) → map (laid_over (Some y)) ss ≡ map (exchanged r) (map (laid_over x) ss)
 laid-both x r y [] both can = refl

@@ -6,7 +6,6 @@ use Rattle.std.proofs.lemmas.List.{length-take}
 use Rattle.trace_types.specs.Operation.{Operation}
 use Rattle.trace_types.specs.Trace.{has_distinct_numbers}
 use Rattle.ownership_model.specs.declared.key.Key.{Key}
-use Rattle.ownership_model.specs.declared.key.Key.TheVariants.{Handle, Cell, Object, Scope}
 use Rattle.ownership_model.specs.State.{State, nothing_held, IsSound}
 use Rattle.ownership_model.specs.Step.{step, end_from, AreUnused}
 use Rattle.ownership_model.specs.Alike.{AreWithin, Covers}

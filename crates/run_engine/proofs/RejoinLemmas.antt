@@ -14,6 +14,7 @@ use Rattle.agreement.specs.Agreement.{Agree}
 use Rattle.agreement.specs.Meeting.{AgreeBut, apart_from}
 use Rattle.run_engine.specs.SegmentView.{SegmentView}
 use Rattle.run_engine.specs.Segments.{ops_of, trace_of, mark_here, marks_from, AreReplayFrom, AreFull, BeginsMarked, IsRunFrom}
+use Rattle.run_engine.proofs.SegmentLemmas.{keys-from}
 use Rattle.run_engine.specs.inner.Exchanged.{exchanged, CanExchange, IsExchangeable, AreExchangeable}
 
 -- equal states agree
@@ -82,7 +83,7 @@ patched-mark : (x : Remains) (new old : State) (o : Option State) → new ≡ pa
 patched-mark x new old None e h = tt
 patched-mark x new old (Some m) e h = ap (λ (n : State). patched n x) h ∙ sym e
 
--- the later segments with the remains exchanged are a replay from the new state: their outcomes stay
+-- the later segments with the remains exchanged are a replay from the new state: their outcomes and keys stay
 replay-behind : (new old : State) (x : Remains) (p : List Operation) (later : List SegmentView) → GoOnAlike new old x (p ++ trace_of later) → AreReplayFrom (end_from old p) later
     → AreReplayFrom (end_from new p) (map (exchanged x) later)
 replay-behind new old x p [] h replay = tt
@@ -94,7 +95,7 @@ replay-behind new old x p (s ∷ later) h replay =
       record {
         mark = patched-mark x (end_from new p) (end_from old p) s.mark here.state replay.0.mark;
         anchor = patched-mark x (end_from new p) (end_from old p) s.anchor here.state replay.0.anchor;
-        keys = tt;
+        keys = keys-from s.keys (end_from old p) (end_from new p) (ops_of s) s.outcomes replay.0.keys (record { footprints = sym stop.footprints; moved = sym stop.moved });
         outcomes = replay.0.outcomes ∙ sym stop.outcomes;
       },
       subst (λ m. AreReplayFrom m (map (exchanged x) later)) (appends.end new p (ops_of s))

@@ -1,12 +1,20 @@
 -- Segments one after another.
 use Rattle.std.proofs.Common.{◌≡◌, ℕ, ◌+◌, ◌<◌, ◌≤◌, suc, zero, ◌-◌, get_or, set, drop-cons, List, [], ◌∷◌, ◌++◌, length, take, drop, refl, ap, sym, subst, ◌∙◌, arith, append_assoc, length-append, add-zero}
-use Rattle.std.specs.Prelude.{None, slice_get}
+use Rattle.std.specs.Prelude.{Option, None, Some, slice_get}
 use Rattle.std.proofs.Math.Nat.{sub-zero}
 use Rattle.std.proofs.lemmas.List.{append-nil, take_more}
+use Rattle.trace_types.specs.Operation.{Operation}
+use Rattle.trace_types.specs.declared.outcomes.Outcome.{Outcome}
 use Rattle.ownership_model.specs.State.{State}
+use Rattle.ownership_model.specs.declared.key.Key.{Key}
+use Rattle.ownership_model.specs.Alike.{AreWithin}
+use Rattle.ownership_model.specs.Footprint.{footprints_from, moved_from}
+use Rattle.heap_difference.specs.KeySets.{is_among, set_of}
+use Rattle.heap_difference.specs.Naming.{with_names}
 use Rattle.run_engine.specs.SegmentView.{SegmentView}
 use Rattle.ownership_model.specs.Step.{end_from, outcomes_from}
-use Rattle.run_engine.specs.Segments.{ops_of, trace_of, mark_here, marks_from, AreReplayFrom, outcomes_in, without_mark}
+use Rattle.run_engine.specs.Segments.{ops_of, trace_of, mark_here, marks_from, AreKeysFrom, AreReplayFrom, outcomes_in, without_mark}
+use Rattle.run_engine.specs.inner.Touching.{TouchTheSame}
 use Rattle.ownership_model.proofs.LawsHold.{appends}
 
 pub trace_of-append : (a b : List SegmentView) → trace_of (a ++ b) ≡ trace_of a ++ trace_of b
@@ -100,3 +108,9 @@ even_at m [] j s replay h is = absurd (omega arith)
 even_at m (t ∷ segments) zero s replay h is =
     ap (λ (x : SegmentView). length x.outcomes) is ∙ ap length replay.0.outcomes ∙ appends.lengths m t.ops ∙ ap (λ (x : SegmentView). length x.ops) (sym is)
 even_at m (t ∷ segments) (suc j) s replay h is = even_at (end_from m (ops_of t)) segments j s replay.1 (omega arith) is
+
+-- keys of operations are theirs from each state from which they touch the same
+pub keys-from : (keys : Option (List Key)) (m n : State) (ops : List Operation) (outcomes : List Outcome) → AreKeysFrom m keys ops outcomes → TouchTheSame m n ops → AreKeysFrom n keys ops outcomes
+keys-from None m n ops outcomes h same = tt
+keys-from (Some k) m n ops outcomes h same =
+    subst (AreWithin (is_among (set_of (with_names k ops outcomes)))) (ap (λ touched. touched ++ moved_from m ops) same.footprints ∙ ap (λ more. footprints_from n ops ++ more) same.moved) h

@@ -16,12 +16,12 @@ use Rattle.ownership_model.specs.Footprint.{footprints_from, moved_from}
 use Rattle.ownership_model.proofs.LawsHold.{appends, soundness}
 use Rattle.heap_difference.specs.declared.key_set.KeySet.{KeySet}
 use Rattle.heap_difference.specs.declared.holders.Holders.{Holders}
-use Rattle.heap_difference.specs.KeySets.{is_among, set_of}
+use Rattle.heap_difference.specs.KeySets.{set_of}
 use Rattle.heap_difference.specs.Alikes.{is_alike, is_loose}
 use Rattle.heap_difference.specs.Differences.{outside, IsDifference}
 use Rattle.heap_difference.specs.Laws.{HasTouched}
 use Rattle.heap_difference.specs.Laid.{beside_firm}
-use Rattle.heap_difference.specs.Naming.{op_keys, outcome_keys, with_names}
+use Rattle.heap_difference.specs.Naming.{op_keys, outcome_keys}
 use Rattle.heap_difference.specs.Layers.{LayerView, with_layer, IsLaidBy, AreAmong}
 use Rattle.heap_difference.specs.Passing.{IsUnderWay, ReadTheSame, ArePassed}
 use Rattle.heap_difference.specs.Recounted.{told_or}
@@ -31,11 +31,10 @@ use Rattle.run_engine.specs.declared.replay.prefix.NextStretch.{NextStretch}
 use Rattle.run_engine.specs.SegmentView.{SegmentView}
 use Rattle.run_engine.specs.Segments.{ops_of, trace_of, mark_here, all_marks, has_mark, AreKeysFrom, IsSegmentFrom, AreReplayFrom, AreFull, BeginsMarked, IsKept, IsPiece}
 use Rattle.run_engine.specs.Steps.{IsUntouchedStretch}
-use Rattle.run_engine.specs.inner.Touching.{TouchTheSame}
 use Rattle.run_engine.specs.inner.Layered.{Makes, CanStand, standing_at, started_at, told_at}
 use Rattle.run_engine.specs.inner.Untouched.{IsTakenOver, AreTakenOver, CanBeUnder, IsClear, IsUnder, AreUnder, AreOnWay, AreNext, IsPassedOver}
 use Rattle.run_engine.proofs.ListingLemmas.{around}
-use Rattle.run_engine.proofs.SegmentLemmas.{trace_of-next, trace_of-append}
+use Rattle.run_engine.proofs.SegmentLemmas.{trace_of-next, trace_of-append, keys-from}
 use Rattle.run_engine.proofs.DifferenceLemmas.{touched-there}
 use Rattle.run_engine.proofs.PieceLemmas.{AreFull-back, segment-at, unused-behind}
 use Rattle.run_engine.proofs.PlaceLemmas.{trace_of-prefix, trace_of-back, trace_of-parted}
@@ -134,12 +133,6 @@ stand-here old i m new s l before after told c from =
     made : (o : Option State) → IfSome o (λ n. n ≡ m) → Makes l new m → IfSome o (Makes l new)
     made None is makes = tt
     made (Some n) is makes = subst (Makes l new) (sym is) makes
-
--- keys of operations are theirs from each state from which they touch the same
-keys-from : (keys : Option (List Key)) (m n : State) (ops : List Operation) (outcomes : List Outcome) → AreKeysFrom m keys ops outcomes → TouchTheSame m n ops → AreKeysFrom n keys ops outcomes
-keys-from None m n ops outcomes h same = tt
-keys-from (Some k) m n ops outcomes h same =
-    subst (AreWithin (is_among (set_of (with_names k ops outcomes)))) (ap (λ touched. touched ++ moved_from m ops) same.footprints ∙ ap (λ more. footprints_from n ops ++ more) same.moved) h
 
 all-are : (new : State) (o : Option State) → IfSome (option_map (λ (n : State). new) o) (λ n. n ≡ new)
 all-are new None = tt

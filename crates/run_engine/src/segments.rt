@@ -11,6 +11,7 @@ pub mod laid;
 pub mod layers;
 pub mod mark;
 pub mod names;
+pub mod over;
 pub mod seek;
 pub mod segment;
 pub mod standing;

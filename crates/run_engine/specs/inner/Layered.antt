@@ -1,22 +1,41 @@
 -- Heaps of segments that are kept as older ones, over which layers lie.
-use Rattle.std.specs.Prelude.{◌≡◌, ◌++◌, ◌∷◌, [], List, Option, Some, None, IfSome, option_map, option_to_list}
+use Rattle.std.specs.Prelude.{◌≡◌, ◌++◌, ◌∷◌, [], List, Option, Some, None, IfSome, option_map, option_to_list, refl}
+use Rattle.std.specs.Coded.{Coded, code_by, coded×, coded_option}
 use Rattle.trace_types.specs.declared.outcomes.Outcome.{Outcome}
 use Rattle.ownership_model.specs.State.{State, IsSound}
-use Rattle.heap_difference.specs.Layers.{LayerView, with_layer, IsLaidBy, Covers}
+use Rattle.ownership_model.specs.Patch.{Remains}
+use Rattle.agreement.specs.Laid.{with_laid, IsSoundWith}
+use Rattle.agreement.specs.RemainsCode.{remains_code}
+use Rattle.heap_difference.specs.Layers.{LayerView, layer_code, with_layer, IsLaidBy, Covers}
 use Rattle.run_engine.specs.SegmentView.{SegmentView}
 
+-- a layer, and what is exchanged in a state before it is laid over that, if anything is
+pub record OverView : Type 0 where
+  pub below : Option Remains
+  pub layer : LayerView
+
+-- by which a proof tells them apart
+abbrev pub over_code : Coded OverView
+over_code =
+    code_by (Option Remains × LayerView) (coded× (coded_option remains_code) layer_code)
+    (λ o. (o.below, o.layer)) (λ p. record { below = p.0; layer = p.1 }) (λ _. refl)
+
+-- the state with the exchange made, and the layer laid over that
+abbrev pub with_over : OverView → State → State
+with_over o m = with_layer o.layer (with_laid o.below m)
+
 -- the state with the layers laid over it, the first of them first
-abbrev pub with_all : List LayerView → State → State
+abbrev pub with_all : List OverView → State → State
 with_all [] m = m
-with_all (l ∷ ls) m = with_all ls (with_layer l m)
+with_all (o ∷ os) m = with_all os (with_over o m)
 
 -- the layers, if there are any
-abbrev pub stacked : Option (List LayerView) → List LayerView
+abbrev pub stacked : Option (List OverView) → List OverView
 stacked None = []
-stacked (Some ls) = ls
+stacked (Some os) = os
 
 -- the lower layers, and then the last one
-abbrev pub covering : Option (List LayerView) → Option LayerView → List LayerView
+abbrev pub covering : Option (List OverView) → Option OverView → List OverView
 covering lower top = stacked lower ++ option_to_list top
 
 -- the layer makes the new state of the old one, which is sound
@@ -24,31 +43,43 @@ pub record Makes (l : LayerView) (new old : State) : Type 0 where
   pub sound : IsSound old []
   pub laid : IsLaidBy l old new
 
+-- the exchange can be made in a state, and the layer be laid over that
+pub record CanLie (o : OverView) (m : State) : Type 0 where
+  pub sound : IsSoundWith o.below m
+  pub makes : Makes o.layer (with_over o m) (with_laid o.below m)
+
 -- each can be laid over what those before it make of the state
-abbrev pub AreLaid : List LayerView → State → Type 0
+abbrev pub AreLaid : List OverView → State → Type 0
 AreLaid [] m = Unit {0}
-AreLaid (l ∷ ls) m = Makes l (with_layer l m) m × AreLaid ls (with_layer l m)
+AreLaid (o ∷ os) m = CanLie o m × AreLaid os (with_over o m)
 
 -- so they can over one that is kept
-abbrev pub AreLaidBelow : List LayerView → Option State → Type 0
-AreLaidBelow ls kept = IfSome kept (AreLaid ls)
+abbrev pub AreLaidBelow : List OverView → Option State → Type 0
+AreLaidBelow os kept = IfSome kept (AreLaid os)
 
--- all that the layers lay is laid by the other one
-abbrev pub AreWithin : List LayerView → LayerView → Type 0
+-- nothing is exchanged below a layer, and all that it lays is laid by the other one
+pub record IsCovered (o : OverView) (other : LayerView) : Type 0 where
+  pub nothing : o.below ≡ None
+  pub covers : Covers other o.layer
+
+-- so it is with each of these
+abbrev pub AreWithin : List OverView → LayerView → Type 0
 AreWithin [] other = Unit {0}
-AreWithin (l ∷ ls) other = Covers other l × AreWithin ls other
+AreWithin (o ∷ os) other = IsCovered o other × AreWithin os other
 
--- all that the layer lays, if there is one, is laid by the other
-abbrev pub IsWithin : Option LayerView → LayerView → Type 0
+-- and with the layer, if there is one
+abbrev pub IsWithin : Option OverView → LayerView → Type 0
 IsWithin layer other = AreWithin (option_to_list layer) other
 
--- the layer lies over the lowest of these, in place of the others, and lays all that they do
-pub record IsOver (own : List LayerView) (l : LayerView) (new : List LayerView) : Type 0 where
-  pub below : List LayerView
-  pub others : List LayerView
-  pub own_is : own ≡ below ++ others
+-- The layer, with what is exchanged below it, lies over the lowest of these, in place of the others, and lays all that they do: none goes where
+-- something is exchanged
+pub record IsOver (own : List OverView) (x : Option Remains) (l : LayerView) (new : List OverView) : Type 0 where
+  pub lowest : List OverView
+  pub others : List OverView
+  pub own_is : own ≡ lowest ++ others
+  pub none : IfSome x (λ _. others ≡ [])
   pub within : AreWithin others l
-  pub new_is : new ≡ below ++ l ∷ []
+  pub new_is : new ≡ lowest ++ record { below = x; layer = l } ∷ []
 
 -- the layer makes the new state of the segment's checkpoint and anchor, if they are kept
 pub record CanStand (l : LayerView) (s : SegmentView) (new : State) : Type 0 where

@@ -8,10 +8,10 @@ use object_heap::Heap;
 const SHORT: usize = 65_536;
 
 /// How many anchors a run has about, where it is loaded.
-const LOADED: usize = 112;
+const LOADED: usize = 128;
 
 /// How many it has about where all of it is stepped for an edit. After an anchor all nodes that change are copied once, so these are fewer.
-const STEPPED: usize = 80;
+const STEPPED: usize = 64;
 
 /// An edit of a run that has as many or more makes none. One of another run makes at most as many as are lacking, where the old run has none, and at
 /// each of the 64 places of a batch maybe one beside the old one there: so no run has more than 256.

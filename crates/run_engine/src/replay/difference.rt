@@ -27,7 +27,7 @@ use trace_types::outcomes::Outcome;
 const MOST_KEYS: usize = 16;
 
 /// How many objects are followed at most: of those that are alike only fields are laid.
-const MOST_OBJECTS: usize = 32;
+const MOST_OBJECTS: usize = 40;
 
 /// How many keys of a kind that either run touches are looked up at most.
 const MOST_TOUCHED: usize = 65_536;
@@ -43,9 +43,6 @@ const MOST_SEGMENTS: usize = 1024;
 
 /// How many keys of a stretch, and how many of its outcomes, are tried before all are looked up.
 const FIRST_KEYS: usize = 32;
-
-/// How many stretches are taken over at once at most.
-const MOST_STRETCHES: usize = 256;
 
 /// How many looks in a row may be in vain.
 const MOST_LOOKS: usize = 12;
@@ -67,8 +64,6 @@ pub struct Difference {
     // how many looks were in vain since the last stretch that was taken over, and how many checkpoints and anchors are passed before the next look
     vain: usize,
     wait: usize,
-    // sixteen times how many stretches are taken over at once at most
-    most: usize,
 }
 
 impl Difference {
@@ -82,7 +77,6 @@ impl Difference {
             base: fork.base,
             vain: 0,
             wait: 0,
-            most: 1,
         }
     }
 
@@ -94,12 +88,6 @@ impl Difference {
             None => None,
             Some(keys) => Some(keys),
         }
-    }
-
-    /// How many stretches are to be taken over at once at most: one the first three times, and then each time four times as many. Behind the first ones
-    /// the heaps often agree, and to find where behind many takes as many searches as halve them.
-    pub fn most(&self) -> usize {
-        (self.most / 16).max(1)
     }
 
     /// Whether the keys are known.
@@ -167,7 +155,6 @@ impl Difference {
         self.keys = Some(KeySet::none(alloc));
         self.edited = fork.edited;
         self.base = fork.base;
-        self.most = 1;
     }
 
     // The keys at which the heaps differ where a replay and an old checkpoint or anchor stand, among those that differed before and all that the
@@ -225,7 +212,6 @@ impl Difference {
         self.edited += len;
         self.base += len;
         self.vain = 0;
-        self.most = self.most.saturating_mul(4).min(16 * MOST_STRETCHES);
     }
 
     /// A look was in vain. From the fourth in a row on one checkpoint or anchor is passed before the next look. After too many in a row the keys are
@@ -320,7 +306,7 @@ fn is_told_apart(kept: &Heap, heap: &Heap, key: Key) -> bool {
 }
 
 // All that segments touch joins the keys, from the one at a position on and before the one at an index: in any order, and some more than once.
-// False if one of them doesn't tell, if they are too many, or if none begins there.
+// False if one of them doesn't tell, if much is exchanged in its heaps, if they are too many, or if none begins there.
 fn gather(
     segments: &Segments,
     from: usize,
@@ -338,6 +324,9 @@ fn gather(
     }
     for i in first..index {
         let segment = segments.at(i);
+        if !segment.is_little_exchanged() {
+            return Ok(false);
+        }
         let Some(touched) = segment.keys() else {
             return Ok(false);
         };

@@ -15,7 +15,7 @@ use crate::replay::difference::Difference;
 use crate::replay::progress::{Fork, Progress};
 use crate::replay::revision::Revision;
 use crate::segments::blocks::Segments;
-use agreement::{Meeting, Suspects, Trail, are_told_apart, meet_rooted, refutes};
+use agreement::{Meeting, Suspects, Trail, are_apart, are_told_apart, meet_rooted, refutes};
 use heap_difference::KeySet;
 use object_heap::Heap;
 use std::alloc::{AllocError, Global};
@@ -166,10 +166,7 @@ impl Divergence {
             return Ok(true);
         }
         let mut suspects = Suspects::of(alloc, keys.objects.as_slice())?;
-        match meet_rooted(alloc, new, old, &mut suspects, &mut self.trail)? {
-            Meeting::Apart => Ok(true),
-            Meeting::Same | Meeting::Alike(_) => Ok(false),
-        }
+        are_apart(alloc, new, old, &mut suspects, &mut self.trail)
     }
 
     // Whether the trail leads to where the heaps differ.

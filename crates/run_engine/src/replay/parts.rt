@@ -153,9 +153,7 @@ fn first_under(
     let Some(told) = passed(alloc, &segment, layer, holders)? else {
         return Ok(None);
     };
-    let Some(started) = segment.started(alloc, heap.share()?)? else {
-        return Ok(None);
-    };
+    let started = segment.started(alloc, heap.share()?)?;
     Ok(Some(recounted(alloc, started, told)?))
 }
 

@@ -56,12 +56,11 @@ fn next_untouched(
     if !did_look {
         return Ok(None);
     }
-    let most = difference.most();
     let Some(keys) = difference.keys() else {
         return Ok(None);
     };
     let heap = &progress.prefix.end;
-    let next = untouched_stretches(alloc, revision, heap, old, keys, divergence, most)?;
+    let next = untouched_stretches(alloc, revision, heap, old, keys, divergence)?;
     match &next {
         None => difference.miss(),
         Some(piece) => difference.pass(piece.len),

@@ -119,8 +119,8 @@ impl Replaced {
         let Some(mark) = segment.mark() else {
             return Ok(None);
         };
-        // Else no chunk is made of it, and it may be dear to make its heap.
-        if segment.keys().is_none() {
+        // Else no chunk is made of it, or it is dear to make its heap, and to keep it.
+        if segment.keys().is_none() || !segment.is_little_exchanged() {
             return Ok(None);
         }
         let at = old.at - segment.ops().len();

@@ -38,10 +38,13 @@ use trace_types::sequence::Sequence;
 /// How many keys a layer has at most. Where more would lie over a heap that is kept its operations are stepped again.
 const MOST_LAID: usize = 64;
 
+/// How many stretches are taken over at once at most.
+const MOST_STRETCHES: usize = 256;
+
 /// How many handles are gone over at most to find the place of one in its scope.
 const NEAR: usize = 128;
 
-/// The old stretches, one behind the other and at most so many, that begin at an old checkpoint, to go on with from a heap that differs there at some keys: each
+/// The old stretches, one behind the other, that begin at an old checkpoint, to go on with from a heap that differs there at some keys: each
 /// is one segment, ends at the next checkpoint, and is known to touch none of these keys. A handle that differs is to be found soon in its
 /// scope, and the layer has few keys.
 ///
@@ -54,7 +57,6 @@ pub fn untouched_stretches(
     old: &OldMark,
     keys: &KeySet,
     divergence: &mut Divergence,
-    most: usize,
 ) -> Result<Option<NextStretch>, AllocError>
     requires within { old.now.index < length revision.now.segments.now }
     requires place { length (trace_of (take old.now.index revision.now.segments.now)) ≡ old.now.at }
@@ -77,7 +79,7 @@ pub fn untouched_stretches(
     let Some(layer) = layer_of(alloc, revision, &old.mark, heap, old.index, keys)? else {
         return Ok(None);
     };
-    let mut most = most;
+    let mut most = MOST_STRETCHES;
     while most > 0 {
         let run = stretches_under(alloc, revision, old.index, &layer, most)?;
         let count = run.len();

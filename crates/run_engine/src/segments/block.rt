@@ -8,7 +8,7 @@ ghost use Rattle.run_engine.specs.inner.Exchanged.{exchanged, AreExchangeable};
 
 use crate::segments::bounds::Bounds;
 use crate::segments::given_up::{GivenUp, MOST_SEGMENTS};
-use crate::segments::laid::{both, laid_in, shared};
+use crate::segments::laid::{both, shared};
 use crate::segments::segment::Segment;
 use crate::segments::standing::Standing;
 use crate::segments::walk::{last_in, len_of, place_in};
@@ -157,8 +157,7 @@ impl Block {
     {
         let place = self.from + index;
         let is_given_up = self.given_up.has(place);
-        let laid = laid_in(&self.laid);
-        Standing::new(&self.segments[place], is_given_up, laid)
+        Standing::new(&self.segments[place], is_given_up, &self.laid)
     }
 
     /// The segments from one index on and before another, which are shared.

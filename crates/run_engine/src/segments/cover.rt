@@ -1,5 +1,5 @@
 //! What is laid over the heaps of a segment.
-ghost use Rattle.std.specs.Prelude.{◌≡◌, [], true, IfOk, IfSome, IsTrue};
+ghost use Rattle.std.specs.Prelude.{◌≡◌, ◌++◌, ◌∷◌, [], true, IfOk, IfSome, IsTrue};
 ghost use Rattle.std.specs.Arc.{arc_value};
 ghost use Rattle.std.specs.Option.{option_map};
 ghost use Rattle.ownership_model.specs.declared.key.Key.{Key};
@@ -7,19 +7,21 @@ ghost use Rattle.heap_difference.specs.KeySets.{is_among};
 ghost use Rattle.run_engine.specs.inner.Layered.{with_all, stacked, covering, AreLaid, IsWithin, AreWithin, IsOver};
 
 use crate::segments::layers::Layers;
+use crate::segments::over::Over;
+use agreement::Exchange;
 use heap_difference::{KeySet, Layer};
 use object_heap::Heap;
 use std::alloc::{AllocError, Global};
 use std::marker::Model;
 use std::sync::Arc;
 
-/// Layers that lie over a heap, one over the other. Contracts see the list of them, the lowest first.
+/// Layers that lie over a heap, one over the other, each with what is exchanged below it. Contracts see the list of them, the lowest first.
 ///
 /// The last one stands by itself: so another one in its place takes no memory.
 #[derive(Drop)]
 pub struct Cover {
     lower: Option<Arc<Layers>>,
-    top: Option<Arc<Layer>>,
+    top: Option<Over>,
 }
 
 impl Model for Cover {
@@ -27,14 +29,13 @@ impl Model for Cover {
     ghost use Rattle.std.specs.Coded.{coded_list};
     ghost use Rattle.std.specs.Arc.{arc_value};
     ghost use Rattle.std.specs.Option.{option_map};
-    ghost use Rattle.heap_difference.specs.Layers.{LayerView, layer_code};
-    ghost use Rattle.run_engine.specs.inner.Layered.{covering};
+    ghost use Rattle.run_engine.specs.inner.Layered.{OverView, over_code, covering};
 
-    ghost Value = { List LayerView };
+    ghost Value = { List OverView };
 
-    ghost coded = { coded_list layer_code };
+    ghost coded = { coded_list over_code };
 
-    ghost view = { λ c. covering (option_map arc_value c.lower) (option_map arc_value c.top) };
+    ghost view = { λ c. covering (option_map arc_value c.lower) c.top };
 }
 
 impl Cover {
@@ -58,7 +59,7 @@ impl Cover {
         })
     }
 
-    /// A heap with all of them laid over it. The work is that of their keys.
+    /// A heap with all of them laid over it. The work is that of their keys, and of what is exchanged.
     pub fn laid(&self, alloc: Global, heap: Heap) -> Result<Heap, AllocError>
         requires { AreLaid self.now heap }
         ensures { IfOk result (λ h. h ≡ with_all self.now heap) }
@@ -73,53 +74,63 @@ impl Cover {
         }
     }
 
-    /// These layers with another one over them: in place of all if it lays all that they do, or else of the last one if it lays what that does. None if
-    /// none can go, and they would be too many or have too many keys.
-    pub fn under(&self, alloc: Global, layer: &Arc<Layer>) -> Result<Option<Self>, AllocError>
-        ensures { IfOk result (λ o. IfSome o (IsOver self.now (arc_value layer.now))) }
+    /// These layers with another one over them, below which something is exchanged, if anything is. If nothing is it comes in place of all if it lays all that
+    /// they do, or else of the last one if it lays what that does. None if none can go, and they would be too many or have too many keys.
+    pub fn under(
+        &self,
+        alloc: Global,
+        exchange: &Option<Arc<Exchange>>,
+        layer: &Arc<Layer>,
+    ) -> Result<Option<Self>, AllocError>
+        ensures { IfOk result (λ o. IfSome o (IsOver self.now
+            (option_map arc_value exchange.now) (arc_value layer.now))) }
     {
-        if !is_within(&self.top, layer) {
-            return self.with_top(alloc, layer);
+        let top = Over::of(exchange, layer)?;
+        if exchange.is_some() || !is_within(&self.top, layer) {
+            return self.with_top(alloc, top);
         }
         if are_within(&self.lower, layer) {
             return Ok(Some(Cover {
                 lower: None,
-                top: Some(Arc::try_clone(layer)?),
+                top: Some(top),
             }));
         }
         Ok(Some(Cover {
             lower: shared_layers(&self.lower)?,
-            top: Some(Arc::try_clone(layer)?),
+            top: Some(top),
         }))
     }
 
     // These layers with another one over them, if they aren't too many then.
-    fn with_top(&self, alloc: Global, layer: &Arc<Layer>) -> Result<Option<Self>, AllocError>
-        ensures { IfOk result (λ o. IfSome o (IsOver self.now (arc_value layer.now))) }
+    fn with_top(&self, alloc: Global, layer: Over) -> Result<Option<Self>, AllocError>
+        ensures { IfOk result (λ o. IfSome o (λ c. c ≡ self.now ++ layer ∷ [])) }
     {
-        let Some(lower) = self.lowered(alloc, layer.keys())? else {
+        let Some(lower) = self.lowered(alloc, layer.work())? else {
             return Ok(None);
         };
         Ok(Some(Cover {
-            lower: Some(Arc::new(alloc, lower)?),
-            top: Some(Arc::try_clone(layer)?),
+            lower,
+            top: Some(layer),
         }))
     }
 
-    // All of them as lower ones, if another one with these keys may lie over them.
-    fn lowered(&self, alloc: Global, keys: &KeySet) -> Result<Option<Layers>, AllocError>
-        ensures { IfOk result (λ o. IfSome o (λ l. l ≡ self.now)) }
+    // All of them as lower ones, if another one may lie over them that has so much to lay and to exchange.
+    fn lowered(&self, alloc: Global, work: usize) -> Result<Option<Option<Arc<Layers>>>, AllocError>
+        ensures { IfOk result (λ o. IfSome o (λ l. stacked (option_map arc_value l) ≡ self.now)) }
     {
         let Some(top) = &self.top else {
-            return Ok(None);
+            return Ok(Some(shared_layers(&self.lower)?));
         };
-        let Some(lower) = &self.lower else {
-            return Ok(Some(Layers::of(alloc, top)?));
+        let all = match &self.lower {
+            None => Layers::of(alloc, top)?,
+            Some(lower) => {
+                if !lower.have_room(top, work) {
+                    return Ok(None);
+                }
+                lower.and(alloc, top)?
+            }
         };
-        if !lower.have_room(top, keys) {
-            return Ok(None);
-        }
-        Ok(Some(lower.and(alloc, top)?))
+        Ok(Some(Some(Arc::new(alloc, all)?)))
     }
 
     /// Whether one of them lays an object. It is a hint.
@@ -144,7 +155,7 @@ impl Cover {
         let (Some(lower), Some(top)) = (&self.lower, &self.top) else {
             return keys.joined(alloc, &KeySet::none(alloc));
         };
-        if keys.has_all(top.keys()) || lower.have_room(top, keys) {
+        if keys.has_all(top.keys()) || lower.have_room(top, keys.len()) {
             return keys.joined(alloc, &KeySet::none(alloc));
         }
         let more = keys.joined(alloc, top.keys())?;
@@ -176,26 +187,26 @@ fn shared_layers(layers: &Option<Arc<Layers>>) -> Result<Option<Arc<Layers>>, Al
 }
 
 // The layer once more.
-fn shared_layer(layer: &Option<Arc<Layer>>) -> Result<Option<Arc<Layer>>, AllocError>
-    ensures { IfOk result (λ l. option_map arc_value l ≡ option_map arc_value layer.now) }
+fn shared_layer(layer: &Option<Over>) -> Result<Option<Over>, AllocError>
+    ensures { IfOk result (λ l. l ≡ layer.now) }
 {
     match layer {
         None => Ok(None),
-        Some(layer) => Ok(Some(Arc::try_clone(layer)?)),
+        Some(layer) => Ok(Some(layer.share()?)),
     }
 }
 
-// Whether all that a layer lays, if there is one, is laid by another.
-fn is_within(layer: &Option<Arc<Layer>>, other: &Layer) -> bool
-    ensures { IsTrue result → IsWithin (option_map arc_value layer.now) other.now }
+// Whether all that a layer lays, if there is one, is laid by another, and nothing is exchanged below it.
+fn is_within(layer: &Option<Over>, other: &Layer) -> bool
+    ensures { IsTrue result → IsWithin layer.now other.now }
 {
     match layer {
         None => true,
-        Some(layer) => other.covers(layer),
+        Some(layer) => layer.is_within(other),
     }
 }
 
-// Whether all that the layers lay, if there are any, is laid by another.
+// Whether all that the layers lay, if there are any, is laid by another, and nothing is exchanged below one of them.
 fn are_within(layers: &Option<Arc<Layers>>, layer: &Layer) -> bool
     ensures { IsTrue result → AreWithin (stacked (option_map arc_value layers.now)) layer.now }
 {

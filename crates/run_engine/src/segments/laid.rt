@@ -2,19 +2,46 @@
 ghost use Rattle.std.specs.Prelude.{◌≡◌, IfOk};
 ghost use Rattle.std.specs.Arc.{arc_value};
 ghost use Rattle.std.specs.Option.{option_copied, option_map};
+ghost use Rattle.agreement.specs.Laid.{with_laid, IsSoundWith};
 ghost use Rattle.run_engine.specs.inner.Blocks.{IsBoth};
 
 use agreement::{Exchange, Remains};
+use object_heap::Heap;
 use std::alloc::{AllocError, Global};
 use std::sync::Arc;
 
-/// What is laid over a block, where it stands.
+/// What is exchanged, where it stands.
 pub fn laid_in(laid: &Option<Arc<Exchange>>) -> Option<&Exchange>
     ensures { option_copied result ≡ option_map arc_value laid.now }
 {
     match laid {
         None => None,
         Some(exchange) => Some(exchange),
+    }
+}
+
+/// How many objects go and come where something is exchanged: so much is done each time it is made.
+pub fn exchanged(laid: &Option<Arc<Exchange>>) -> usize {
+    match laid {
+        None => 0,
+        Some(exchange) => {
+            let len = exchange
+                .removed()
+                .len()
+                .saturating_add(exchange.added().len());
+            len as usize
+        }
+    }
+}
+
+/// A heap with the exchange made in it, if there is one.
+pub fn made_in(alloc: Global, laid: Option<&Exchange>, heap: Heap) -> Result<Heap, AllocError>
+    requires { IsSoundWith (option_copied laid) heap }
+    ensures { IfOk result (λ h. h ≡ with_laid (option_copied laid.entry) heap) }
+{
+    match laid {
+        None => Ok(heap),
+        Some(exchange) => exchange.made_in(alloc, heap),
     }
 }
 

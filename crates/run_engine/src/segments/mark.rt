@@ -4,6 +4,7 @@ ghost use Rattle.std.specs.Option.{option_copied};
 ghost use Rattle.agreement.specs.Laid.{with_laid, IsSoundWith};
 
 use crate::segments::kept::Kept;
+use crate::segments::laid::made_in;
 use agreement::Exchange;
 use object_heap::Heap;
 use std::alloc::{AllocError, Global};
@@ -45,9 +46,6 @@ impl<'a> Mark<'a> {
         ensures { IfOk result (λ h. h ≡ self.now) }
     {
         let heap = self.kept.heap(alloc)?;
-        match self.laid {
-            None => Ok(heap),
-            Some(exchange) => exchange.made_in(alloc, heap),
-        }
+        made_in(alloc, self.laid, heap)
     }
 }

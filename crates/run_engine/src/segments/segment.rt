@@ -1,5 +1,5 @@
 //! A segment of a run.
-ghost use Rattle.std.specs.Prelude.{◌≡◌, false, IfOk, IfSome, IsTrue, None, Some, is_some, flat_map, if◌then◌else◌};
+ghost use Rattle.std.specs.Prelude.{◌≡◌, [], ◌∷◌, false, IfOk, IfSome, IsTrue, None, Some, is_some, flat_map, if◌then◌else◌};
 ghost use Rattle.std.specs.Arc.{arc_value};
 ghost use Rattle.std.specs.Option.{option_map, option_copied};
 ghost use Rattle.trace_types.specs.Trace.{place_of};
@@ -8,6 +8,7 @@ ghost use Rattle.ownership_model.specs.Step.{outcomes_from};
 ghost use Rattle.heap_difference.specs.Naming.{outcome_keys};
 ghost use Rattle.op_step.specs.Chunk.{IsReplayOf};
 ghost use Rattle.run_engine.specs.Segments.{AreKeysFrom};
+ghost use Rattle.run_engine.specs.inner.Blocks.{laid_over, AreSoundBelow};
 ghost use Rattle.run_engine.specs.inner.Layered.{standing_at, started_at, CanStand, MayStand};
 ghost use Rattle.run_engine.specs.inner.Parts.{AreBetween};
 ghost use Rattle.run_engine.specs.inner.Cleared.{last_name};
@@ -16,6 +17,7 @@ ghost use Rattle.run_engine.specs.inner.Touching.{shared_keys, IsFiltered};
 use crate::segments::bounds::{Bounds, bounds_of};
 use crate::segments::cover::Cover;
 use crate::segments::kept::Kept;
+use agreement::Exchange;
 use heap_difference::{Filter, Layer};
 use object_heap::Heap;
 use op_step::{ChunkRun, Replayed};
@@ -188,17 +190,25 @@ impl Segment {
         })
     }
 
-    /// The same operations and outcomes where they begin with the heap that a layer makes of their own one: all
-    /// is shared, and no heap is made. Where no heap is kept it is the same segment. None if too much is laid over it already.
-    pub fn under(&self, alloc: Global, layer: &Arc<Layer>) -> Result<Option<Self>, AllocError>
-        requires { MayStand (arc_value layer.now) self.now }
+    /// The same operations and outcomes where they begin with the heap that a layer makes of their own one, in which something is exchanged first, if
+    /// anything is: all is shared, and no heap is made. Where no heap is kept it is the same segment. None if too much is laid over it already.
+    pub fn under(
+        &self,
+        alloc: Global,
+        exchange: &Option<Arc<Exchange>>,
+        layer: &Arc<Layer>,
+    ) -> Result<Option<Self>, AllocError>
+        requires sound { AreSoundBelow (option_map arc_value exchange.now) (self.now ∷ []) }
+        requires may { MayStand (arc_value layer.now)
+            (laid_over (option_map arc_value exchange.now) self.now) }
         ensures { IfOk result (λ o. IfSome o (λ s. (new : State) →
-            CanStand (arc_value layer.now) self.now new → s ≡ standing_at new self.now)) }
+            CanStand (arc_value layer.now) (laid_over (option_map arc_value exchange.now) self.now) new →
+            s ≡ standing_at new (laid_over (option_map arc_value exchange.now) self.now))) }
     {
         if !self.has_heap() {
             return Ok(Some(self.share()?));
         }
-        let Some(cover) = self.cover.under(alloc, layer)? else {
+        let Some(cover) = self.cover.under(alloc, exchange, layer)? else {
             return Ok(None);
         };
         Ok(Some(Segment {

@@ -1,7 +1,7 @@
 //! A segment as it stands in a run.
 ghost use Rattle.std.specs.Prelude.{◌≡◌, length, is_some, [], ◌∷◌, IfOk, IfSome};
 ghost use Rattle.std.specs.Arc.{arc_value};
-ghost use Rattle.std.specs.Option.{option_copied};
+ghost use Rattle.std.specs.Option.{option_copied, option_map};
 ghost use Rattle.ownership_model.specs.State.{State};
 ghost use Rattle.op_step.specs.Chunk.{IsReplayOf};
 ghost use Rattle.run_engine.specs.Segments.{AreKeysFrom};
@@ -11,6 +11,7 @@ ghost use Rattle.run_engine.specs.inner.Blocks.{laid_over, AreSoundBelow};
 ghost use Rattle.run_engine.specs.inner.Layered.{standing_at, started_at, CanStand, MayStand};
 
 use crate::segments::cover::Cover;
+use crate::segments::laid::{exchanged, laid_in};
 use crate::segments::mark::Mark;
 use crate::segments::segment::Segment;
 use agreement::Exchange;
@@ -25,18 +26,22 @@ use trace_types::ops::Op;
 use trace_types::outcomes::Outcome;
 use trace_types::stretches::Stretch;
 
+/// How many objects at most go and come in the heaps of a segment that is taken over or remembered: they are put into each such heap anew.
+const MOST_EXCHANGED: usize = 32;
+
 /// A segment as it stands in a run: its checkpoint may be given up there, and something may be laid over it. Contracts see the segment
 /// that is meant.
 #[derive(Drop)]
 pub struct Standing<'a> {
     segment: &'a Segment,
     is_given_up: bool,
-    laid: Option<&'a Exchange>,
+    laid: &'a Option<Arc<Exchange>>,
 }
 
 impl<'a> Model for Standing<'a> {
     ghost use Rattle.std.specs.Prelude.{[], ◌∷◌};
-    ghost use Rattle.std.specs.Option.{option_copied};
+    ghost use Rattle.std.specs.Arc.{arc_value};
+    ghost use Rattle.std.specs.Option.{option_map};
     ghost use Rattle.run_engine.specs.SegmentView.{SegmentView, segment_code};
     ghost use Rattle.run_engine.specs.inner.Cleared.{cleared_if};
     ghost use Rattle.run_engine.specs.inner.Blocks.{laid_over, AreSoundBelow};
@@ -45,18 +50,19 @@ impl<'a> Model for Standing<'a> {
 
     ghost coded = { segment_code };
 
-    ghost view = { λ s. laid_over (option_copied s.laid) (cleared_if s.is_given_up s.segment.now) };
+    ghost view = { λ s. laid_over (option_map arc_value s.laid.now) (cleared_if s.is_given_up s.segment.now) };
 
     ghost invariant = { λ s.
-        AreSoundBelow (option_copied s.laid) (cleared_if s.is_given_up s.segment.now ∷ []) };
+        AreSoundBelow (option_map arc_value s.laid.now) (cleared_if s.is_given_up s.segment.now ∷ []) };
 }
 
 impl<'a> Standing<'a> {
     /// A segment, without its checkpoint if that is given up, under what is laid over it.
-    pub fn new(segment: &'a Segment, is_given_up: bool, laid: Option<&'a Exchange>) -> Self
-        requires { AreSoundBelow (option_copied laid) (cleared_if is_given_up segment.now ∷ []) }
-        ensures { result
-            ≡ laid_over (option_copied laid.entry) (cleared_if is_given_up segment.entry.now) }
+    pub fn new(segment: &'a Segment, is_given_up: bool, laid: &'a Option<Arc<Exchange>>) -> Self
+        requires { AreSoundBelow (option_map arc_value laid.now)
+            (cleared_if is_given_up segment.now ∷ []) }
+        ensures { result ≡ laid_over (option_map arc_value laid.entry.now)
+            (cleared_if is_given_up segment.entry.now) }
     {
         Standing {
             segment,
@@ -105,15 +111,12 @@ impl<'a> Standing<'a> {
         }
     }
 
-    /// The keys that were told of the operations, if they are known: where something is exchanged in its heaps, they aren't. With what the operations
-    /// and their outcomes name they are all that the operations touch, move or copy in the run. They come in any order, and perhaps more than once.
+    /// The keys that were told of the operations, if they are known. With what the operations and their outcomes name they are all that the operations
+    /// touch, move or copy in the run. They come in any order, and perhaps more than once.
     pub fn keys(&self) -> Option<&'a [Key]>
         ensures { option_copied result ≡ self.now.keys }
     {
-        match self.laid {
-            None => self.segment.keys(),
-            Some(_) => None,
-        }
+        self.segment.keys()
     }
 
     /// What the operations touch, move or copy, as bits, if that is kept. Where its keys aren't known it says nothing.
@@ -125,31 +128,28 @@ impl<'a> Standing<'a> {
     }
 
     /// The same operations and outcomes where they begin with another heap, which is kept as their checkpoint, and as their anchor if they have
-    /// one. None if something is exchanged in their heaps.
-    pub fn started(&self, alloc: Global, heap: Heap) -> Result<Option<Segment>, AllocError>
-        ensures { IfOk result (λ o. IfSome o (λ s. s ≡ started_at heap self.now)) }
+    /// one.
+    pub fn started(&self, alloc: Global, heap: Heap) -> Result<Segment, AllocError>
+        ensures { IfOk result (λ s. s ≡ started_at heap self.now) }
     {
-        match self.laid {
-            None => Ok(Some(self.segment.started(alloc, heap)?)),
-            Some(_) => Ok(None),
-        }
+        self.segment.started(alloc, heap)
     }
 
     /// The same operations and outcomes where they begin with the heap that a layer makes of their own one: all
-    /// is shared, and no heap is made. None if too much is laid over it, or something is exchanged.
+    /// is shared, and no heap is made. None if too much is laid over it, or exchanged.
     pub fn under(&self, alloc: Global, layer: &Arc<Layer>) -> Result<Option<Segment>, AllocError>
         requires { MayStand (arc_value layer.now) self.now }
         ensures { IfOk result (λ o. IfSome o (λ s. (new : State) →
             CanStand (arc_value layer.now) self.now new → s ≡ standing_at new self.now)) }
     {
-        if self.laid.is_some() {
+        if !self.is_little_exchanged() {
             return Ok(None);
         }
         if self.is_given_up {
             let bare = self.segment.without_mark()?;
-            return bare.under(alloc, layer);
+            return bare.under(alloc, self.laid, layer);
         }
-        self.segment.under(alloc, layer)
+        self.segment.under(alloc, self.laid, layer)
     }
 
     /// Its operations with their outcomes as a chunk, from the heap where they begin to the one behind them: all is shared. None if it isn't known what
@@ -160,10 +160,12 @@ impl<'a> Standing<'a> {
         ensures { IfOk result
             (λ o. IfSome o (λ c. c ≡ record { start = start; ops = self.now.ops })) }
     {
-        match self.laid {
-            None => self.segment.chunk(start, end),
-            Some(_) => Ok(None),
-        }
+        self.segment.chunk(start, end)
+    }
+
+    /// Whether few objects are exchanged in its heaps, or none. It is a hint.
+    pub fn is_little_exchanged(&self) -> bool {
+        exchanged(self.laid) <= MOST_EXCHANGED
     }
 
     /// What is laid over its checkpoint and its anchor. It is a hint.
@@ -191,7 +193,7 @@ impl<'a> Standing<'a> {
             return None;
         }
         let kept = self.segment.mark()?;
-        Some(Mark::new(kept, self.laid))
+        Some(Mark::new(kept, laid_in(self.laid)))
     }
 
     /// Whether there is an anchor where it begins.
@@ -206,6 +208,6 @@ impl<'a> Standing<'a> {
         ensures { result ≡ self.now.anchor }
     {
         let kept = self.segment.anchor()?;
-        Some(Mark::new(kept, self.laid))
+        Some(Mark::new(kept, laid_in(self.laid)))
     }
 }
