@@ -7,7 +7,7 @@ use std::alloc::Global;
 use std::process::Abort;
 use std::test::Fail;
 use trace_types::edits::Edit;
-use trace_types::kinds::Kind;
+use trace_types::kinds::{Field, Kind};
 use trace_types::trace::Trace;
 
 // So many operations are stepped for an edit, and the run is its replay.
@@ -67,4 +67,42 @@ fn what_differs_is_touched_behind_an_exchange(rt: HostRuntime) -> Result<(), Fai
     let alloc = rt.alloc();
     let mut run = run_of(alloc, asked_behind(alloc)?)?;
     assert_asked_behind(&rt, alloc, &mut run)
+}
+
+// Forty-one objects, each held by the next one, of which the last holds itself too: all leak. Pairs of operations follow.
+fn much_leaks(alloc: Global) -> Result<Trace, Fail> {
+    let mut trace = Trace::new(alloc);
+    add(&mut trace, 1, new(alloc, 100, &[])?)?;
+    for n in 0..39u32 {
+        add(
+            &mut trace,
+            n + 2,
+            new(alloc, n + 101, &[Field::Held(n + 100)])?,
+        )?;
+    }
+    add(
+        &mut trace,
+        41,
+        new(alloc, 0, &[Field::Null, Field::Held(139)])?,
+    )?;
+    add(&mut trace, 42, Kind::Clone { from: 0, to: 1 })?;
+    add(&mut trace, 43, set(0, 1))?;
+    add(&mut trace, 44, Kind::Drop { h: 0 })?;
+    add_pairs(alloc, &mut trace, 45, 1_044)?;
+    Ok(trace)
+}
+
+// The last one doesn't hold itself any more, and all go: more is exchanged than is put into heaps again and again. So an edit behind that steps all.
+fn assert_much_is_exchanged(rt: &impl Abort, alloc: Global, run: &mut Run) -> Result<(), Fail> {
+    let mended = change(43, Kind::Drop { h: 1 })?;
+    assert_edit(rt, alloc, run, mended, 64)?;
+    let handle = insertion(44, 5_000, Kind::Null { to: 30 })?;
+    assert_edit(rt, alloc, run, handle, 1_045)
+}
+
+#[test]
+fn all_is_stepped_where_much_is_exchanged(rt: HostRuntime) -> Result<(), Fail> {
+    let alloc = rt.alloc();
+    let mut run = run_of(alloc, much_leaks(alloc)?)?;
+    assert_much_is_exchanged(&rt, alloc, &mut run)
 }
