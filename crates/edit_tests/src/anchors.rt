@@ -52,7 +52,7 @@ fn is_near(
 ) -> Result<bool, Fail> {
     let behind = to_next(alloc, run, place)?;
     let steps = step_over(alloc, run, edits, shelf)?;
-    Ok(steps <= behind.saturating_add(6_500))
+    Ok(steps <= behind.saturating_add(2_200))
 }
 
 // One operation more behind each place.
@@ -122,13 +122,22 @@ fn anchors_under_remains(rt: HostRuntime) -> Result<(), Fail> {
     })
 }
 
-// Twenty handles more between two operations: more keys than are followed.
-fn many_held(alloc: Global, from: u32, to: u32) -> Result<Batch, Fail> {
-    let mut edits = batch(alloc, insertion(from, 310_000, Kind::Null { to: 40 })?)?;
-    edits.push(insertion(to, 320_000, Kind::Drop { h: 40 })?)?;
+/// Twenty handles more between two operations: more keys than are followed.
+pub fn many_held(alloc: Global, from: u32, to: u32) -> Result<Batch, Fail> {
+    held_from(alloc, 40, from, to)
+}
+
+// Twenty handles more between two operations, from one number on.
+fn held_from(alloc: Global, first: u32, from: u32, to: u32) -> Result<Batch, Fail>
+    requires { first < 1_000 }
+{
+    let made = 310_000 + 1_000 * first;
+    let dropped = 3_100_000 + 1_000 * first;
+    let mut edits = batch(alloc, insertion(from, made, Kind::Null { to: first })?)?;
+    edits.push(insertion(to, dropped, Kind::Drop { h: first })?)?;
     for k in 1..20u32 {
-        edits.push(insertion(from, 310_000 + k, Kind::Null { to: 40 + k })?)?;
-        edits.push(insertion(to, 320_000 + k, Kind::Drop { h: 40 + k })?)?;
+        edits.push(insertion(from, made + k, Kind::Null { to: first + k })?)?;
+        edits.push(insertion(to, dropped + k, Kind::Drop { h: first + k })?)?;
     }
     Ok(edits)
 }
@@ -164,6 +173,36 @@ fn anchors_stay_where_stretches_are_taken_over(rt: HostRuntime) -> Result<(), Fa
     })
 }
 
+// Edits that step nearly all of a long run twice: in place of the anchors that they step over they make others, from which edits go on as before.
+fn assert_made_anew(
+    rt: &impl Abort,
+    alloc: Global,
+    run: &mut Run,
+    shelf: &mut MarkShelf,
+) -> Result<(), Fail> {
+    for turn in 0..2u32 {
+        let first = held_from(alloc, 40 + 20 * turn, 10, 199_000)?;
+        let steps = step_over(alloc, run, &first, shelf)?;
+        assert!(rt; steps > 190_000);
+        for place in [40_000u32, 100_000] {
+            let kind = Kind::Counts { h: 0 };
+            let edits = batch(alloc, insertion(place, 300_000 + place + turn, kind)?)?;
+            assert!(rt; is_near(alloc, run, shelf, &edits, place as usize)?);
+        }
+    }
+    assert!(rt; is_replay(alloc, run)?);
+    Ok(())
+}
+
+#[test]
+fn anchors_are_made_anew_where_all_is_stepped(rt: HostRuntime) -> Result<(), Fail> {
+    let alloc = rt.alloc();
+    let trace = with_pairs(alloc, 200_000)?;
+    with_loaded(alloc, &trace, |run, shelf| {
+        assert_made_anew(&rt, alloc, run, shelf)
+    })
+}
+
 // A long trace as it is loaded, with an edit: at most so many operations are stepped, and the edited run is its replay.
 fn assert_passed(
     rt: &impl Abort,
@@ -187,7 +226,7 @@ fn parts_without_checkpoints_are_taken_over(rt: HostRuntime) -> Result<(), Fail>
     let alloc = rt.alloc();
     let trace = with_pairs(alloc, 200_000)?;
     let edits = batch(alloc, insertion(4, 300_000, Kind::Null { to: 30 })?)?;
-    assert_passed(&rt, alloc, &trace, &edits, 2_000)
+    assert_passed(&rt, alloc, &trace, &edits, 1_200)
 }
 
 // The first object gets a holder more. One operation in the middle asks for its counts: from the anchor before it to the one behind it all is
@@ -202,7 +241,7 @@ fn part_that_asks_is_stepped(rt: HostRuntime) -> Result<(), Fail> {
         alloc,
         insertion(4, 300_000, Kind::Clone { from: 0, to: 30 })?,
     )?;
-    assert_passed(&rt, alloc, &trace, &edits, 5_600)
+    assert_passed(&rt, alloc, &trace, &edits, 2_400)
 }
 
 // Nothing differs behind the operation that is inserted: what lies between the anchors around it is stepped, and nothing behind.
@@ -211,7 +250,7 @@ fn part_behind_an_edit_that_changes_nothing(rt: HostRuntime) -> Result<(), Fail>
     let alloc = rt.alloc();
     let trace = with_pairs(alloc, 200_000)?;
     let edits = batch(alloc, insertion(70_000, 300_000, Kind::Counts { h: 0 })?)?;
-    assert_passed(&rt, alloc, &trace, &edits, 3_700)
+    assert_passed(&rt, alloc, &trace, &edits, 1_200)
 }
 
 // Eight handles that stay are made at four places in turn, and then four of them are dropped again: what was taken over comes under other layers.
@@ -229,7 +268,7 @@ fn assert_layered(
             Kind::Drop { h: 22 + turn }
         };
         let edits = batch(alloc, insertion(after, 300_000 + turn, kind)?)?;
-        assert!(rt; step_over(alloc, run, &edits, shelf)? <= 2_000);
+        assert!(rt; step_over(alloc, run, &edits, shelf)? <= 1_200);
         assert!(rt; is_replay(alloc, run)?);
     }
     Ok(())

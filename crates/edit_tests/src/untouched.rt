@@ -1,4 +1,5 @@
 //! A difference that lasts to the end: what doesn't touch it is taken over, and what touches it is stepped.
+use crate::anchors::many_held;
 use crate::small_runs::{counts, did, is_replay, tells, with_both, with_edited};
 use crate::small_traces::{add, add_of, add_pairs, batch, change, insertion, new, op_of, two};
 use run_engine::Run;
@@ -232,6 +233,15 @@ fn stretches_are_taken_over_after_looks_in_vain(rt: HostRuntime) -> Result<(), F
 fn all_is_stepped_after_many_looks_in_vain(rt: HostRuntime) -> Result<(), Fail> {
     let alloc = rt.alloc();
     assert_asked(&rt, alloc, 64, 2_048, 4_097)
+}
+
+// Twenty handles more are held for 300 operations, and one to the end. Where so many differ looks are in vain; behind that all is taken over.
+#[test]
+fn fewer_differ_again(rt: HostRuntime) -> Result<(), Fail> {
+    let alloc = rt.alloc();
+    let mut edits = many_held(alloc, 10, 310)?;
+    edits.push(insertion(10, 5_000, Kind::Null { to: 30 })?)?;
+    assert_stepped(&rt, alloc, Kind::Counts { h: 0 }, edits, 361)
 }
 
 // In each stretch one operation asks for the first object's counts by the handle just under one that is more. So many operations are stepped if

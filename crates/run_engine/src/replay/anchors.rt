@@ -7,15 +7,23 @@ use object_heap::Heap;
 /// A run of at most so many operations has none: a desk has room for a checkpoint at each of its cuts.
 const SHORT: usize = 65_536;
 
-/// How many anchors a run has about, where it is loaded.
+/// How many anchors a run has at most where it is loaded, or where all of it is stepped for an edit.
+const SPREAD: usize = 256;
+
+/// How many it has about where it is loaded, and how far apart they are at least where there are more.
 const LOADED: usize = 128;
 
-/// How many it has about where all of it is stepped for an edit. After an anchor all nodes that change are copied once, so these are fewer.
+const LOADED_APART: usize = 1_024;
+
+/// The same where it is stepped for an edit. After an anchor all nodes that change are copied once, so these are fewer.
 const STEPPED: usize = 64;
 
-/// An edit of a run that has as many or more makes none. One of another run makes at most as many as are lacking, where the old run has none, and at
-/// each of the 64 places of a batch maybe one beside the old one there: so no run has more than 256.
-const MOST: usize = 192;
+const STEPPED_APART: usize = 2_048;
+
+/// An edit makes at most as many as are lacking of so many, where the old run has none: twice as many as a run has at most as it is loaded, since it
+/// isn't known yet which of the old ones stay. At each of the 64 places of a batch it makes maybe one beside the old one there: so no run has
+/// more than 576.
+const MOST: usize = 512;
 
 /// From which position on an anchor is due, how far behind one the next is, and how many may be made yet where the old run has none.
 #[derive(Clone, Copy, Debug, PartialEq, Eq)]
@@ -30,7 +38,7 @@ pub struct Anchoring {
 impl Anchoring {
     /// Of a run of so many operations that is loaded. It begins at a checkpoint.
     pub fn loaded(len: usize) -> Self {
-        let apart = apart_of(len, LOADED);
+        let apart = apart_of(len, LOADED, LOADED_APART);
         Anchoring {
             due: apart,
             apart,
@@ -45,7 +53,7 @@ impl Anchoring {
         let apart = if left == 0 {
             usize::MAX
         } else {
-            apart_of(len, STEPPED)
+            apart_of(len, STEPPED, STEPPED_APART)
         };
         let anchoring = Anchoring {
             due: at.saturating_add(apart),
@@ -106,12 +114,12 @@ impl Anchoring {
     }
 }
 
-// How far so many anchors are apart, spread over a run of so many operations.
-fn apart_of(len: usize, anchors: usize) -> usize
-    requires { 0 < anchors }
+// How far anchors are apart, spread over a run of so many operations: there are about so many, or more that are so far apart.
+fn apart_of(len: usize, about: usize, apart: usize) -> usize
+    requires { 0 < about }
 {
     if len <= SHORT {
         return usize::MAX;
     }
-    len / anchors
+    (len / SPREAD).max(apart).min(len / about)
 }

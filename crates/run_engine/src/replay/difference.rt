@@ -27,7 +27,10 @@ use trace_types::outcomes::Outcome;
 const MOST_KEYS: usize = 16;
 
 /// How many objects are followed at most: of those that are alike only fields are laid.
-const MOST_OBJECTS: usize = 40;
+const MOST_OBJECTS: usize = 60;
+
+/// How many keys of a kind may differ where a look is in vain, and not the last one.
+const MOST_FOUND: usize = 1_024;
 
 /// How many keys of a kind that either run touches are looked up at most.
 const MOST_TOUCHED: usize = 65_536;
@@ -44,7 +47,7 @@ const MOST_SEGMENTS: usize = 1024;
 /// How many keys of a stretch, and how many of its outcomes, are tried before all are looked up.
 const FIRST_KEYS: usize = 32;
 
-/// How many looks in a row may be in vain.
+/// How many looks in a row may be in vain. One where more keys differ than are followed counts as four.
 const MOST_LOOKS: usize = 12;
 
 /// How many operations of a stretch are tried before all are looked up.
@@ -95,11 +98,12 @@ impl Difference {
         self.keys.is_some()
     }
 
-    /// Looks for the keys at which the heaps differ where a replay and an old checkpoint or anchor stand, and tells whether it did: while stretches
+    /// Looks for the keys at which the heaps differ where a replay and an old checkpoint or anchor stand, and tells whether they may be followed: while stretches
     /// touch what differs, it does so more and more seldom. Where the next stretch soon touches what differs, that look is in vain, too.
     ///
     /// They are looked for among those that differed where it looked last, and all that the segments since then touch. From where on a
-    /// segment doesn't tell what it touches, or there are too many, they aren't known, and there is no look until both have one heap again.
+    /// segment doesn't tell what it touches, or too much is touched or differs, they aren't known, and there is no look until both have one heap again.
+    /// Where somewhat more differ than are followed the look is in vain: further on they may be fewer.
     pub fn look(
         &mut self,
         alloc: Global,
@@ -128,7 +132,7 @@ impl Difference {
             return Ok(false);
         }
         if self.edited == progress.prefix.len && self.base == old.at {
-            return Ok(true);
+            return Ok(!are_too_many(&self.keys));
         }
         self.begin_anew(alloc, progress.fork);
         if self.keys.is_none() {
@@ -141,6 +145,10 @@ impl Difference {
         self.keys = self.keys_at(alloc, revision, progress, old)?;
         self.edited = progress.prefix.len;
         self.base = old.at;
+        if are_too_many(&self.keys) {
+            self.miss_by_far();
+            return Ok(false);
+        }
         Ok(true)
     }
 
@@ -195,7 +203,7 @@ impl Difference {
             return Ok(None);
         }
         let keys = found(alloc, &old.mark, &progress.prefix.end, &all)?;
-        if keys.objects.len() > MOST_OBJECTS || are_more_places(&keys, MOST_KEYS) {
+        if are_more(&keys, MOST_FOUND) {
             return Ok(None);
         }
         Ok(Some(keys))
@@ -224,6 +232,14 @@ impl Difference {
         if self.vain >= MOST_LOOKS {
             self.keys = None;
         }
+    }
+
+    // A look was in vain where too many keys differ: it counts as four.
+    fn miss_by_far(&mut self)
+        ensures { (r : Revision) → AreDiffering r self.old → AreDiffering r self.new }
+    {
+        self.vain = self.vain.saturating_add(3);
+        self.miss();
     }
 }
 
@@ -381,7 +397,15 @@ fn are_more(keys: &KeySet, most: usize) -> bool
         || keys.labels.len() > most
 }
 
-// Whether there are more handles, cells or labels than so many.
-fn are_more_places(keys: &KeySet, most: usize) -> bool {
-    keys.handles.len() > most || keys.cells.len() > most || keys.labels.len() > most
+// Whether more keys differ than are followed.
+fn are_too_many(keys: &Option<KeySet>) -> bool {
+    match keys {
+        None => false,
+        Some(keys) => {
+            keys.handles.len() > MOST_KEYS
+                || keys.cells.len() > MOST_KEYS
+                || keys.objects.len() > MOST_OBJECTS
+                || keys.labels.len() > MOST_KEYS
+        }
+    }
 }
